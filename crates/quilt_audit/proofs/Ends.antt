@@ -4,6 +4,7 @@ use Rattle.std.proofs.Common.{List, [], ◌∷◌, length, Option, Some, None, r
 use Rattle.std.specs.List.{list_all, slice_get}
 use Rattle.std.specs.Ordering.{is_lt}
 use Rattle.std.proofs.lemmas.List.{length-map}
+use Rattle.std.proofs.lemmas.Bool.{and_from}
 use Rattle.quilt_record.specs.declared.key.Key.{Key}
 use Rattle.quilt_record.specs.declared.record.Record.{Record}
 use Rattle.quilt_record.specs.Records.{key_cmp}
@@ -79,10 +80,6 @@ leaf_ends bytes low high n first last is some many f g =
     let long : length (keys_of rs) ≡ length rs = length-map rs (λ (r : Record). r.key) in
     ends_tell low high (keys_of rs) first.key last.key (n - 1) ascends (key_of_record rs 0 first f) (key_of_record rs (n - 1) last g) (omega arith)
 
-both_true : (a b : Bool) → a ≡ true → b ≡ true → (a && b) ≡ true
-both_true true b e f = f
-both_true false b e f = cc
-
 not_both : (a b : Bool) → (a ≡ true → b ≡ false) → (a && b) ≡ false
 not_both true b f = f refl
 not_both false b f = refl
@@ -92,7 +89,7 @@ pub leaf_kept : (bytes : List ℕ) (is_root : Bool) (b : Bounds) (page : ℕ) (v
     → (is_root || nat_le 72 (length (records_of bytes))) ≡ true → are_within b (keys_of (records_of bytes)) ≡ true
     → leaf_walk is_root b page visited (leaf_of bytes) ≡ Whole (records_of bytes) (page ∷ visited)
 leaf_kept bytes is_root b page visited is enough within =
-    ap (leaf_walk is_root b page visited) (leaf_stands bytes is) ∙ if_true _ _ _ (both_true _ _ enough within)
+    ap (leaf_walk is_root b page visited) (leaf_stands bytes is) ∙ if_true _ _ _ (and_from _ _ enough within)
 
 -- and stops elsewhere
 pub leaf_left : (bytes : List ℕ) (is_root : Bool) (b : Bounds) (page : ℕ) (visited : List ℕ) → is_some (leaf_of bytes) ≡ true

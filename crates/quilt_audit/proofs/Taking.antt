@@ -1,9 +1,8 @@
 -- What the steps of the checker do and find, over the numbers that it keeps.
-use Rattle.std.proofs.Common.{◌≡◌, ℕ, ◌+◌, ◌-◌, ◌<◌, ◌≤◌, ◌⊎◌, Bool, true, false, not, List, [], ◌∷◌, ◌++◌, length, Option, Some, None, Result, Ok, Err, refl}
+use Rattle.std.proofs.Common.{◌≡◌, ℕ, ◌+◌, ◌-◌, ◌<◌, ◌≤◌, ◌⊎◌, Bool, true, false, List, [], ◌∷◌, ◌++◌, length, Option, Some, None}
 use Rattle.std.proofs.Common.{sym, ◌∙◌, ap, subst, ⊎_elim, arith, Contains, append_assoc, length-append}
-use Rattle.std.specs.Prelude.{IfOk}
 use Rattle.std.specs.Bool.{OnTrue, OnFalse}
-use Rattle.std.proofs.lemmas.Bool.{cases_Bool, cases_lt}
+use Rattle.std.proofs.lemmas.Bool.{cases_Bool, cases_lt, OnTrue_at, OnFalse_at}
 use Rattle.std.proofs.lemmas.List.{append-nil}
 use Rattle.quilt_types.specs.declared.plane.Kind.{Kind}
 use Rattle.quilt_types.specs.Layers.{Map}
@@ -52,14 +51,6 @@ entry_read form last layer es r o none one w = let clash : None ≡ Some w.entry
 pub entry_same : (form last layer : ℕ) (es : List Entry) (r : Record) (o : Option Entry) (e : Entry) → o ≡ Some e
     → ((d : Entry) → IsEntryOf form r d → o ≡ Some d) → (w : NextEntry form es last layer r) → w.entry ≡ e
 entry_same form last layer es r o e is one w = let same : Some w.entry ≡ Some e = sym (one w.entry w.is) ∙ is in cc
-
-pub not_true : (b : Bool) → not b ≡ true → b ≡ false
-not_true true h = cc
-not_true false h = refl
-
-pub not_false : (b : Bool) → not b ≡ false → b ≡ true
-not_false true h = refl
-not_false false h = cc
 
 -- the next number of the catalog is that of the layer that comes
 pub next_reached : (n : ℕ) (entries es : List Entry) (layer : ℕ) (run : Run) (number next : ℕ) → entries ≡ es → layer < number → layer < next
@@ -136,26 +127,6 @@ module _ (form n form' n' layer k : ℕ) (same_form : form' ≡ form) (same_leve
 pub may_from : (form : ℕ) (c : Checker) (r : Record) (e : Entry) (w : NextEntry form c.catalog c.last c.layer r) → w.entry ≡ e → MayList c e
 may_from form c r e w same = subst (MayList c) same (record { first = w.first; above = w.above; fresh = w.fresh })
 
-pub from_true : (b : Bool) (P : Type 0) → b ≡ true → OnTrue b P → P
-from_true true P e h = h
-from_true false P e h = cc
-
-pub from_false : (b : Bool) (P : Type 0) → b ≡ false → OnFalse b P → P
-from_false true P e h = cc
-from_false false P e h = h
-
-pub on_true : (b : Bool) (P : Type 0) → (b ≡ true → P) → OnTrue b P
-on_true true P f = f refl
-on_true false P f = tt
-
-pub on_false : (b : Bool) (P : Type 0) → (b ≡ false → P) → OnFalse b P
-on_false true P f = tt
-on_false false P f = f refl
-
-pub ok_map : {X E : Type 0} (o : Result X E) (P Q : X → Type 0) → ((x : X) → P x → Q x) → IfOk o P → IfOk o Q
-ok_map (Ok x) P Q f h = f x h
-ok_map (Err e) P Q f h = tt
-
 -- ---- a record is pushed
 module _ (total : ℕ) (before : List Record) (r : Record) (old : Checker) (fed : IsFed total old before) (was : old.sound ≡ true) (some : old.due ≡ 0
     → ⊥) (level format : ℕ) (sound : Bool)
@@ -167,7 +138,7 @@ module _ (total : ℕ) (before : List Record) (r : Record) (old : Checker) (fed 
   push_sound due es last layer run less taken t =
       let k = fed.sound was in
       let all = k.2 in
-      let w = from_true sound _ t (taken before k.0) in
+      let w = OnTrue_at t (taken before k.0) in
       let long = length-append before (r ∷ []) in (
         subst (λ (z : ℕ). IsSoFar z level es last layer run (before ++ r ∷ [])) (sym same_format)
             (subst (λ (z : ℕ). IsSoFar old.format z es last layer run (before ++ r ∷ [])) (sym same_level) w.0),
@@ -180,7 +151,7 @@ module _ (total : ℕ) (before : List Record) (r : Record) (old : Checker) (fed 
       → sound ≡ false → AreRefused format level total (before ++ r ∷ [])
   push_refused refused f =
       let k = fed.sound was in
-      let stops = from_false sound _ f (refused before k.0 k.1) in
+      let stops = OnFalse_at f (refused before k.0 k.1) in
       subst (λ (z : ℕ). AreRefused z level total (before ++ r ∷ [])) (sym same_format)
       (subst (λ (z : ℕ). AreRefused old.format z total (before ++ r ∷ [])) (sym same_level)
       (λ rest numbers layers s long.

@@ -109,15 +109,15 @@ pub record IsLeast (n bucket : ℕ) (three : List Tally) (b : Block) (least : �
   pub due : (least ≡ 0) ⊎ ((w : Block) × AreFour n (blocks_behind three b) w × (least + total three ≡ bucket + 1))
 
 -- the last three blocks of the run and the one before them
-abbrev pub shifted : List Tally → Tally → List Tally
-shifted [] t = t ∷ []
-shifted (a ∷ rest) t = rest ++ t ∷ []
+abbrev pub recent_after : List Tally → Tally → List Tally
+recent_after [] t = t ∷ []
+recent_after (a ∷ rest) t = rest ++ t ∷ []
 
 -- a run after the first record of the next block
 pub record IsOpened (n : ℕ) (run : PointRun) (b : Block) (count : ℕ) (next : PointRun) : Type 0 where
   pub bucket : next.bucket ≡ run.bucket
   pub end : next.end ≡ code_to b
-  pub recent : length run.recent ≡ 3 → next.recent ≡ shifted run.recent run.last
+  pub recent : length run.recent ≡ 3 → next.recent ≡ recent_after run.recent run.last
   pub tail : next.last ≡ record { block = b; count = count }
   pub least : IsLeast n run.bucket next.recent b next.least
 
@@ -127,9 +127,9 @@ pub record IsFinished (n : ℕ) (run : PointRun) : Type 0 where
   pub enough : run.least ≤ run.last.count
 
 -- the point is in the block
-abbrev pub IsIn : Block → Option Point → Type 0
-IsIn b None = Unit {0}
-IsIn b (Some p) = in_block b p.at ≡ true
+abbrev pub IsHeldIn : Block → Option Point → Type 0
+IsHeldIn b None = Unit {0}
+IsHeldIn b (Some p) = in_block b p.at ≡ true
 
 -- how many points a record has: one or none
 abbrev pub count_of : Option Point → ℕ

@@ -8,7 +8,7 @@ ghost use Rattle.quilt_record.specs.Records.{record_of};
 ghost use Rattle.quilt_record.specs.Canonical.{FactFits, point_fact};
 ghost use Rattle.quilt_line_audit.specs.Layers.{Refuses};
 ghost use Rattle.quilt_audit.specs.Covers.{AreFour};
-ghost use Rattle.quilt_audit.specs.Points.{IsStart, IsPointRun, IsOpened, IsLeast, IsFinished, IsIn, count_of as count_of_held};
+ghost use Rattle.quilt_audit.specs.Points.{IsStart, IsPointRun, IsOpened, IsLeast, IsFinished, IsHeldIn, count_of as count_of_held};
 
 use crate::codes::end_from;
 use crate::siblings::are_siblings;
@@ -177,8 +177,8 @@ fn plain(block: Block) -> Leaf
 /// Whether the point, where there is one, is in the block.
 fn is_in(block: Block, held: Option<Point>) -> bool
     requires { IsBlock 12 block }
-    ensures yes { result ≡ true → IsIn block held }
-    ensures no { result ≡ false → IsIn block held → ⊥ }
+    ensures yes { result ≡ true → IsHeldIn block held }
+    ensures no { result ≡ false → IsHeldIn block held → ⊥ }
 {
     match held {
         None => true,

@@ -18,7 +18,7 @@ use Rattle.quilt_blocks.specs.Cutting.{leaves_by_code}
 use Rattle.quilt_blocks.proofs.Cuts.{leaves_members, leaf_is}
 use Rattle.quilt_blocks.proofs.Listed.{held_in}
 use Rattle.quilt_blocks.proofs.PixelLeaves.{leaf_at}
-use Rattle.quilt_buffer.specs.Reach.{reaches, near, is_coloured, blocks_with_colour}
+use Rattle.quilt_buffer.specs.Reach.{reaches, within_reach, is_coloured, blocks_with_colour}
 use Rattle.quilt_blocks.proofs.Squares.{grid_of-same}
 use Rattle.quilt_buffer.proofs.Reaching.{any_member, any_from, InReach, InReach-from, reaches-true}
 
@@ -94,12 +94,12 @@ module _ (n : ℕ) (g : Grid) (r : ℕ) (le : n ≤ 12) (p : Pixel) where
       (Contains-filter is_coloured (leaves_by_code n g) w.0 ((leaves_members n g w.0).1 h.member) coloured) in
       any_from (reaches r p) (blocks_with_colour (leaves_by_code n g)) b member (reaches-true r p b (held_near r b p q held (leb-true _ _ t.1)))
 
-  pub near_leaves : near r (blocks_with_colour (leaves_by_code n g)) p ≡ cond (list_any (is_near n g r p) (pixels n)) 1 0
+  pub near_leaves : within_reach r (blocks_with_colour (leaves_by_code n g)) p ≡ cond (list_any (is_near n g r p) (pixels n)) 1 0
   near_leaves = ap (λ t. cond {A = ℕ} t 1 0)
       (both_ways (list_any (reaches r p) (blocks_with_colour (leaves_by_code n g))) (list_any (is_near n g r p) (pixels n)) to_pixel to_leaf)
 
 -- the grid of the pixels near the coloured leaves
-pub buffered_is : (n : ℕ) (g : Grid) (r : ℕ) → n ≤ 12 → grid_of n (near r (blocks_with_colour (leaves_by_code n g))) ≡ buffered n g r
+pub buffered_is : (n : ℕ) (g : Grid) (r : ℕ) → n ≤ 12 → grid_of n (within_reach r (blocks_with_colour (leaves_by_code n g))) ≡ buffered n g r
 buffered_is n g r le =
-    grid_of-same n (near r (blocks_with_colour (leaves_by_code n g))) (λ p. cond (list_any (is_near n g r p) (pixels n)) 1 0)
+    grid_of-same n (within_reach r (blocks_with_colour (leaves_by_code n g))) (λ p. cond (list_any (is_near n g r p) (pixels n)) 1 0)
     (λ p hx hy. near_leaves n g r le p)

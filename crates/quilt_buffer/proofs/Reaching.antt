@@ -9,7 +9,7 @@ use Rattle.quilt_types.specs.declared.plane.Pixel.{Pixel}
 use Rattle.quilt_types.specs.declared.plane.Block.{Block}
 use Rattle.quilt_types.specs.Plane.{Holds}
 use Rattle.quilt_loc.proofs.Members.{Contains-here, Contains-there, Contains-filter, Contains-filter_from}
-use Rattle.quilt_buffer.specs.Reach.{reaches, reaches_some, reaches_all, near}
+use Rattle.quilt_buffer.specs.Reach.{reaches, reaches_some, reaches_all, within_reach}
 
 or_parts : (a b : Bool) → a || b ≡ true → (a ≡ true) ⊎ (b ≡ true)
 or_parts true b e = inl refl
@@ -94,13 +94,13 @@ reaches_all-one r square b one e =
 
 module _ (r : ℕ) (square : Block) (blocks : List Block) where
   -- all pixels of a covered square are near
-  pub near_covered : list_any (reaches_all r square) blocks ≡ true → (p : Pixel) → Holds square p → near r blocks p ≡ 1
+  pub near_covered : list_any (reaches_all r square) blocks ≡ true → (p : Pixel) → Holds square p → within_reach r blocks p ≡ 1
   near_covered e p h =
       let m = any_member (reaches_all r square) blocks e in
       cond-true (list_any (reaches r p) blocks) 1 0 (any_from (reaches r p) blocks m.0 m.1 (reaches_all-at r square m.0 p h m.2))
 
   -- the blocks that do not reach the square change nothing in it
-  pub near_close : (p : Pixel) → Holds square p → near r (filter (reaches_some r square) blocks) p ≡ near r blocks p
+  pub near_close : (p : Pixel) → Holds square p → within_reach r (filter (reaches_some r square) blocks) p ≡ within_reach r blocks p
   near_close p h =
       ap (λ t. cond {A = ℕ} t 1 0)
       (both_ways (list_any (reaches r p) (filter (reaches_some r square) blocks)) (list_any (reaches r p) blocks)
@@ -113,7 +113,7 @@ module _ (r : ℕ) (square : Block) (blocks : List Block) where
       (Contains-filter (reaches_some r square) blocks m.0 m.1 (reaches_some-from r square m.0 p h m.2)) m.2))
 
   -- where no block reaches the square, no pixel of it is near
-  pub near_none : length (filter (reaches_some r square) blocks) ≡ 0 → (p : Pixel) → Holds square p → near r blocks p ≡ 0
+  pub near_none : length (filter (reaches_some r square) blocks) ≡ 0 → (p : Pixel) → Holds square p → within_reach r blocks p ≡ 0
   near_none none p h =
       sym (near_close p h) ∙ cond-false (list_any (reaches r p) (filter (reaches_some r square) blocks)) 1 0
       (false_from_ne_true (list_any (reaches r p) (filter (reaches_some r square) blocks))

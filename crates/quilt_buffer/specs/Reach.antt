@@ -19,8 +19,8 @@ reaches_all r square b = nat_le b.x (square.x + r) && nat_le (square.x + square.
     && nat_le (square.y + square.side) (b.y + b.side + r)
 
 -- 1 where the pixel is within r of one of the blocks, and else 0
-abbrev pub near : ℕ → List Block → Pixel → ℕ
-near r blocks p = if list_any (reaches r p) blocks then 1 else 0
+abbrev pub within_reach : ℕ → List Block → Pixel → ℕ
+within_reach r blocks p = if list_any (reaches r p) blocks then 1 else 0
 
 -- the colour is not that of the background
 abbrev pub is_coloured : Block × ℕ → Bool

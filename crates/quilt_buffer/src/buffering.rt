@@ -4,7 +4,7 @@ ghost use Rattle.quilt_types.specs.Algebra.{buffered};
 ghost use Rattle.quilt_loc.specs.Codes.{code_from, code_to};
 ghost use Rattle.quilt_blocks.specs.Cutting.{leaves_by_code};
 ghost use Rattle.quilt_blocks.specs.Adding.{Adds};
-ghost use Rattle.quilt_buffer.specs.Reach.{near, blocks_with_colour};
+ghost use Rattle.quilt_buffer.specs.Reach.{within_reach, blocks_with_colour};
 
 use crate::reach::{blocks_near, is_covered};
 use quilt_blocks::{Cursor, LeafList, Maker};
@@ -54,7 +54,7 @@ fn fill(
     requires most { maker.old.level ≤ 12 }
     requires valid { IsBlock maker.old.level square }
     requires next { code_from square ≡ length maker.old.colours }
-    ensures { OnOk result (Adds maker.old.level (near r blocks.now) (code_to square) maker.old maker.new) }
+    ensures { OnOk result (Adds maker.old.level (within_reach r blocks.now) (code_to square) maker.old maker.new) }
 {
     if is_covered(blocks, r, square) {
         return maker.push(square, Colour(1));

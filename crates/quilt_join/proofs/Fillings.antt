@@ -9,8 +9,8 @@ use Rattle.quilt_types.specs.declared.plane.Seg.{Seg}
 use Rattle.quilt_types.specs.Plane.{side}
 use Rattle.quilt_loc.proofs.Members.{Contains-nil}
 use Rattle.quilt_join.specs.declared.span.Span.{Span}
-use Rattle.quilt_join.specs.Boxes.{span_at, count, number_at, Touches}
-use Rattle.quilt_join.specs.Buckets.{bucket_at, AreFilled, HasPut}
+use Rattle.quilt_join.specs.Boxes.{span_at, count, number_at, IsInSpan}
+use Rattle.quilt_join.specs.Buckets.{bucket_at, AreFilled, HasBucketed}
 use Rattle.quilt_join.proofs.Spans.{touched_at}
 
 -- one more empty bucket
@@ -51,7 +51,7 @@ one_put : (lists : List (List (ℕ × Seg))) (at : ℕ) (e : ℕ × Seg) → at 
 one_put lists at e within =
     subst (λ (l : List (ℕ × Seg)). Contains l e) (sym (one_here lists at e at within refl)) (Contains-push (bucket_at lists at) e)
 
-pub put_none : (p : Span) (columns : ℕ) (lists : List (List (ℕ × Seg))) (e : ℕ × Seg) → HasPut p columns 0 lists lists e
+pub put_none : (p : Span) (columns : ℕ) (lists : List (List (ℕ × Seg))) (e : ℕ × Seg) → HasBucketed p columns 0 lists lists e
 put_none p columns lists e = record {
   size = refl;
   from = λ n f h. inl h;
@@ -59,12 +59,12 @@ put_none p columns lists e = record {
   put = λ i lt. absurd (omega arith);
 }
 
-pub put_more : (p : Span) (columns k : ℕ) (old mid new : List (List (ℕ × Seg))) (e : ℕ × Seg) → HasPut p columns k old mid e →
+pub put_more : (p : Span) (columns k : ℕ) (old mid new : List (List (ℕ × Seg))) (e : ℕ × Seg) → HasBucketed p columns k old mid e →
     number_at p columns k < length mid →
-    new ≡ with_one mid (number_at p columns k) e → HasPut p columns (k + 1) old new e
+    new ≡ with_one mid (number_at p columns k) e → HasBucketed p columns (k + 1) old new e
 put_more p columns k old mid new e h within is =
     let at = number_at p columns k in
-    subst (λ (l : List (List (ℕ × Seg))). HasPut p columns (k + 1) old l e) (sym is) (record {
+    subst (λ (l : List (List (ℕ × Seg))). HasBucketed p columns (k + 1) old l e) (sym is) (record {
       size = length-set mid at (bucket_at mid at ++ e ∷ []) ∙ h.size;
       from = λ n f c. ⊎_elim (λ d. h.from n f d) (λ is. inr is) (one_from mid at e n f within c);
       kept = λ n f c. one_kept mid at e n f within (h.kept n f c);
@@ -86,7 +86,7 @@ filled_none w columns lists pos size empty = record {
 
 -- one more segment
 pub filled_more : (w columns : ℕ) (old new : List (List (ℕ × Seg))) (taken : List (ℕ × Seg)) (e : ℕ × Seg) → AreFilled w columns old taken →
-    HasPut (span_at w e.1) columns (count (span_at w e.1)) old new e → AreFilled w columns new (taken ++ e ∷ [])
+    HasBucketed (span_at w e.1) columns (count (span_at w e.1)) old new e → AreFilled w columns new (taken ++ e ∷ [])
 filled_more w columns old new taken e h put = record {
   positive = h.positive;
   size = put.size ∙ h.size;
@@ -97,7 +97,7 @@ filled_more w columns old new taken e h put = record {
   all = λ f n c t. ⊎_elim
       (λ d. put.kept n f (h.all f n d t))
       (λ is.
-      let place = touched_at (span_at w e.1) columns n (subst (λ (g : ℕ × Seg). Touches (span_at w g.1) columns n) (sym is) t) in
+      let place = touched_at (span_at w e.1) columns n (subst (λ (g : ℕ × Seg). IsInSpan (span_at w g.1) columns n) (sym is) t) in
       subst (λ (g : ℕ × Seg). Contains (bucket_at new n) g) is (subst (λ (m : ℕ). Contains (bucket_at new m) e) place.2 (put.put place.0 place.1)))
       (Contains-push_cases taken e f c);
 }

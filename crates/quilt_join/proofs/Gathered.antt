@@ -14,7 +14,7 @@ use Rattle.quilt_types.specs.Layers.{SegMap}
 use Rattle.quilt_types.specs.Crossings.{shares, crossings}
 use Rattle.quilt_join.specs.declared.rows.Row.{Row}
 use Rattle.quilt_join.specs.Pairs.{ids_sharing, pairs_with, crossings_of, most, IsAnswer}
-use Rattle.quilt_join.specs.Rows.{IsRow}
+use Rattle.quilt_join.specs.Rows.{IsSharingRow}
 
 module _ {X Y : Type 0} (R : X → Y → Type 0) (E : Type 0) where
   values : (xs : List X) (ys : List Y) → AllZip (λ x (r : Result Y E). IfOk r (R x)) xs (map {A = Y} {B = Result Y E} Ok ys) → AllZip R xs ys
@@ -74,7 +74,7 @@ mapped_through Is f (x ∷ xs) (r ∷ rs) [] h k = absurd k
 mapped_through Is f (x ∷ xs) (r ∷ rs) (y ∷ ys) h k = ap₂ ◌∷◌ (k.0 x h.0) (mapped_through Is f xs rs ys h.1 k.1)
 
 -- the counts of rows
-pub rows_count : (b a : List (ℕ × Seg)) (rows : List Row) → AllZip (IsRow b) a rows → map (λ r. r.count) rows ≡ map (λ e. length (ids_sharing e.1 b)) a
+pub rows_count : (b a : List (ℕ × Seg)) (rows : List Row) → AllZip (IsSharingRow b) a rows → map (λ r. r.count) rows ≡ map (λ e. length (ids_sharing e.1 b)) a
 rows_count b [] [] h = refl
 rows_count b [] (r ∷ rows) h = absurd h
 rows_count b (e ∷ a) [] h = absurd h
@@ -85,7 +85,7 @@ module _ (b list rest part after : List (ℕ × Seg)) (are : rest ≡ part ++ af
   abbrev counts : List (ℕ × Seg) → List ℕ
   counts a = map (λ e. length (ids_sharing e.1 b)) a
 
-  pub part_counted : (rows : List Row) (found : List ℕ) (total all : ℕ) → AllZip (IsRow b) part rows → found ≡ map (λ r. r.count) rows
+  pub part_counted : (rows : List Row) (found : List ℕ) (total all : ℕ) → AllZip (IsSharingRow b) part rows → found ≡ map (λ r. r.count) rows
       → all ≡ total + sum found → total + sum (counts rest) ≡ sum (counts list) → all + sum (counts after) ≡ sum (counts list)
   part_counted rows found total all zip is sums so_far =
       let these : sum found ≡ sum (counts part) = ap sum (is ∙ rows_count b part rows zip) in

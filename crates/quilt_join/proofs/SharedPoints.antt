@@ -1,7 +1,7 @@
 -- Segments that share a point: what the signs of their cross products have to do with it.
-use Rattle.std.proofs.Common.{◌≡◌, ℕ, suc, ◌+◌, ◌-◌, ◌*◌, ◌<◌, ◌≤◌, min, max, Bool, true, ◌&&◌, ◌||◌, ⊎_elim, zero, subst, arith, ap, sym}
+use Rattle.std.proofs.Common.{◌≡◌, ℕ, suc, ◌+◌, ◌-◌, ◌*◌, ◌<◌, ◌≤◌, min, max, true, ◌&&◌, ◌||◌, ⊎_elim, zero, subst, arith, ap, sym}
 use Rattle.std.specs.Prelude.{nat_le}
-use Rattle.std.proofs.lemmas.Bool.{cases_lt}
+use Rattle.std.proofs.lemmas.Bool.{cases_lt, or_left, or_right}
 use Rattle.std.proofs.lemmas.Bool.Decides.{nat_tests}
 use Rattle.quilt_types.specs.declared.plane.Seg.{Seg}
 use Rattle.quilt_types.specs.Fractions.{Fraction}
@@ -53,17 +53,8 @@ uneven_at k o p w a b u v s t e f g pos h = omega (arith, ap (λ z. k * (o * z))
 uneven : (k o p u v s t : ℕ) → 0 < k → 0 < o + p → k * (o * u + p * s) ≡ k * (o * v + p * t) → v < u → t < s → ⊥
 uneven k o p u v s t pos some e h g = uneven_at k o p (o + p - 1) (u - suc v) (s - suc t) u v s t (omega arith) (omega arith) (omega arith) pos e
 
-yes : (u v : ℕ) → u ≤ v → nat_le u v ≡ true
-yes u v h = grind (arith, nat_tests)
-
 turned_is : (u v s t : ℕ) → u ≤ v → t ≤ s → is_turned (u, v) (s, t) ≡ true
 turned_is u v s t h k = grind (arith, nat_tests)
-
-or_left : (a b : Bool) → a ≡ true → (a || b) ≡ true
-or_left a b h = grind (arith, nat_tests)
-
-or_right : (a b : Bool) → b ≡ true → (a || b) ≡ true
-or_right a b h = grind (arith, nat_tests)
 
 turned_or : (u v s t : ℕ) → (v < u → t < s → ⊥) → (u < v → s < t → ⊥) → (is_turned (u, v) (s, t) || is_turned (s, t) (u, v)) ≡ true
 turned_or u v s t f g =

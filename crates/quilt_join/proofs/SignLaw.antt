@@ -1,6 +1,6 @@
 -- Two segments share a point exactly where the signs of their cross products say so.
-use Rattle.std.proofs.Common.{◌≡◌, ℕ, ◌+◌, ◌-◌, ◌≤◌, ◌↔◌, Bool, true, false, ◌&&◌, ◌||◌, ◌⊎◌, ⊎_elim, inl, inr, arith, sym, ◌∙◌, refl}
-use Rattle.std.proofs.lemmas.Bool.{cases_lt}
+use Rattle.std.proofs.Common.{◌≡◌, ℕ, ◌+◌, ◌-◌, ◌≤◌, ◌↔◌, Bool, true, ◌&&◌, ⊎_elim, arith, sym, ◌∙◌}
+use Rattle.std.proofs.lemmas.Bool.{cases_lt, or_cases}
 use Rattle.std.proofs.lemmas.Bool.Decides.{nat_tests}
 use Rattle.quilt_types.specs.declared.plane.Seg.{Seg}
 use Rattle.quilt_types.specs.Crossings.{Share, shares, overlap}
@@ -9,10 +9,6 @@ use Rattle.quilt_join.proofs.Turns.{shares_is}
 use Rattle.quilt_join.proofs.SharedPoints.{shared_back, shared_parts, shared_overlap}
 use Rattle.quilt_join.proofs.MeetingPoints.{crossed, beyond_shares, behind_shares}
 use Rattle.quilt_join.proofs.Collinear.{level_shares}
-
-or_cases : (a b : Bool) → (a || b) ≡ true → (a ≡ true) ⊎ (b ≡ true)
-or_cases true b h = inl refl
-or_cases false b h = inr h
 
 turned_from : (u v s t : ℕ) → is_turned (u, v) (s, t) ≡ true → (u ≤ v) × (t ≤ s)
 turned_from u v s t h = (grind (arith, nat_tests), grind (arith, nat_tests))

@@ -8,7 +8,7 @@ use Rattle.quilt_types.specs.Plane.{side}
 use Rattle.quilt_types.specs.Layers.{is_in_square}
 use Rattle.quilt_types.specs.Crossings.{overlap}
 use Rattle.quilt_join.specs.declared.span.Span.{Span}
-use Rattle.quilt_join.specs.Boxes.{span_at, width, count, number_at, Touches}
+use Rattle.quilt_join.specs.Boxes.{span_at, width, count, number_at, IsInSpan}
 
 -- quotients are in the order of the numbers
 quotients : (a b w : ℕ) → 0 < w → a ≤ b → a / w ≤ b / w
@@ -20,7 +20,7 @@ place_at : (columns_before columns rows_before rows : ℕ) → columns_before < 
 place_at a c b r h k = omega (arith, mul-le-mul_right {m = suc b} {n = r} c k)
 
 -- a block of a span stands at some place
-pub touched_at : (p : Span) (columns n : ℕ) → Touches p columns n → (i : ℕ) × (i < count p) × (number_at p columns i ≡ n)
+pub touched_at : (p : Span) (columns n : ℕ) → IsInSpan p columns n → (i : ℕ) × (i < count p) × (number_at p columns i ≡ n)
 touched_at p columns n t =
     let a = t.column - p.left in
     let b = t.row - p.top in
@@ -44,7 +44,7 @@ common a b c d w h pos =
 
 -- segments whose boxes overlap touch a block in common
 pub touch_both : (s r : Seg) (w columns : ℕ) → 0 < w → overlap s.x1 s.x2 r.x1 r.x2 ≡ true → overlap s.y1 s.y2 r.y1 r.y2 ≡ true →
-    (n : ℕ) × Touches (span_at w s) columns n × Touches (span_at w r) columns n
+    (n : ℕ) × IsInSpan (span_at w s) columns n × IsInSpan (span_at w r) columns n
 touch_both s r w columns pos h k =
     let x = common s.x1 s.x2 r.x1 r.x2 w h pos in
     let y = common s.y1 s.y2 r.y1 r.y2 w k pos in (

@@ -2,6 +2,7 @@
 use Rattle.std.proofs.Common.{◌≡◌, ℕ, suc, ◌+◌, ◌-◌, ◌*◌, ◌<◌, ◌≤◌, Bool, true, false, ◌&&◌, ◌||◌, arith, ap, ◌∙◌, refl}
 use Rattle.std.specs.Prelude.{ℤ, pos, ◌*ℤ◌, int_le, nat_le}
 use Rattle.std.proofs.lemmas.Bool.Decides.{nat_tests}
+use Rattle.std.proofs.lemmas.Bool.{le-leb, lt-leb, leb-true, leb-false}
 use borrow.Author.Differences.{le-true, le-false}
 use Rattle.quilt_types.specs.declared.plane.Seg.{Seg}
 use Rattle.quilt_types.specs.Crossings.{overlap, turn, shares}
@@ -41,33 +42,21 @@ alike_at u v s t a b e f = omega (arith, ap (λ z. z * s) e, ap (λ z. z * t) e,
 alike : (u v s t : ℕ) → v < u → t < s → u * t + v * s < u * s + v * t
 alike u v s t h k = alike_at u v s t (u - suc v) (s - suc t) (omega arith) (omega arith)
 
-yes : (u v : ℕ) → u ≤ v → nat_le u v ≡ true
-yes u v h = grind (arith, nat_tests)
-
-no : (u v : ℕ) → v < u → nat_le u v ≡ false
-no u v h = grind (arith, nat_tests)
-
-from_yes : (u v : ℕ) → nat_le u v ≡ true → u ≤ v
-from_yes u v h = grind (arith, nat_tests)
-
-from_no : (u v : ℕ) → nat_le u v ≡ false → v < u
-from_no u v h = grind (arith, nat_tests)
-
 signs : (u v s t : ℕ) (a b c d : Bool) → nat_le u v ≡ a → nat_le t s ≡ b → nat_le s t ≡ c → nat_le v u ≡ d →
     nat_le (u * s + v * t) (u * t + v * s) ≡ (a && b) || (c && d)
-signs u v s t true true c d e f g h = yes _ _ (opposite u v s t (from_yes _ _ e) (from_yes _ _ f))
+signs u v s t true true c d e f g h = le-leb _ _ (opposite u v s t (leb-true _ _ e) (leb-true _ _ f))
 signs u v s t true false true true e f g h =
-    let turned = opposite v u t s (from_yes _ _ h) (from_yes _ _ g) in
-    yes _ _ (omega arith)
+    let turned = opposite v u t s (leb-true _ _ h) (leb-true _ _ g) in
+    le-leb _ _ (omega arith)
 signs u v s t true false true false e f g h =
-    let turned = alike v u t s (from_no _ _ h) (from_no _ _ f) in
-    no _ _ (omega arith)
-signs u v s t true false false d e f g h = absurd (omega (arith, from_no _ _ f, from_no _ _ g))
+    let turned = alike v u t s (leb-false _ _ h) (leb-false _ _ f) in
+    lt-leb _ _ (omega arith)
+signs u v s t true false false d e f g h = absurd (omega (arith, leb-false _ _ f, leb-false _ _ g))
 signs u v s t false b true true e f g h =
-    let turned = opposite v u t s (from_yes _ _ h) (from_yes _ _ g) in
-    yes _ _ (omega arith)
-signs u v s t false b true false e f g h = absurd (omega (arith, from_no _ _ e, from_no _ _ h))
-signs u v s t false b false d e f g h = no _ _ (alike u v s t (from_no _ _ e) (from_no _ _ g))
+    let turned = opposite v u t s (leb-true _ _ h) (leb-true _ _ g) in
+    le-leb _ _ (omega arith)
+signs u v s t false b true false e f g h = absurd (omega (arith, leb-false _ _ e, leb-false _ _ h))
+signs u v s t false b false d e f g h = lt-leb _ _ (alike u v s t (leb-false _ _ e) (leb-false _ _ g))
 
 -- the cross products have no sign in common
 pub parts_is : (s r : Seg) → int_le (turn s r.x1 r.y1 *ℤ turn s r.x2 r.y2) (pos 0) ≡ parts s r

@@ -25,7 +25,7 @@ abbrev pub number_at : Span → ℕ → ℕ → ℕ
 number_at p columns i = (p.top + i / width p) * columns + (p.left + i % width p)
 
 -- the block with this number is one of those of the span
-pub record Touches (p : Span) (columns n : ℕ) : Type 0 where
+pub record IsInSpan (p : Span) (columns n : ℕ) : Type 0 where
   pub column : ℕ
   pub row : ℕ
   pub left : p.left ≤ column

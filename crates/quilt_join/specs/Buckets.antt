@@ -2,7 +2,7 @@
 use Rattle.std.specs.Prelude.{◌≡◌, ℕ, zero, suc, ◌*◌, ◌<◌, List, [], ◌++◌, length, Contains, ◌⊎◌, slice_index_or}
 use Rattle.quilt_types.specs.declared.plane.Seg.{Seg}
 use Rattle.quilt_join.specs.declared.span.Span.{Span}
-use Rattle.quilt_join.specs.Boxes.{span_at, number_at, Touches}
+use Rattle.quilt_join.specs.Boxes.{span_at, number_at, IsInSpan}
 use Rattle.quilt_join.specs.Pairs.{ids_sharing}
 
 -- the segments in the bucket of the block with this number
@@ -14,10 +14,10 @@ pub record AreFilled (w columns : ℕ) (lists : List (List (ℕ × Seg))) (list 
   pub positive : 0 < w
   pub size : length lists ≡ columns * columns
   pub from : (n : ℕ) (e : ℕ × Seg) → Contains (bucket_at lists n) e → Contains list e
-  pub all : (e : ℕ × Seg) (n : ℕ) → Contains list e → Touches (span_at w e.1) columns n → Contains (bucket_at lists n) e
+  pub all : (e : ℕ × Seg) (n : ℕ) → Contains list e → IsInSpan (span_at w e.1) columns n → Contains (bucket_at lists n) e
 
 -- one segment was put into the buckets of the first k blocks of a span
-pub record HasPut (p : Span) (columns k : ℕ) (old new : List (List (ℕ × Seg))) (e : ℕ × Seg) : Type 0 where
+pub record HasBucketed (p : Span) (columns k : ℕ) (old new : List (List (ℕ × Seg))) (e : ℕ × Seg) : Type 0 where
   pub size : length new ≡ length old
   pub from : (n : ℕ) (f : ℕ × Seg) → Contains (bucket_at new n) f → Contains (bucket_at old n) f ⊎ (f ≡ e)
   pub kept : (n : ℕ) (f : ℕ × Seg) → Contains (bucket_at old n) f → Contains (bucket_at new n) f

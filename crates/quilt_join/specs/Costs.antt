@@ -12,8 +12,8 @@ abbrev pub blocks_of : ℕ → ℕ → ℕ
 blocks_of n shift = 2 ^ (n - shift) * 2 ^ (n - shift)
 
 -- these, and those that the boxes round the segments of two lists touch
-unfoldable pub cost : ℕ → ℕ → List (ℕ × Seg) → List (ℕ × Seg) → ℕ
-cost n shift a b = blocks_of n shift + touched (2 ^ shift) a + touched (2 ^ shift) b
+unfoldable pub bucket_cost : ℕ → ℕ → List (ℕ × Seg) → List (ℕ × Seg) → ℕ
+bucket_cost n shift a b = blocks_of n shift + touched (2 ^ shift) a + touched (2 ^ shift) b
 
 -- eight for each segment of two lists, as far as a number of 64 bits goes
 unfoldable pub room : List (ℕ × Seg) → List (ℕ × Seg) → ℕ

@@ -2,7 +2,7 @@ ghost use Rattle.std.specs.Prelude.{◌≡◌, ◌≤◌, ◌<◌, ◌^◌, ◌*
 ghost use Rattle.quilt_types.specs.Plane.{side as side_of};
 ghost use Rattle.quilt_types.specs.Layers.{is_in_square};
 ghost use Rattle.quilt_join.specs.Boxes.{span_at, count as count_of, number_at};
-ghost use Rattle.quilt_join.specs.Buckets.{bucket_at, AreFilled, HasPut};
+ghost use Rattle.quilt_join.specs.Buckets.{bucket_at, AreFilled, HasBucketed};
 
 use crate::span::Span;
 use quilt_types::Seg;
@@ -115,7 +115,7 @@ impl Buckets {
             number_at (span_at (2 ^ self.old.shift) s) self.old.columns i < length self.old.lists.items }
         ensures shift { self.new.shift ≡ self.old.shift }
         ensures columns { self.new.columns ≡ self.old.columns }
-        ensures put { OnOk result (HasPut (span_at (2 ^ self.old.shift) s) self.old.columns (count_of (span_at (2 ^ self.old.shift) s))
+        ensures put { OnOk result (HasBucketed (span_at (2 ^ self.old.shift) s) self.old.columns (count_of (span_at (2 ^ self.old.shift) s))
             self.old.lists.items self.new.lists.items (id, s)) }
     {
         let span = Span::of(s, self.shift);

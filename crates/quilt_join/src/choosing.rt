@@ -1,5 +1,5 @@
 ghost use Rattle.std.specs.Prelude.{◌≡◌, ◌⊎◌, ◌≤◌, ◌<◌, ◌+◌, ◌^◌, ℕ, true, false, MatchOption};
-ghost use Rattle.quilt_join.specs.Costs.{touched, cost, room};
+ghost use Rattle.quilt_join.specs.Costs.{touched, bucket_cost, room};
 
 use crate::buckets::columns_of;
 use crate::span::Span;
@@ -33,12 +33,12 @@ fn room_after(room: usize, list: &[(u32, Seg)], shift: u32) -> Option<usize>
 }
 
 /// Whether the blocks of side `1 << shift` of the square, and those that the boxes round the segments touch, are so many.
-#[tactic(auto, unfolding(crate::specs::Costs::cost))]
+#[tactic(auto, unfolding(crate::specs::Costs::bucket_cost))]
 fn are_within(room: usize, level: u32, shift: u32, a: &[(u32, Seg)], b: &[(u32, Seg)]) -> bool
     requires most { level ≤ 12 }
     requires shift { shift ≤ level }
-    ensures yes { result ≡ true → cost level shift a.now b.now ≤ room }
-    ensures no { result ≡ false → room < cost level shift a.now b.now }
+    ensures yes { result ≡ true → bucket_cost level shift a.now b.now ≤ room }
+    ensures no { result ≡ false → room < bucket_cost level shift a.now b.now }
 {
     let columns = columns_of(level, shift);
     let blocks = columns * columns;
@@ -57,8 +57,8 @@ fn are_within(room: usize, level: u32, shift: u32, a: &[(u32, Seg)], b: &[(u32, 
 pub(crate) fn shift_for(level: u32, a: &[(u32, Seg)], b: &[(u32, Seg)]) -> u32
     requires { level ≤ 12 }
     ensures most { result ≤ level }
-    ensures bound { (result ≡ level) ⊎ (cost level result a.now b.now ≤ room a.now b.now) }
-    ensures least { (shift : ℕ) → shift < result → room a.now b.now < cost level shift a.now b.now }
+    ensures bound { (result ≡ level) ⊎ (bucket_cost level result a.now b.now ≤ room a.now b.now) }
+    ensures least { (shift : ℕ) → shift < result → room a.now b.now < bucket_cost level shift a.now b.now }
 {
     let room = room_for(a, b);
     for shift in 0..level {

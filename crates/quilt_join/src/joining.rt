@@ -6,7 +6,7 @@ ghost use Rattle.quilt_types.specs.declared.plane.Seg.{Seg as SegOf};
 ghost use Rattle.quilt_types.specs.Layers.{SegMap, is_in_square};
 ghost use Rattle.quilt_types.specs.Crossings.{crossings as crossings_of_maps};
 ghost use Rattle.quilt_join.specs.Serving.{Serves};
-ghost use Rattle.quilt_join.specs.Rows.{IsRow};
+ghost use Rattle.quilt_join.specs.Rows.{IsSharingRow};
 ghost use Rattle.quilt_join.specs.Pairs.{IsAnswer, crossings_of, ids_sharing, pairs_with, most as most_pairs};
 
 use crate::buckets::Buckets;
@@ -31,13 +31,13 @@ fn rows_for<R: Threads + Sync>(
     buckets: &Buckets,
     list: &[(u32, Seg)],
 ) -> Result<Vec<Row>, AllocError>
-    ensures { (b : List (ℕ × SegOf)) → Serves buckets.now b → IfOk result (λ v. AllZip (IsRow b) list.now v.items) }
+    ensures { (b : List (ℕ × SegOf)) → Serves buckets.now b → IfOk result (λ v. AllZip (IsSharingRow b) list.now v.items) }
 {
     let rows: Result<Vec<Row>, AllocError> = list
         .par_iter()
         .map(
             |e: &(u32, Seg)| -> Result<Row, AllocError>
-                ensures { (b : List (ℕ × SegOf)) → Serves buckets.entry.now b → IfOk result (IsRow b e.now) }
+                ensures { (b : List (ℕ × SegOf)) → Serves buckets.entry.now b → IfOk result (IsSharingRow b e.now) }
             { row_for(alloc, buckets, e.0, e.1) },
         )
         .collect(rt, alloc)?;
@@ -52,14 +52,14 @@ fn pairs_for<R: Threads + Sync>(
     rows: &[Row],
 ) -> Result<Vec<PairList>, AllocError>
     requires few { sum (map (λ row. row.count) rows.now) ≤ most_pairs }
-    ensures { (b a : List (ℕ × SegOf)) → Serves buckets.now b → AllZip (IsRow b) a rows.now →
+    ensures { (b a : List (ℕ × SegOf)) → Serves buckets.now b → AllZip (IsSharingRow b) a rows.now →
         IfOk result (λ v. v.items ≡ map (λ e. pairs_with e.0 (ids_sharing e.1 b)) a) }
 {
     let pairs: Result<Vec<PairList>, AllocError> = rows
         .par_iter()
         .map(
             |row: &Row| -> Result<PairList, AllocError>
-                ensures { (b : List (ℕ × SegOf)) (e : ℕ × SegOf) → Serves buckets.entry.now b → IsRow b e row.now →
+                ensures { (b : List (ℕ × SegOf)) (e : ℕ × SegOf) → Serves buckets.entry.now b → IsSharingRow b e row.now →
                     IfOk result (λ pairs. pairs ≡ pairs_with e.0 (ids_sharing e.1 b)) }
             { pairs_of(alloc, buckets, row) },
         )

@@ -4,7 +4,7 @@ ghost use Rattle.quilt_join.specs.Boxes.{span_at, count as block_count};
 ghost use Rattle.quilt_join.specs.Buckets.{ids_over};
 ghost use Rattle.quilt_join.specs.Pairs.{ids_sharing, pairs_with};
 ghost use Rattle.quilt_join.specs.Serving.{Serves};
-ghost use Rattle.quilt_join.specs.Rows.{IsRow};
+ghost use Rattle.quilt_join.specs.Rows.{IsSharingRow};
 
 use crate::buckets::Buckets;
 use crate::pairs::PairList;
@@ -64,7 +64,7 @@ pub(crate) struct Row {
 
 /// The row of a segment: of up to `KEPT` ids they are kept.
 pub(crate) fn row_for(alloc: Global, buckets: &Buckets, id: u32, s: Seg) -> Result<Row, AllocError>
-    ensures row { (b : List (ℕ × SegOf)) → Serves buckets.now b → IfOk result (IsRow b (id, s)) }
+    ensures row { (b : List (ℕ × SegOf)) → Serves buckets.now b → IfOk result (IsSharingRow b (id, s)) }
     ensures few { IfOk result (λ row. IfSome row.ids (λ ids. vec_len ids ≤ 244)) }
 {
     let ids = row_of(alloc, buckets, s)?;
@@ -92,7 +92,7 @@ fn paired(alloc: Global, id: u32, others: &[u32]) -> Result<PairList, AllocError
 /// The pairs of the id of a row with the ids of the segments that share a point with its segment. A row that was not kept is made
 /// again.
 pub(crate) fn pairs_of(alloc: Global, buckets: &Buckets, row: &Row) -> Result<PairList, AllocError>
-    ensures { (b : List (ℕ × SegOf)) (e : ℕ × SegOf) → Serves buckets.now b → IsRow b e row.now →
+    ensures { (b : List (ℕ × SegOf)) (e : ℕ × SegOf) → Serves buckets.now b → IsSharingRow b e row.now →
         IfOk result (λ pairs. pairs ≡ pairs_with e.0 (ids_sharing e.1 b)) }
 {
     match &row.ids {

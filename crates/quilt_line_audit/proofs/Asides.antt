@@ -5,7 +5,7 @@ use Rattle.std.proofs.lemmas.Bool.{false_from_ne_true}
 use Rattle.quilt_types.specs.declared.plane.Seg.{Seg}
 use Rattle.quilt_types.specs.declared.plane.Window.{Window}
 use Rattle.quilt_types.specs.Fractions.{Fraction}
-use Rattle.quilt_types.specs.Segments.{meets}
+use Rattle.quilt_types.specs.Segments.{meets, is_on}
 use Rattle.quilt_clip.specs.Spans.{IsOn, Above, Below}
 use Rattle.quilt_clip.proofs.Clips.{on_if, inside_if, inside_then, meets_law}
 
@@ -16,16 +16,18 @@ pub record IsIn (w : Window) (x y : ℕ) : Type 0 where
   pub top : w.y ≤ y
   pub bottom : y ≤ w.y + w.h
 
-pub first_in : (s : Seg) (w : Window) → IsIn w s.x1 s.y1 → meets s w ≡ true
-first_in s w i =
+-- by one of its ends, which is where none of it lies behind or all
+meets_at : (s : Seg) (w : Window) (k x y : ℕ) → is_on (record { num = k; den = 1 }) ≡ true → x + s.x1 * k ≡ s.x1 + s.x2 * k → y + s.y1 * k ≡ s.y1 + s.y2 * k
+    → IsIn w x y → meets s w ≡ true
+meets_at s w k x y on ex ey i =
     let l = i.left in
     let r = i.right in
     let u = i.top in
     let d = i.bottom in
-    let t : Fraction = record { num = 0; den = 1 } in
+    let t : Fraction = record { num = k; den = 1 } in
     (meets_law s w).1 (
       t,
-      refl,
+      on,
       inside_then s w t (record {
         left = record { fact = omega arith };
         right = record { fact = omega arith };
@@ -33,31 +35,17 @@ first_in s w i =
         bottom = record { fact = omega arith };
       }),
     )
+
+pub first_in : (s : Seg) (w : Window) → IsIn w s.x1 s.y1 → meets s w ≡ true
+first_in s w i = meets_at s w 0 s.x1 s.y1 refl (omega arith) (omega arith) i
 
 pub last_in : (s : Seg) (w : Window) → IsIn w s.x2 s.y2 → meets s w ≡ true
-last_in s w i =
-    let l = i.left in
-    let r = i.right in
-    let u = i.top in
-    let d = i.bottom in
-    let t : Fraction = record { num = 1; den = 1 } in
-    (meets_law s w).1 (
-      t,
-      refl,
-      inside_then s w t (record {
-        left = record { fact = omega arith };
-        right = record { fact = omega arith };
-        top = record { fact = omega arith };
-        bottom = record { fact = omega arith };
-      }),
-    )
+last_in s w i = meets_at s w 1 s.x2 s.y2 refl (omega arith) (omega arith) i
 
 -- ---- both ends beyond a side: in one direction, of numbers from a to b no one is from low to high
-under : (a b low n r : ℕ) → 0 < n + r → a < low → b < low → low * (n + r) + a * n ≤ a * (n + r) + b * n → ⊥
-under a b low n r some ha hb h = let p = mul-le-mul_right r ha in let q = mul-le-mul_right n hb in omega arith
-
-over : (a b high n r : ℕ) → 0 < n + r → high < a → high < b → a * (n + r) + b * n ≤ high * (n + r) + a * n → ⊥
-over a b high n r some ha hb h = let p = mul-le-mul_right r ha in let q = mul-le-mul_right n hb in omega arith
+-- what lies between two numbers grows with both
+between : (a b c d n r : ℕ) → 0 < n + r → a < c → b < d → a * r + b * n < c * r + d * n
+between a b c d n r some ha hb = let p = mul-le-mul_right r ha in let q = mul-le-mul_right n hb in omega arith
 
 abbrev AreBeyond : ℕ → ℕ → ℕ → ℕ → Type 0
 AreBeyond a b low high = ((a < low) × (b < low)) ⊎ ((high < a) × (high < b))
@@ -70,8 +58,14 @@ beyond a b low high t on far above below =
     let e : t.den ≡ t.num + r = omega arith in
     let part : 0 < t.num + r = omega arith in
     ⊎_elim
-    (λ u. under a b low t.num r part u.0 u.1 (subst (λ d. low * d + a * t.num ≤ a * d + b * t.num) e above.fact))
-    (λ o. over a b high t.num r part o.0 o.1 (subst (λ d. a * d + b * t.num ≤ high * d + a * t.num) e below.fact)) far
+    (λ u.
+    let less = between a b low low t.num r part u.0 u.1 in
+    let from = subst (λ d. low * d + a * t.num ≤ a * d + b * t.num) e above.fact in
+    omega arith)
+    (λ o.
+    let less = between high high a b t.num r part o.0 o.1 in
+    let upto = subst (λ d. a * d + b * t.num ≤ high * d + a * t.num) e below.fact in
+    omega arith) far
 
 pub misses : (s : Seg) (w : Window) → AreBeyond s.x1 s.x2 w.x (w.x + w.w) ⊎ AreBeyond s.y1 s.y2 w.y (w.y + w.h) → meets s w ≡ false
 misses s w far =

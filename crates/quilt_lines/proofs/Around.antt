@@ -7,6 +7,7 @@ use Rattle.std.specs.Cmp.{nat_cmp_total, tied_itself}
 use Rattle.std.proofs.lemmas.Bool.{and_parts, and_from, cases_Bool, both_ways, cases_lt, cond-false}
 use Rattle.std.proofs.lemmas.List.{take_all}
 use Rattle.std.proofs.lemmas.List.Elements.{Contains-append_left, Contains-append_right, Contains-append_cases}
+use Rattle.std.proofs.lemmas.Option.{same_Some}
 use Rattle.quilt_types.specs.Sets as finset
 use Rattle.quilt_types.specs.declared.plane.Block.{Block}
 use Rattle.quilt_types.specs.declared.plane.Pixel.{Pixel}
@@ -53,7 +54,7 @@ use Rattle.quilt_lines.proofs.Found.{pixel_block, floor_there}
 use Rattle.quilt_lines.proofs.Keys.{item_key, by_item, le_item, in_range, range_alike}
 use Rattle.quilt_lines.proofs.Ranges.{range_block}
 use Rattle.quilt_lines.proofs.Trees.{tree_rises, tree_few}
-use Rattle.quilt_lines.proofs.Lookups.{same_some, if_some_at}
+use Rattle.quilt_lines.proofs.Lookups.{if_some_at}
 use Rattle.quilt_lines.proofs.Sums.{UpBy}
 use Rattle.quilt_lines.proofs.Shown.{first_key, shown_says, block_shown, cover_block, small_id, alike_on}
 
@@ -232,7 +233,7 @@ module _ (rs : List Record) (up : Rises by_key rs) (few : length rs ≤ 42949672
       take_all 4294967295 (filter f rs) (all_few f) ∙ ap (λ (g : Record → Bool). filter g rs) (λ i r. same r i)
 
   record_same : (x r : Record) → Contains rs x → Contains rs r → x.key ≡ r.key → x ≡ r
-  record_same x r cx cr e = same_some x r (sym (find_at r.key rs x up cx e) ∙ find_at r.key rs r up cr refl)
+  record_same x r cx cr e = same_Some x r (sym (find_at r.key rs x up cx e) ∙ find_at r.key rs r up cr refl)
 
   module _ (low high far : Key) (r : Record) (le : is_le (key_cmp high far) ≡ true) (floor : floor_of far rs ≡ Some r)
       (here : is_from_to low high r ≡ true) where
@@ -244,7 +245,7 @@ module _ (rs : List Record) (up : Rises by_key rs) (few : length rs ≤ 42949672
     at_most x c u =
         let at = Contains-filter (is_at_most far) rs x c u in
         let l = last_is (filter (is_at_most far) rs) x (Rises-filter by_key (is_at_most far) rs up) at in
-        let same : l.0 ≡ r = same_some l.0 r (sym l.1 ∙ floor) in
+        let same : l.0 ≡ r = same_Some l.0 r (sym l.1 ∙ floor) in
         subst (λ (z : Record). is_le (by_key x z) ≡ true) same ((l.2).above x at)
 
     one_of_them : (x : Record) → Contains rs x → is_le (key_cmp low x.key) ≡ true → (o : Ordering) → key_cmp x.key r.key ≡ o → is_le o ≡ true

@@ -1,8 +1,8 @@
 -- What a look at a block and at those in it may cost.
-use Rattle.std.proofs.Common.{◌≡◌, ℕ, ◌+◌, ◌*◌, ◌<◌, ◌≤◌, Bool, true, false, cond, ◌&&◌, ◌||◌, List, [], ◌∷◌, ◌++◌, length, take, get_or, sum_by, refl, sym}
-use Rattle.std.proofs.Common.{◌∙◌, ap, arith, Contains, Option, eq-eqb}
+use Rattle.std.proofs.Common.{◌≡◌, ℕ, ◌+◌, ◌*◌, ◌<◌, ◌≤◌, Bool, true, false, cond, ◌&&◌, List, [], ◌∷◌, length, take, get_or, sum_by, refl}
+use Rattle.std.proofs.Common.{◌∙◌, ap, arith, Option, eq-eqb}
 use Rattle.std.specs.FinMap as finmap
-use Rattle.std.proofs.lemmas.Bool.{and_from}
+use Rattle.std.proofs.lemmas.Bool.{and_from, or_right, or_left}
 use Rattle.std.proofs.lemmas.List.{length-map, take_all}
 use Rattle.std.proofs.lemmas.List.Sums.{sum_by-append, sum_by-cons, length-filter}
 use Rattle.quilt_types.specs.Sets as finset
@@ -17,58 +17,50 @@ use Rattle.quilt_loc.proofs.Blocks.{Contains-blocks}
 use Rattle.quilt_loc.proofs.Nesting.{side_pos}
 use Rattle.quilt_edits.proofs.Lists.{take_next}
 use Rattle.quilt_near.specs.Lines.{meeting}
-use Rattle.quilt_near.specs.Budgets.{price, budget}
+use Rattle.quilt_near.specs.Budgets.{price}
 use Rattle.quilt_near.proofs.Budgets.{budget_le, kept_le, itself_le, quarters_le}
-use Rattle.quilt_lines.specs.Reads.{ids_of, AreIdsAt}
-use Rattle.quilt_lines.specs.Bounds.{cost, due, is_met_above}
+use Rattle.quilt_lines.specs.Reads.{AreIdsAt}
+use Rattle.quilt_lines.specs.Bounds.{look_cost, due, is_met_above}
 use Rattle.quilt_lines.proofs.Sums.{UpBy, reads_sum, reads_more}
 
 module _ (n : ℕ) (counts : Block → Bool) (segs : SegMap) (cover : BlockSet) where
   pub due_whole : due n counts segs cover (whole n) ≤ reach n segs cover counts
   unfolding reach
   due_whole =
-      let all = budget_le (cost counts segs cover) (blocks n) (whole n) in
+      let all = budget_le (look_cost counts segs cover) (blocks n) (whole n) in
       let kept = kept_le (price segs cover) (λ b. counts b && is_reached cover b) (blocks n) in
       omega arith
 
   module _ (b : Block) (block : IsBlock n b) (passes : counts b ≡ true) (reached : is_reached cover b ≡ true) where
-    cost_is : cost counts segs cover b ≡ price segs cover b
+    cost_is : look_cost counts segs cover b ≡ price segs cover b
     cost_is = ap (λ t. cond t (price segs cover b) 0) (and_from (counts b) (is_reached cover b) passes reached)
 
     pub due_leaf : (ids : List ℕ) → AreIdsAt segs cover b ids → 12 + 6 * length ids ≤ due n counts segs cover b
     due_leaf ids at =
-        let own = itself_le (cost counts segs cover) (blocks n) b (side_pos n b block) (Contains-blocks n b block) in
-        let is : cost counts segs cover b ≡ 12 + 6 * segs_meeting segs b = cost_is ∙ ap (λ t. cond t (12 + 6 * segs_meeting segs b) 12) at.there in
+        let own = itself_le (look_cost counts segs cover) (blocks n) b (side_pos n b block) (Contains-blocks n b block) in
+        let is : look_cost counts segs cover b ≡ 12 + 6 * segs_meeting segs b = cost_is ∙ ap (λ t. cond t (12 + 6 * segs_meeting segs b) 12) at.there in
         let many : length ids ≡ segs_meeting segs b =
         ap length at.are ∙ length-map (meeting segs b) (λ (e : ℕ × Seg). e.0)
         ∙ length-filter (λ (z : ℕ × Seg). meets z.1 (square b)) (finmap.entries segs) in
         omega arith
 
     module _ (cut : finset.contains cover b ≡ false) where
-      cut_is : cost counts segs cover b ≡ 12
+      cut_is : look_cost counts segs cover b ≡ 12
       cut_is = cost_is ∙ ap (λ t. cond t (12 + 6 * segs_meeting segs b) 12) cut
 
       pub due_cut : 12 ≤ due n counts segs cover b
       due_cut =
-          let own = itself_le (cost counts segs cover) (blocks n) b (side_pos n b block) (Contains-blocks n b block) in
+          let own = itself_le (look_cost counts segs cover) (blocks n) b (side_pos n b block) (Contains-blocks n b block) in
           let is = cut_is in
           omega arith
 
       pub due_split : 1 < b.side → 12 + sum_by (due n counts segs cover) (quarters_of b) ≤ due n counts segs cover b
       due_split wide =
-          let own = quarters_le (cost counts segs cover) (blocks n) b wide (Contains-blocks n b block) in
+          let own = quarters_le (look_cost counts segs cover) (blocks n) b wide (Contains-blocks n b block) in
           let is = cut_is in
           omega arith
 
 -- ---- blocks whose parent is met
-or_right : (a b : Bool) → b ≡ true → (a || b) ≡ true
-or_right true b e = refl
-or_right false b e = e
-
-or_left : (a b : Bool) → a ≡ true → (a || b) ≡ true
-or_left true b e = refl
-or_left false b e = absurd (let no : false ≡ true = e in cc)
-
 pub whole_above : (n : ℕ) (s : Seg) → is_met_above n s (whole n) ≡ true
 whole_above n s = or_left (is_whole n (whole n)) (meets s (square (parent_of (whole n)))) (eq-eqb (side n) (side n) refl)
 

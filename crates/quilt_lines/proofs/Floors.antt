@@ -4,6 +4,7 @@ use Rattle.std.proofs.Common.{sym, ◌∙◌, ap, subst, ◌⊎◌, inl, inr, �
 use Rattle.std.specs.List.{last_or}
 use Rattle.std.specs.Ordering.{is_le}
 use Rattle.std.proofs.lemmas.Bool.{and_parts, and_from, cases_Bool, both_ways}
+use Rattle.std.proofs.lemmas.Option.{none-some, same_Some}
 use Rattle.quilt_types.specs.Sets as finset
 use Rattle.quilt_types.specs.declared.plane.Block.{Block}
 use Rattle.quilt_types.specs.Plane.{IsBlock}
@@ -28,7 +29,6 @@ use Rattle.quilt_line_laws.proofs.SetLaws.{contains_is}
 use Rattle.quilt_near.specs.Lines.{meeting}
 use Rattle.quilt_lines.specs.Layers.{shown_facts, fact_record, SpellsLines, HasLines}
 use Rattle.quilt_lines.proofs.Keys.{item_key, AreAlike, in_range, range_alike}
-use Rattle.quilt_lines.proofs.Lookups.{none_some, same_some}
 use Rattle.quilt_lines.proofs.Shown.{first_key, shown_says, block_shown, on_alike, alike_on}
 use Rattle.quilt_lines.proofs.Trees.{tree_rises}
 
@@ -36,7 +36,7 @@ use Rattle.quilt_lines.proofs.Trees.{tree_rises}
 pub last_there : (o : Option Record) (xs : List Record) (r : Record) → last_or o xs ≡ Some r → Contains xs r ⊎ (o ≡ Some r)
 last_there o [] r e = inr e
 last_there o (x ∷ xs) r e =
-    ⊎_elim (λ c. inl (Contains-there x xs r c)) (λ is. inl (subst (Contains (x ∷ xs)) (same_some x r is) (Contains-here x xs))) (last_there (Some x) xs r e)
+    ⊎_elim (λ c. inl (Contains-there x xs r c)) (λ is. inl (subst (Contains (x ∷ xs)) (same_Some x r is) (Contains-here x xs))) (last_there (Some x) xs r e)
 
 -- a list of facts or the one that there are none has a first
 pub some_fact : (none : Fact) (fs : List Fact) → (f : Fact) × Contains (or_none none fs) f
@@ -65,7 +65,7 @@ module _ (rs : List Record) (layer n t : ℕ) (segs : SegMap) (cover : BlockSet)
   floor_from : (r : Record) → floor_of high rs ≡ Some r → is_le (key_cmp (first_key n layer b) r.key) ≡ true → finset.contains cover b ≡ true
   unfolding floor_of
   floor_from r e from =
-      let c = ⊎_elim (λ d. d) (λ no. absurd (none_some r no)) (last_there None (filter (is_at_most high) rs) r e) in
+      let c = ⊎_elim (λ d. d) (λ no. absurd (none-some r no)) (last_there None (filter (is_at_most high) rs) r e) in
       let w = Contains-filter_from (is_at_most high) rs r c in
       let a = range_alike (first_key n layer b) r 4294967295 (and_from (is_le (key_cmp (first_key n layer b) r.key)) (is_le (key_cmp r.key high)) from w.1) in
       let m = Contains-map_from (fact_record n layer) (shown_facts segs cover) r (spells.only r w.0 (sym a.layer)) in
@@ -75,7 +75,7 @@ module _ (rs : List Record) (layer n t : ℕ) (segs : SegMap) (cover : BlockSet)
 
   pub floor_none : floor_of high rs ≡ None → false ≡ finset.contains cover b
   floor_none e =
-      ⊎_elim (λ yes. let f = floor_there yes in absurd (none_some f.0 (sym e ∙ f.1))) (λ no. sym no) (cases_Bool (finset.contains cover b))
+      ⊎_elim (λ yes. let f = floor_there yes in absurd (none-some f.0 (sym e ∙ f.1))) (λ no. sym no) (cases_Bool (finset.contains cover b))
 
   pub floor_some : (r : Record) → floor_of high rs ≡ Some r → is_le (key_cmp (first_key n layer b) r.key) ≡ finset.contains cover b
   floor_some r e =
@@ -85,7 +85,7 @@ module _ (rs : List Record) (layer n t : ℕ) (segs : SegMap) (cover : BlockSet)
       (λ yes.
       let f = floor_there yes in
       absurd (both_ways (is_le (key_cmp (first_key n layer b) r.key)) no
-      (subst (λ (z : Record). is_le (key_cmp (first_key n layer b) z.key) ≡ true) (same_some f.0 r (sym f.1 ∙ e)) f.2)))
+      (subst (λ (z : Record). is_le (key_cmp (first_key n layer b) z.key) ≡ true) (same_Some f.0 r (sym f.1 ∙ e)) f.2)))
       (λ away. no ∙ sym away) (cases_Bool (finset.contains cover b))) (cases_Bool (is_le (key_cmp (first_key n layer b) r.key)))
 
 -- ---- what is read of a tree that has the layer

@@ -1,15 +1,16 @@
 -- The records of segments whose ids follow one another, as a range of the tree's.
 use Rattle.std.proofs.Common.{◌≡◌, ℕ, ◌+◌, ◌-◌, ◌<◌, ◌≤◌, ◌&&◌, nat_le, leb-true, le-leb, true, List, map, filter, length, Some, sym, ◌∙◌, ap, subst, arith}
-use Rattle.std.proofs.Common.{Bool, false, not, cond, count_by, suc, None, [], ◌∷◌, ◌*◌, Contains, nat_cmp, Ordering, Less, Equal, Greater, get_or, take, refl, Option}
-use Rattle.std.specs.Cmp.{nat_cmp_total, ranked}
+use Rattle.std.proofs.Common.{Bool, false, not, cond, count_by, suc, None, [], ◌∷◌, ◌*◌, Contains, nat_cmp, get_or, take, refl, Option}
+use Rattle.std.specs.Cmp.{nat_cmp_total}
 use Rattle.std.specs.FinMap as finmap
 use Rattle.std.specs.Option.{is_none}
 use Rattle.std.proofs.lemmas.List.Sums.{length-filter, count_by_more_yes, count_by_more_no}
 use Rattle.std.specs.List.{range_with_len}
-use Rattle.std.specs.Ordering.{is_le, MatchOrdering}
+use Rattle.std.specs.Ordering.{is_le}
 use Rattle.std.proofs.lemmas.Bool.{and_parts, and_from}
-use Rattle.std.proofs.lemmas.List.{get_or-map, length-map, take_all}
+use Rattle.std.proofs.lemmas.List.{get_or-map, length-map, take_all, take-map}
 use Rattle.std.proofs.lemmas.List.FromFn.{length-range_with_len, get_or-range_with_len}
+use Rattle.std.proofs.lemmas.Map.Keys.{le_from_is_le}
 use Rattle.quilt_types.specs.declared.plane.Seg.{Seg}
 use Rattle.quilt_types.specs.Layers.{SegMap, BlockSet, is_in_square}
 use Rattle.quilt_types.specs.Facts.{IsSegment}
@@ -34,21 +35,10 @@ use Rattle.quilt_spell.proofs.Written.{by_key_total}
 use Rattle.quilt_line_laws.proofs.LineFacts.{got, entry}
 use Rattle.quilt_lines.specs.Layers.{shown_facts, fact_record, SpellsLines, HasLines}
 use Rattle.quilt_lines.specs.Reads.{segment_key, ids_of}
-use Rattle.quilt_lines.proofs.Keys.{item_key, AreAlike, between_alike, by_item, le_item}
-use Rattle.quilt_lines.proofs.Shown.{shown_says, segment_shown, segment_alike, segment_laid}
+use Rattle.quilt_lines.proofs.Keys.{AreAlike, between_alike, by_item, le_item}
+use Rattle.quilt_lines.proofs.Shown.{shown_says, segment_shown, segment_alike}
 use Rattle.quilt_lines.proofs.Trees.{tree_rises}
-
-le_by : (i j : ℕ) (o : Ordering) → MatchOrdering o (i < j) (i ≡ j) (j < i) → is_le o ≡ true → i ≤ j
-le_by i j Less h e = omega arith
-le_by i j Equal h e = omega arith
-le_by i j Greater h e = cc
-
-le_from : (i j : ℕ) → is_le (nat_cmp i j) ≡ true → i ≤ j
-le_from i j e = le_by i j (nat_cmp i j) (ranked i j (nat_cmp i j) refl) e
-
--- the record of a segment with its id
-abbrev pub row : ℕ → ℕ → ℕ × Seg → Record
-row n layer e = fact_record n layer (IsSegment e.0 e.1)
+use Rattle.quilt_lines.proofs.Scans.{row, no_segment, row_said}
 
 -- a segment whose id is one of those from a to last
 pub record IsOfRun (n layer : ℕ) (segs : SegMap) (a last : ℕ) (r : Record) : Type 0 where
@@ -72,8 +62,8 @@ module _ (rs : List Record) (layer n t : ℕ) (segs : SegMap) (cover : BlockSet)
         seg = s.0;
         got = s.2;
         is = is;
-        from = le_from a s.0.0 (sym (ap is_le (by_item low a s.0.0)) ∙ ap (λ (z : Record). is_le (key_cmp (segment_key layer a) z.key)) (sym is) ∙ both.0);
-        upto = le_from s.0.0 last (sym (ap is_le (by_item low s.0.0 last)) ∙ ap (λ (z : Record). is_le (key_cmp z.key (segment_key layer last))) (sym is) ∙ both.1);
+        from = le_from_is_le a s.0.0 (sym (ap is_le (by_item low a s.0.0)) ∙ ap (λ (z : Record). is_le (key_cmp (segment_key layer a) z.key)) (sym is) ∙ both.0);
+        upto = le_from_is_le s.0.0 last (sym (ap is_le (by_item low s.0.0 last)) ∙ ap (λ (z : Record). is_le (key_cmp z.key (segment_key layer last))) (sym is) ∙ both.1);
       }
 
   in_run : (a last : ℕ) (e : ℕ × Seg) → a ≤ e.0 → e.0 ≤ last → is_from_to (segment_key layer a) (segment_key layer last) (row n layer e) ≡ true
@@ -159,56 +149,54 @@ module _ (told : Option (List (List ℕ))) (tree : Tree) (layer n t : ℕ) (segs
       range h.records h.is_tree ∙ ap (λ (k : Key). take count (filter (is_from_to k high) h.records)) first
       ∙ ap (λ (k : Key). take count (filter (is_from_to (segment_key layer a) k) h.records)) last
 
-  -- what a record of the range says is a segment of the layer
-  pub said_is : (i : ℕ) (d : Record) → i < length items → (said : Option (ℕ × Seg))
-      → ((id : ℕ) (s : Seg) → get_or items i d ≡ fact_record n layer (IsSegment id s) → FactFits n (IsSegment id s) → is_in_square n s ≡ true → said ≡ Some (id, s))
-      → (e : ℕ × Seg) × (finmap.get segs e.0 ≡ Some e.1) × (said ≡ Some e)
-  said_is i d lt said reads =
-      let range' = is_from_to (segment_key layer a) (segment_key layer (a + count - 1)) in
-      let c = subst (λ (z : List Record). Contains z (get_or items i d)) items_are (member_at items i d lt) in
-      let k = Contains-filter_from range' h.records (get_or items i d)
-      (taken_there (filter range' h.records) count (get_or items i d) c) in
-      let w = of_run h.records layer n t segs cover rises h.spelled a (a + count - 1) (get_or items i d) k.0 k.1 in
-      let laid = segment_laid n layer t segs cover h.spelled.valid le w.seg.0 w.seg.1 w.got in
-      (w.seg, w.got, reads w.seg.0 w.seg.1 w.is laid.fits laid.inside)
+  abbrev es : List (ℕ × Seg)
+  es = chosen h.records layer n t segs cover rises h.spelled a (a + count - 1)
+
+  rows_are : items ≡ map (row n layer) (take count es)
+  rows_are = items_are ∙ ap (take count) (range_is h.records layer n t segs cover rises h.spelled a (a + count - 1)) ∙ take-map (row n layer) count es
+
+  es_there : (e : ℕ × Seg) → Contains (take count es) e → finmap.get segs e.0 ≡ Some e.1
+  es_there e c = (chosen_from h.records layer n t segs cover rises h.spelled a (a + count - 1) e (taken_there es count e c)).got
+
+  module _ (i : ℕ) (d : Record) (lt : i < length items) (said : Option (ℕ × Seg))
+      (reads : (id : ℕ) (s : Seg) → get_or items i d ≡ fact_record n layer (IsSegment id s) → FactFits n (IsSegment id s) → is_in_square n s ≡ true
+      → said ≡ Some (id, s)) where
+    said_at : said ≡ Some (get_or (take count es) i no_segment)
+    said_at = row_said n layer t segs cover h.spelled.valid le (take count es) es_there items rows_are i d lt said reads
+
+    in_es : i < length (take count es)
+    in_es = let long = ap length rows_are ∙ length-map (take count es) (row n layer) in omega arith
+
+    -- what a record of the range says is a segment of the layer
+    pub said_is : (e : ℕ × Seg) × (finmap.get segs e.0 ≡ Some e.1) × (said ≡ Some e)
+    said_is =
+        let e = get_or (take count es) i no_segment in
+        (e, es_there e (member_at (take count es) i no_segment in_es), said_at)
 
   module _ (some : 1 ≤ count) (there : (id : ℕ) → a ≤ id → id < a + count → (s : Seg) × (finmap.get segs id ≡ Some s)) where
-    abbrev es : List (ℕ × Seg)
-    es = chosen h.records layer n t segs cover rises h.spelled a (a + count - 1)
-
-    ids_are : ids_of es ≡ range_with_len a count
-    ids_are = chosen_ids h.records layer n t segs cover rises h.spelled a count some there
-
-    many : length es ≡ count
-    many = sym (length-map es (λ (e : ℕ × Seg). e.0)) ∙ ap length ids_are ∙ length-range_with_len a count
-
-    rows_are : items ≡ map (row n layer) es
-    rows_are =
-        let is = range_is h.records layer n t segs cover rises h.spelled a (a + count - 1) in
-        let long = length-map es (row n layer) in
-        let m = many in
-        items_are ∙ ap (take count) is ∙ take_all count (map (row n layer) es) (omega arith)
+    ids_are : ids_of (take count es) ≡ range_with_len a count
+    ids_are =
+        let ids = chosen_ids h.records layer n t segs cover rises h.spelled a count some there in
+        let many = sym (length-map es (λ (e : ℕ × Seg). e.0)) ∙ ap length ids ∙ length-range_with_len a count in
+        ap ids_of (take_all count es (omega arith)) ∙ ids
 
     -- the range has as many records as there are ids
     pub run_whole : length items ≡ count
-    run_whole = ap length rows_are ∙ length-map es (row n layer) ∙ many
+    run_whole =
+        ap length rows_are ∙ length-map (take count es) (row n layer) ∙ sym (length-map (take count es) (λ (e : ℕ × Seg). e.0)) ∙ ap length ids_are
+        ∙ length-range_with_len a count
 
     -- and the next says the next of them
     pub run_next : (i : ℕ) (d : Record) → i < length items → (said : Option (ℕ × Seg))
         → ((id : ℕ) (s : Seg) → get_or items i d ≡ fact_record n layer (IsSegment id s) → FactFits n (IsSegment id s) → is_in_square n s ≡ true
         → said ≡ Some (id, s)) → (s : Seg) × (said ≡ Some (a + i, s))
     run_next i d lt said reads =
-        let none : ℕ × Seg = (0, record { y2 = 0; x2 = 0; y1 = 0; x1 = 0 }) in
-        let e = get_or es i none in
-        let m = many in
+        let e = get_or (take count es) i no_segment in
         let whole = run_whole in
         let id : e.0 ≡ a + i =
-        sym (get_or-map (λ (z : ℕ × Seg). z.0) es i none 0 (omega arith)) ∙ ap (λ (l : List ℕ). get_or l i 0) ids_are
+        sym (get_or-map (λ (z : ℕ × Seg). z.0) (take count es) i no_segment 0 (in_es i d lt said reads)) ∙ ap (λ (l : List ℕ). get_or l i 0) ids_are
         ∙ get_or-range_with_len a count i 0 (omega arith) in
-        let c = chosen_from h.records layer n t segs cover rises h.spelled a (a + count - 1) e (member_at es i none (omega arith)) in
-        let laid = segment_laid n layer t segs cover h.spelled.valid le e.0 e.1 c.got in
-        let at : get_or items i d ≡ row n layer e = ap (λ (l : List Record). get_or l i d) rows_are ∙ get_or-map (row n layer) es i none d (omega arith) in
-        (e.1, reads e.0 e.1 at laid.fits laid.inside ∙ ap (λ (z : ℕ). Some (z, e.1)) id)
+        (e.1, said_at i d lt said reads ∙ ap (λ (z : ℕ). Some (z, e.1)) id)
 
 -- ---- what is read for ids of which some are known
 -- one id more: it is read only where it was not known

@@ -1,7 +1,8 @@
 -- What a record of the layer's blocks, found anywhere, says of them.
-use Rattle.std.proofs.Common.{◌≡◌, ℕ, ◌<◌, ◌≤◌, ◌&&◌, nat_lt, true, false, List, [], Option, Some, None, refl, sym, ◌∙◌, ap, subst, arith, Contains, filter, ⊎_elim}
+use Rattle.std.proofs.Common.{◌≡◌, ℕ, ◌≤◌, ◌&&◌, nat_lt, true, false, List, [], Option, Some, None, refl, sym, ◌∙◌, ap, subst, arith, Contains, filter, ⊎_elim}
 use Rattle.std.proofs.Common.{true≢false, ltb-true}
 use Rattle.std.proofs.lemmas.Bool.{and_parts, cases_Bool}
+use Rattle.std.proofs.lemmas.Option.{none-some}
 use Rattle.quilt_types.specs.Sets as finset
 use Rattle.quilt_types.specs.declared.plane.Block.{Block}
 use Rattle.quilt_types.specs.declared.plane.Pixel.{Pixel}
@@ -26,7 +27,6 @@ use Rattle.quilt_lines.specs.Layers.{shown_facts, fact_record, SpellsLines, HasL
 use Rattle.quilt_lines.specs.Hints.{is_cut, IsOfCover}
 use Rattle.quilt_lines.proofs.Floors.{last_there}
 use Rattle.quilt_lines.proofs.Keys.{AreAlike}
-use Rattle.quilt_lines.proofs.Lookups.{none_some}
 use Rattle.quilt_lines.proofs.Shown.{first_key, shown_says, on_alike}
 
 -- the pixel that a block of the level holds is one of it
@@ -42,7 +42,7 @@ pixel_block n b p h e =
 pub floor_there : (k : Key) (rs : List Record) (r : Record) → floor_of k rs ≡ Some r → Contains rs r
 unfolding floor_of
 floor_there k rs r e =
-    let c = ⊎_elim (λ d. d) (λ no. absurd (none_some r no)) (last_there None (filter (is_at_most k) rs) r e) in
+    let c = ⊎_elim (λ d. d) (λ no. absurd (none-some r no)) (last_there None (filter (is_at_most k) rs) r e) in
     (Contains-filter_from (is_at_most k) rs r c).0
 
 module _ (rs : List Record) (layer n t : ℕ) (segs : SegMap) (cover : BlockSet) (spells : SpellsLines rs layer n t segs cover) (le : n ≤ 12) (r : Record)

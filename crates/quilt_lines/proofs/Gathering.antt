@@ -18,7 +18,7 @@ use Rattle.quilt_line_laws.specs.Merging.{is_one, coming_in, going_in, staying_i
 use Rattle.quilt_line_laws.specs.Counting.{gone_of_quarter}
 use Rattle.quilt_lines.specs.declared.merging.Settled.{Settled}
 use Rattle.quilt_lines.specs.Layers.{fact_record}
-use Rattle.quilt_lines.specs.Merges.{records_on, met_by, Settles, Gathers, IsGathered}
+use Rattle.quilt_lines.specs.Merges.{records_on, met_by, SettlesBlock, Gathers, IsGathered}
 use Rattle.quilt_lines.proofs.plans.MergeSteps.{ids_are}
 
 -- the records of the blocks that a function gives of one block more
@@ -57,7 +57,7 @@ module _ (n layer t id : ℕ) (segs : SegMap) (cover : BlockSet) (s : Seg) (k : 
     emptied = emptied;
   }
 
-  pub gathers_next : (bs : List Block) (b : Block) (x y z : Settled) → Gathers n layer t id segs cover s k bs x → Settles n layer t id segs cover s k b y
+  pub gathers_next : (bs : List Block) (b : Block) (x y z : Settled) → Gathers n layer t id segs cover s k bs x → SettlesBlock n layer t id segs cover s k b y
       → IsGathered t x y z
       → Gathers n layer t id segs cover s k (bs ++ b ∷ []) z
   gathers_next bs b x y z g h w =

@@ -6,6 +6,7 @@ pub mod Lookups
 pub mod Listed
 pub mod Sums
 pub mod Scans
+pub mod Taken
 pub mod Spelled
 pub mod Gathering
 pub mod Permutations

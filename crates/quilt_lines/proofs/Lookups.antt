@@ -1,7 +1,7 @@
 -- What a look-up of a segment finds.
 use Rattle.std.proofs.Common.{◌≡◌, ℕ, ◌≤◌, List, Option, Some, None, IfSome, true, ◌⊎◌, inl, inr, ⊎_elim, refl, sym, ◌∙◌, ap, subst}
-use Rattle.std.specs.Prelude.{MatchOption}
 use Rattle.std.specs.FinMap as finmap
+use Rattle.std.proofs.lemmas.Option.{none-some}
 use Rattle.quilt_types.specs.declared.plane.Seg.{Seg}
 use Rattle.quilt_types.specs.Layers.{SegMap, BlockSet, is_in_square}
 use Rattle.quilt_types.specs.Facts.{IsSegment}
@@ -26,23 +26,9 @@ pub none_or_some : {X : Type 0} (o : Option X) → (o ≡ None) ⊎ ((x : X) × 
 none_or_some None = inl refl
 none_or_some (Some x) = inr (x, refl)
 
-pub none_some : {X : Type 0} (x : X) → None ≡ Some x → ⊥
-none_some x e = cc
-
-pub same_some : {X : Type 0} (x y : X) → Some x ≡ Some y → x ≡ y
-same_some x y e = cc
-
 pub if_some_at : {X : Type 0} (o : Option X) (P : X → Type 0) (x : X) → o ≡ Some x → IfSome o P → P x
-if_some_at None P x e h = absurd (none_some x e)
+if_some_at None P x e h = absurd (none-some x e)
 if_some_at (Some y) P x e h = subst P (let same : y ≡ x = cc in same) h
-
-pub match_none : {X : Type 0} (o : Option X) (P : Type 0) (Q : X → Type 0) → o ≡ None → MatchOption o P Q → P
-match_none None P Q e h = h
-match_none (Some x) P Q e h = absurd (none_some x (sym e))
-
-pub match_some : {X : Type 0} (o : Option X) (P : Type 0) (Q : X → Type 0) (x : X) → o ≡ Some x → MatchOption o P Q → Q x
-match_some None P Q x e h = absurd (none_some x e)
-match_some (Some y) P Q x e h = subst Q (let same : y ≡ x = cc in same) h
 
 -- ---- values of keys
 module _ (rs : List Record) (layer n t : ℕ) (segs : SegMap) (cover : BlockSet) (up : Rises by_key rs) (spells : SpellsLines rs layer n t segs cover) where
@@ -67,7 +53,7 @@ module _ (rs : List Record) (layer n t : ℕ) (segs : SegMap) (cover : BlockSet)
         depth = ap (λ (k : Key). k.depth) back;
       }) in
       let same : s.0.0 ≡ id = ap (λ f. (fact_record n layer f).key.item) (sym s.1) ∙ ap (λ (k : Key). k.item) key in
-      none_some s.0.1 (sym h ∙ ap (finmap.get segs) (sym same) ∙ s.2)))
+      none-some s.0.1 (sym h ∙ ap (finmap.get segs) (sym same) ∙ s.2)))
 
 -- ---- what is read of it
 -- the value that a look-up gave is that of the segment of the id
@@ -90,7 +76,7 @@ module _ (told : Option (List (List ℕ))) (tree : Tree) (layer n t : ℕ) (segs
       ⊎_elim (λ e. sym e)
       (λ w.
       let there = value_there h.records layer n t segs cover rises h.spelled id w.0 w.1 in
-      absurd (none_some (fact_record n layer (IsSegment id w.0)).value (sym none ∙ value_is ∙ there)))
+      absurd (none-some (fact_record n layer (IsSegment id w.0)).value (sym none ∙ value_is ∙ there)))
       (none_or_some (finmap.get segs id))
 
   pub found : (v : List ℕ) → o ≡ Some v → n ≤ 12 → (said : Option (ℕ × Seg))
@@ -98,7 +84,7 @@ module _ (told : Option (List (List ℕ))) (tree : Tree) (layer n t : ℕ) (segs
       → is_in_square n s ≡ true → said ≡ Some (i, s)) → IsFound segs id said
   found v some le said reads =
       ⊎_elim
-      (λ e. absurd (none_some v (sym (value_is ∙ value_away h.records layer n t segs cover rises h.spelled id e) ∙ some)))
+      (λ e. absurd (none-some v (sym (value_is ∙ value_away h.records layer n t segs cover rises h.spelled id e) ∙ some)))
       (λ w.
       let there = value_there h.records layer n t segs cover rises h.spelled id w.0 w.1 in
       let both : Some v ≡ Some (fact_record n layer (IsSegment id w.0)).value = sym some ∙ value_is ∙ there in

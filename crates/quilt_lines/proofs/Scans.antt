@@ -49,6 +49,27 @@ smallest_more list id s k all =
     (Contains-append_right list ((id, s) ∷ []) (id, s) (Contains-here (id, s) [])) in
     omega arith
 
+-- ---- what the records of segments say
+-- the record of a segment with its id
+abbrev pub row : ℕ → ℕ → ℕ × Seg → Record
+row n layer e = fact_record n layer (IsSegment e.0 e.1)
+
+abbrev pub no_segment : ℕ × Seg
+no_segment = (0, record { y2 = 0; x2 = 0; y1 = 0; x1 = 0 })
+
+-- the record at a place says the segment there, where the segments are some of a layer's
+pub row_said : (n layer t : ℕ) (segs : SegMap) (cover : BlockSet) → IsLineMap n t segs cover → n ≤ 12 → (es : List (ℕ × Seg))
+    → ((e : ℕ × Seg) → Contains es e → finmap.get segs e.0 ≡ Some e.1) → (records : List Record) → records ≡ map (row n layer) es → (i : ℕ) (d : Record)
+    → i < length records → (said : Option (ℕ × Seg)) → ((id : ℕ) (s : Seg) → get_or records i d ≡ fact_record n layer (IsSegment id s)
+    → FactFits n (IsSegment id s) → is_in_square n s ≡ true → said ≡ Some (id, s)) → said ≡ Some (get_or es i no_segment)
+row_said n layer t segs cover valid le es there records are i d lt said reads =
+    let many = length-map es (row n layer) in
+    let same = ap length are in
+    let here : i < length es = omega arith in
+    let e = get_or es i no_segment in
+    let laid = segment_laid n layer t segs cover valid le e.0 e.1 (there e (member_at es i no_segment here)) in
+    reads e.0 e.1 (ap (λ (l : List Record). get_or l i d) are ∙ get_or-map (row n layer) es i no_segment d here) laid.fits laid.inside
+
 -- ---- the next segment
 rising_take : {X : Type 0} (R : X → X → Ordering) (xs : List X) (i : ℕ) (d : X) → Rises R xs → i < length xs → (x : X) → Contains (take i xs) x
     → R x (get_or xs i d) ≡ Less
@@ -72,22 +93,18 @@ pub next_at : (n layer t : ℕ) (segs : SegMap) (cover : BlockSet) → IsLineMap
     → (said : Option (ℕ × Seg)) → ((id : ℕ) (s : Seg) → get_or records i d ≡ fact_record n layer (IsSegment id s) → FactFits n (IsSegment id s)
     → is_in_square n s ≡ true → said ≡ Some (id, s)) → IsNext n layer segs records i d said
 next_at n layer t segs cover valid le records i d lt is said reads =
-    let row : ℕ × Seg → Record = λ e. fact_record n layer (IsSegment e.0 e.1) in
     let es = finmap.entries segs in
-    let none : ℕ × Seg = (0, record { y2 = 0; x2 = 0; y1 = 0; x1 = 0 }) in
-    let rows : records ≡ map row es = is ∙ map_twice (fact_record n layer) (λ (e : ℕ × Seg). IsSegment e.0 e.1) es in
-    let many = length-map es row in
+    let rows : records ≡ map (row n layer) es = is ∙ map_twice (fact_record n layer) (λ (e : ℕ × Seg). IsSegment e.0 e.1) es in
+    let many = length-map es (row n layer) in
     let same = ap length rows in
     let here : i < length es = omega arith in
-    let e = get_or es i none in
-    let c = member_at es i none here in
-    let laid = segment_laid n layer t segs cover valid le e.0 e.1 (got segs e c) in
+    let e = get_or es i no_segment in
     record {
       next = e;
-      is_said = reads e.0 e.1 (ap (λ (l : List Record). get_or l i d) rows ∙ get_or-map row es i none d here) laid.fits laid.inside;
-      longer = take_next es i none here;
+      is_said = row_said n layer t segs cover valid le es (got segs) records rows i d lt said reads;
+      longer = take_next es i no_segment here;
       later = all_from (λ (x : ℕ × Seg). x.0 < e.0) (take i es)
-          (λ x m. nat_less_from x.0 e.0 (rising_take (by_first nat_cmp) es i none (Rises-entries nat_cmp segs) here x m));
+          (λ x m. nat_less_from x.0 e.0 (rising_take (by_first nat_cmp) es i no_segment (Rises-entries nat_cmp segs) here x m));
     }
 
 pub all_read : (n layer : ℕ) (segs : SegMap) (records : List Record) → records ≡ map (fact_record n layer) (segment_facts segs)

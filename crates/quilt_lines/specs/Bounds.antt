@@ -17,9 +17,9 @@ abbrev pub is_met_above : ℕ → Seg → Block → Bool
 is_met_above n s b = is_whole n b || meets s (square (parent_of b))
 
 -- what a look at a block may cost, if it passes the test and is one of the layer's or holds some
-abbrev pub cost : (Block → Bool) → SegMap → BlockSet → Block → ℕ
-cost counts segs cover b = if counts b && is_reached cover b then price segs cover b else 0
+abbrev pub look_cost : (Block → Bool) → SegMap → BlockSet → Block → ℕ
+look_cost counts segs cover b = if counts b && is_reached cover b then price segs cover b else 0
 
 -- what the blocks in a block may cost together
 abbrev pub due : ℕ → (Block → Bool) → SegMap → BlockSet → Block → ℕ
-due n counts segs cover b = budget (cost counts segs cover) (blocks n) b
+due n counts segs cover b = budget (look_cost counts segs cover) (blocks n) b

@@ -44,7 +44,7 @@ pub record AddsIds (most : ℕ) (old more new : List ℕ) : Type 0 where
 
 -- The segment s goes, which stands under the id. This becomes of a block of side 2 ^ k: whether it is one block, and then the
 -- ids that meet it and the records of the blocks that it was made of, and the records on the blocks that come, go and stay.
-pub record Settles (n layer t id : ℕ) (segs : SegMap) (cover : BlockSet) (s : Seg) (k : ℕ) (b : Block) (x : Settled) : Type 0 where
+pub record SettlesBlock (n layer t id : ℕ) (segs : SegMap) (cover : BlockSet) (s : Seg) (k : ℕ) (b : Block) (x : Settled) : Type 0 where
   pub one : x.one ≡ is_one t (finmap.remove segs id) cover s k b
   pub ids : x.one ≡ true → x.ids.items ≡ ids_of (meeting (finmap.remove segs id) b)
   pub parts : x.one ≡ true → x.parts.items ≡ records_on n layer (line_facts segs) (gone_of_quarter t (finmap.remove segs id) cover s k b)
@@ -54,8 +54,8 @@ pub record Settles (n layer t id : ℕ) (segs : SegMap) (cover : BlockSet) (s : 
   pub emptied : x.emptied.items ≡ records_on n layer (none_on (finmap.remove segs id)) (staying_in t (finmap.remove segs id) cover s k b)
 
 -- this becomes of a block of side 2 ^ k when the segment of a removal goes
-abbrev pub Becomes : Removal → SegMap → BlockSet → ℕ → Block → Settled → Type 0
-Becomes r segs cover k b x = Settles r.level r.layer r.threshold r.id segs cover r.segment k b x
+abbrev pub BecomesSettled : Removal → SegMap → BlockSet → ℕ → Block → Settled → Type 0
+BecomesSettled r segs cover k b x = SettlesBlock r.level r.layer r.threshold r.id segs cover r.segment k b x
 
 -- The same of several blocks together, with the ids that meet one of them: all of them, or more than the threshold.
 pub record Gathers (n layer t id : ℕ) (segs : SegMap) (cover : BlockSet) (s : Seg) (k : ℕ) (bs : List Block) (x : Settled) : Type 0 where

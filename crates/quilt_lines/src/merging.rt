@@ -10,7 +10,7 @@ ghost use Rattle.quilt_types.specs.Layers.{SegMap, BlockSet};
 ghost use Rattle.quilt_record.specs.Canonical.{pair_fact};
 ghost use Rattle.quilt_lines.specs.Layers.{fact_record};
 ghost use Rattle.quilt_lines.specs.Reads.{AreIdsAt};
-ghost use Rattle.quilt_lines.specs.Merges.{pair_facts, AddsIds, Becomes, Gathers, IsMerged, IsGathered};
+ghost use Rattle.quilt_lines.specs.Merges.{pair_facts, AddsIds, BecomesSettled, Gathers, IsMerged, IsGathered};
 
 use crate::removal::Removal;
 use quilt_clip::meets;
@@ -119,7 +119,7 @@ impl Removal {
     /// What becomes of one of the layer's blocks, which these ids meet.
     pub(crate) fn kept(&self, alloc: Global, b: Block, ids: &[u32]) -> Result<Settled, AllocError>
         requires { IsBlock self.now.level b }
-        ensures { IfOk result (λ x. (k : ℕ) (segs : SegMap) (cover : BlockSet) → AreIdsAt segs cover b ids.now → Becomes self.now segs cover k b x) }
+        ensures { IfOk result (λ x. (k : ℕ) (segs : SegMap) (cover : BlockSet) → AreIdsAt segs cover b ids.now → BecomesSettled self.now segs cover k b x) }
     {
         let others = without(alloc, ids, self.id)?;
         let met = meets(self.segment, b);
@@ -149,7 +149,7 @@ impl Removal {
         ensures { IfOk result (λ x. (k : ℕ) (segs : SegMap) (cover : BlockSet) → b.side ≡ side (ℕ.suc k) →
             finset.contains cover b ≡ false → segment_meets self.now.segment (square b) ≡ true →
             Gathers self.now.level self.now.layer self.now.threshold self.now.id segs cover self.now.segment k (quarters_of b) quarters →
-            Becomes self.now segs cover (ℕ.suc k) b x) }
+            BecomesSettled self.now segs cover (ℕ.suc k) b x) }
     {
         if !self.is_one_now(&quarters) {
             return Ok(Settled {

@@ -12,7 +12,7 @@ ghost use Rattle.quilt_store.specs.Stops.{IsSound};
 ghost use Rattle.quilt_btree.specs.Trees.{IsRooted};
 ghost use Rattle.quilt_edits.specs.Edits.{AreInOrder};
 ghost use Rattle.quilt_lines.specs.Layers.{HasLines, fact_record};
-ghost use Rattle.quilt_lines.specs.Merges.{Becomes, IsRemovalPlan};
+ghost use Rattle.quilt_lines.specs.Merges.{BecomesSettled, IsRemovalPlan};
 ghost use Rattle.quilt_lines.specs.Plans.{IsLinePlan};
 ghost use Rattle.quilt_lines.specs.Bounds.{is_met_above};
 
@@ -109,11 +109,11 @@ impl Removal {
     /// The records that go and those that come, by what becomes of the whole square.
     fn edits(&self, alloc: Global, all: &Settled) -> Result<Edits, Stop>
         ensures plan { IfOk result (λ edits. (segs : SegMap) (cover : BlockSet) → IsLineMap self.now.level self.now.threshold segs cover →
-            finmap.get segs self.now.id ≡ Some self.now.segment → Becomes self.now segs cover self.now.level (whole self.now.level) all.now →
+            finmap.get segs self.now.id ≡ Some self.now.segment → BecomesSettled self.now segs cover self.now.level (whole self.now.level) all.now →
             IsRemovalPlan self.now segs cover edits) }
         ensures order { IfOk result AreInOrder }
         ensures sound { IfErr result (λ e. (segs : SegMap) (cover : BlockSet) → IsLineMap self.now.level self.now.threshold segs cover →
-            finmap.get segs self.now.id ≡ Some self.now.segment → Becomes self.now segs cover self.now.level (whole self.now.level) all.now →
+            finmap.get segs self.now.id ≡ Some self.now.segment → BecomesSettled self.now segs cover self.now.level (whole self.now.level) all.now →
             IsSound e) }
         ensures no_fault { IsErrOf result Device → ⊥ }
     {

@@ -10,7 +10,7 @@ ghost use Rattle.quilt_world.specs.Tale.{Goes};
 ghost use Rattle.quilt_store.specs.Stops.{IsSound};
 ghost use Rattle.quilt_btree.specs.Trees.{IsRooted};
 ghost use Rattle.quilt_lines.specs.Layers.{HasLines};
-ghost use Rattle.quilt_lines.specs.Merges.{Becomes};
+ghost use Rattle.quilt_lines.specs.Merges.{BecomesSettled};
 ghost use Rattle.quilt_lines.specs.Bounds.{is_met_above, due};
 ghost use Rattle.quilt_lines.specs.Searches.{IsLineSearch};
 
@@ -40,7 +40,7 @@ impl Removal {
         requires search { IsLineSearch (S.told store.old) tree.now self.now.level self.now.layer search.old }
         requires block { IsBlock self.now.level b }
         ensures settled { IfOk result (λ x. (k : ℕ) (segs : SegMap) (cover : BlockSet) → b.side ≡ side k →
-            HasLines (S.told store.old) tree.now self.now.layer self.now.level self.now.threshold segs cover → Becomes self.now segs cover k b x) }
+            HasLines (S.told store.old) tree.now self.now.layer self.now.level self.now.threshold segs cover → BecomesSettled self.now segs cover k b x) }
         ensures search { OnOk result (IsLineSearch (S.told store.old) tree.now self.now.level self.now.layer search.new) }
         ensures sound { IfErr result (λ e. (segs : SegMap) (cover : BlockSet) →
             HasLines (S.told store.old) tree.now self.now.layer self.now.level self.now.threshold segs cover → IsSound e) }
@@ -96,7 +96,7 @@ impl Removal {
         requires met { segment_meets self.now.segment (square b) ≡ true }
         ensures settled { IfOk result (λ x. (k : ℕ) (segs : SegMap) (cover : BlockSet) → b.side ≡ side k →
             HasLines (S.told store.old) tree.now self.now.layer self.now.level self.now.threshold segs cover →
-            finset.contains cover b ≡ false → Becomes self.now segs cover k b x) }
+            finset.contains cover b ≡ false → BecomesSettled self.now segs cover k b x) }
         ensures search { OnOk result (IsLineSearch (S.told store.old) tree.now self.now.level self.now.layer search.new) }
         ensures sound { IfErr result (λ e. (segs : SegMap) (cover : BlockSet) →
             HasLines (S.told store.old) tree.now self.now.layer self.now.level self.now.threshold segs cover → IsSound e) }

@@ -2,7 +2,7 @@
 use Rattle.std.proofs.Common.{◌≡◌, ℕ, zero, suc, ◌+◌, ◌-◌, ◌*◌, ◌/◌, ◌%◌, ◌<◌, ◌≤◌, Bool, true, false, cond, eqb, eq-eqb, Option, Some, None, Contains, ⊎_elim}
 use Rattle.std.proofs.Common.{sum_by, refl, sym, ◌∙◌, ap, ap₂, subst, arith}
 use Rattle.std.specs.Prelude.{if◌then◌else◌}
-use Rattle.std.proofs.lemmas.Bool.{cases_lt, both_ways}
+use Rattle.std.proofs.lemmas.Bool.{cases_lt, both_ways, eqb-false}
 use Rattle.std.proofs.lemmas.Nat.{mod-mul-add, div-add-mod'}
 use Rattle.quilt_types.specs.declared.plane.Pixel.{Pixel}
 use Rattle.quilt_types.specs.declared.plane.Block.{Block}
@@ -13,7 +13,7 @@ use Rattle.quilt_loc.proofs.Quartered.{IsQuarter, quarters_are, Within-whole}
 use Rattle.quilt_blocks.specs.Mosaic.{HasColour}
 use Rattle.quilt_measure.specs.declared.bounding.Side.{Side}
 use Rattle.quilt_measure.specs.declared.bounding.Side.TheVariants.{Left, Right, Top, Bottom}
-use Rattle.quilt_measure.specs.Edges.{pixel, block, place, differs, bare, behind_of, opposite_of, halves_of}
+use Rattle.quilt_measure.specs.Edges.{pixel_from, block, place, differs, bare_side, behind_of, opposite_of, halves_of}
 use Rattle.quilt_measure.proofs.Ranges.{below_same, below_constant, below_split}
 
 -- the pixels along a side are the block's
@@ -43,21 +43,21 @@ second_half on n b h wide = quarters_are n b (halves_of on b).1 h wide (second_i
 
 place_first : (on : Side) (b : Block) (u t : ℕ) → 2 * u ≡ b.side → 0 < u → place on (halves_of on b).0 t ≡ place on b t
 place_first Left b u t e p = refl
-place_first Right b u t e p = let x : b.x + b.side / 2 + b.side / 2 - 1 ≡ b.x + b.side - 1 = omega arith in ap (λ z. pixel z (b.y + t)) x
+place_first Right b u t e p = let x : b.x + b.side / 2 + b.side / 2 - 1 ≡ b.x + b.side - 1 = omega arith in ap (λ z. pixel_from z (b.y + t)) x
 place_first Top b u t e p = refl
-place_first Bottom b u t e p = let y : b.y + b.side / 2 + b.side / 2 - 1 ≡ b.y + b.side - 1 = omega arith in ap (pixel (b.x + t)) y
+place_first Bottom b u t e p = let y : b.y + b.side / 2 + b.side / 2 - 1 ≡ b.y + b.side - 1 = omega arith in ap (pixel_from (b.x + t)) y
 
 place_second : (on : Side) (b : Block) (u t : ℕ) → 2 * u ≡ b.side → 0 < u → place on (halves_of on b).1 t ≡ place on b (u + t)
-place_second Left b u t e p = let y : b.y + b.side / 2 + t ≡ b.y + (u + t) = omega arith in ap (pixel b.x) y
+place_second Left b u t e p = let y : b.y + b.side / 2 + t ≡ b.y + (u + t) = omega arith in ap (pixel_from b.x) y
 place_second Right b u t e p =
     let x : b.x + b.side / 2 + b.side / 2 - 1 ≡ b.x + b.side - 1 = omega arith in
     let y : b.y + b.side / 2 + t ≡ b.y + (u + t) = omega arith in
-    ap₂ pixel x y
-place_second Top b u t e p = let x : b.x + b.side / 2 + t ≡ b.x + (u + t) = omega arith in ap (λ z. pixel z b.y) x
+    ap₂ pixel_from x y
+place_second Top b u t e p = let x : b.x + b.side / 2 + t ≡ b.x + (u + t) = omega arith in ap (λ z. pixel_from z b.y) x
 place_second Bottom b u t e p =
     let x : b.x + b.side / 2 + t ≡ b.x + (u + t) = omega arith in
     let y : b.y + b.side / 2 + b.side / 2 - 1 ≡ b.y + b.side - 1 = omega arith in
-    ap₂ pixel x y
+    ap₂ pixel_from x y
 
 -- a sum along a side by the two quarters there
 pub along_halves : (f : Pixel → ℕ) (on : Side) (n : ℕ) (b : Block) → IsBlock n b → 1 < b.side
@@ -125,14 +125,11 @@ not_chosen : (t : Bool) (w : Block) → None ≡ (if t then None else Some w) �
 not_chosen true w e = refl
 not_chosen false w e = absurd (cc)
 
-apart_from : (a b : ℕ) → eqb a b ≡ false → a ≡ b → ⊥
-apart_from a b f e = both_ways (eqb a b) f (eq-eqb a b e)
-
 -- the block behind a side: what stands along it is what stands behind this one's
 pub record IsBehind (n : ℕ) (on : Side) (b q : Block) : Type 0 where
   pub valid : IsBlock n q
   pub size : q.side ≡ b.side
-  pub each : (g : Grid) (c t : ℕ) → t < b.side → bare on n g c (place on b t) ≡ differs n g c (place (opposite_of on) q t)
+  pub each : (g : Grid) (c t : ℕ) → t < b.side → bare_side on n g c (place on b t) ≡ differs n g c (place (opposite_of on) q t)
 
 bare_in : (out : Bool) (n : ℕ) (g : Grid) (c : ℕ) (p q : Pixel) → out ≡ false → p ≡ q → (if out then 1 else differs n g c p) ≡ differs n g c q
 bare_in out n g c p q e same = ap (λ t. if t then 1 else differs n g c p) e ∙ ap (differs n g c) same
@@ -144,53 +141,53 @@ pub behind_is : (on : Side) (n : ℕ) (b q : Block) → IsBlock n b → Some q �
 behind_is Left n b q h e =
     let w = chosen (eqb b.x 0) q (block (b.x - b.side) b.y b.side) e in
     let pos = side_pos n b h in
-    let apart = apart_from b.x 0 w.0 in
+    let apart = eqb-false b.x 0 w.0 in
     let in_x = h.in_x in
     let m = less_multiple b.x b.side pos h.on_x (⊎_elim (λ l. l) (λ z. absurd (apart (omega arith))) (cases_lt 0 b.x)) in
     let low = m.0 in
     subst (IsBehind n Left b) (sym w.1) (record {
       valid = record { level = h.level; low = h.low; size = h.size; on_x = m.1; on_y = h.on_y; in_x = omega arith; in_y = h.in_y };
       size = refl;
-      each = λ g c t lt. bare_in (eqb b.x 0) n g c _ _ w.0 (let x : b.x - 1 ≡ b.x - b.side + b.side - 1 = omega arith in ap (λ z. pixel z (b.y + t)) x);
+      each = λ g c t lt. bare_in (eqb b.x 0) n g c _ _ w.0 (let x : b.x - 1 ≡ b.x - b.side + b.side - 1 = omega arith in ap (λ z. pixel_from z (b.y + t)) x);
     })
 behind_is Right n b q h e =
     let w = chosen (eqb (b.x + b.side) (side n)) q (block (b.x + b.side) b.y b.side) e in
     let pos = side_pos n b h in
-    let apart = apart_from (b.x + b.side) (side n) w.0 in
+    let apart = eqb-false (b.x + b.side) (side n) w.0 in
     let fits = (Within-whole n b h).right in
     let same : b.x + b.side - 1 + 1 ≡ b.x + b.side = omega arith in
     let lt : b.x + b.side < side n = ⊎_elim (λ l. l) (λ z. absurd (apart (omega arith))) (cases_lt (b.x + b.side) (side n)) in
     subst (IsBehind n Right b) (sym w.1) (record {
       valid = record { level = h.level; low = h.low; size = h.size; on_x = more_multiple b.x b.side pos h.on_x; on_y = h.on_y; in_x = lt; in_y = h.in_y };
       size = refl;
-      each = λ g c t l. bare_in (eqb (b.x + b.side - 1 + 1) (side n)) n g c _ _ (ap (λ z. eqb z (side n)) same ∙ w.0) (ap (λ z. pixel z (b.y + t)) same);
+      each = λ g c t l. bare_in (eqb (b.x + b.side - 1 + 1) (side n)) n g c _ _ (ap (λ z. eqb z (side n)) same ∙ w.0) (ap (λ z. pixel_from z (b.y + t)) same);
     })
 behind_is Top n b q h e =
     let w = chosen (eqb b.y 0) q (block b.x (b.y - b.side) b.side) e in
     let pos = side_pos n b h in
-    let apart = apart_from b.y 0 w.0 in
+    let apart = eqb-false b.y 0 w.0 in
     let in_y = h.in_y in
     let m = less_multiple b.y b.side pos h.on_y (⊎_elim (λ l. l) (λ z. absurd (apart (omega arith))) (cases_lt 0 b.y)) in
     let low = m.0 in
     subst (IsBehind n Top b) (sym w.1) (record {
       valid = record { level = h.level; low = h.low; size = h.size; on_x = h.on_x; on_y = m.1; in_x = h.in_x; in_y = omega arith };
       size = refl;
-      each = λ g c t lt. bare_in (eqb b.y 0) n g c _ _ w.0 (let y : b.y - 1 ≡ b.y - b.side + b.side - 1 = omega arith in ap (pixel (b.x + t)) y);
+      each = λ g c t lt. bare_in (eqb b.y 0) n g c _ _ w.0 (let y : b.y - 1 ≡ b.y - b.side + b.side - 1 = omega arith in ap (pixel_from (b.x + t)) y);
     })
 behind_is Bottom n b q h e =
     let w = chosen (eqb (b.y + b.side) (side n)) q (block b.x (b.y + b.side) b.side) e in
     let pos = side_pos n b h in
-    let apart = apart_from (b.y + b.side) (side n) w.0 in
+    let apart = eqb-false (b.y + b.side) (side n) w.0 in
     let fits = (Within-whole n b h).bottom in
     let same : b.y + b.side - 1 + 1 ≡ b.y + b.side = omega arith in
     let lt : b.y + b.side < side n = ⊎_elim (λ l. l) (λ z. absurd (apart (omega arith))) (cases_lt (b.y + b.side) (side n)) in
     subst (IsBehind n Bottom b) (sym w.1) (record {
       valid = record { level = h.level; low = h.low; size = h.size; on_x = h.on_x; on_y = more_multiple b.y b.side pos h.on_y; in_x = h.in_x; in_y = lt };
       size = refl;
-      each = λ g c t l. bare_in (eqb (b.y + b.side - 1 + 1) (side n)) n g c _ _ (ap (λ z. eqb z (side n)) same ∙ w.0) (ap (pixel (b.x + t)) same);
+      each = λ g c t l. bare_in (eqb (b.y + b.side - 1 + 1) (side n)) n g c _ _ (ap (λ z. eqb z (side n)) same ∙ w.0) (ap (pixel_from (b.x + t)) same);
     })
 
-bare_at_end : (on : Side) (n : ℕ) (g : Grid) (c t : ℕ) (b : Block) → IsBlock n b → None ≡ behind_of on n b → bare on n g c (place on b t) ≡ 1
+bare_at_end : (on : Side) (n : ℕ) (g : Grid) (c t : ℕ) (b : Block) → IsBlock n b → None ≡ behind_of on n b → bare_side on n g c (place on b t) ≡ 1
 bare_at_end Left n g c t b h e = bare_out (eqb b.x 0) _ (not_chosen (eqb b.x 0) (block (b.x - b.side) b.y b.side) e)
 bare_at_end Right n g c t b h e =
     let pos = side_pos n b h in
@@ -206,13 +203,13 @@ bare_at_end Bottom n g c t b h e =
 
 -- a side at the end of the square
 pub bare_along_end : (on : Side) (n : ℕ) (g : Grid) (c : ℕ) (b : Block) → IsBlock n b → None ≡ behind_of on n b
-    → sum_by (λ t. bare on n g c (place on b t)) (below b.side) ≡ b.side
+    → sum_by (λ t. bare_side on n g c (place on b t)) (below b.side) ≡ b.side
 bare_along_end on n g c b h e =
-    below_constant (λ t. bare on n g c (place on b t)) 1 b.side (λ t lt. bare_at_end on n g c t b h e) ∙ (let o : b.side * 1 ≡ b.side = omega arith in o)
+    below_constant (λ t. bare_side on n g c (place on b t)) 1 b.side (λ t lt. bare_at_end on n g c t b h e) ∙ (let o : b.side * 1 ≡ b.side = omega arith in o)
 
 -- a side with a block behind it
 pub bare_along : (on : Side) (n : ℕ) (g : Grid) (c : ℕ) (b q : Block) → IsBehind n on b q
-    → sum_by (λ t. bare on n g c (place on b t)) (below b.side) ≡ sum_by (λ t. differs n g c (place (opposite_of on) q t)) (below q.side)
+    → sum_by (λ t. bare_side on n g c (place on b t)) (below b.side) ≡ sum_by (λ t. differs n g c (place (opposite_of on) q t)) (below q.side)
 bare_along on n g c b q w =
-    below_same (λ t. bare on n g c (place on b t)) (λ t. differs n g c (place (opposite_of on) q t)) b.side (λ t lt. w.each g c t lt)
+    below_same (λ t. bare_side on n g c (place on b t)) (λ t. differs n g c (place (opposite_of on) q t)) b.side (λ t lt. w.each g c t lt)
     ∙ ap (λ s. sum_by (λ t. differs n g c (place (opposite_of on) q t)) (below s)) (sym w.size)

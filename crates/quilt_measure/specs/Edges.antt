@@ -15,8 +15,8 @@ opposite_of Top = Bottom
 opposite_of Bottom = Top
 
 -- the pixel at x and y
-abbrev pub pixel : ℕ → ℕ → Pixel
-pixel x y = record { x = x; y = y }
+abbrev pub pixel_from : ℕ → ℕ → Pixel
+pixel_from x y = record { x = x; y = y }
 
 -- the block with its least corner at x and y, of the side s
 abbrev pub block : ℕ → ℕ → ℕ → Block
@@ -24,21 +24,21 @@ block x y s = record { x = x; y = y; side = s }
 
 -- the pixel at a place along a side of the block, from above or from the left
 abbrev pub place : Side → Block → ℕ → Pixel
-place Left b t = pixel b.x (b.y + t)
-place Right b t = pixel (b.x + b.side - 1) (b.y + t)
-place Top b t = pixel (b.x + t) b.y
-place Bottom b t = pixel (b.x + t) (b.y + b.side - 1)
+place Left b t = pixel_from b.x (b.y + t)
+place Right b t = pixel_from (b.x + b.side - 1) (b.y + t)
+place Top b t = pixel_from (b.x + t) b.y
+place Bottom b t = pixel_from (b.x + t) (b.y + b.side - 1)
 
 -- 1 where the pixel has another colour than this
 abbrev pub differs : ℕ → Grid → ℕ → Pixel → ℕ
 differs n g c p = if colour_at n g p == c then 0 else 1
 
 -- 1 where behind that side of the pixel is another colour than this or the outside
-abbrev pub bare : Side → ℕ → Grid → ℕ → Pixel → ℕ
-bare Left n g c p = if p.x == 0 then 1 else differs n g c (pixel (p.x - 1) p.y)
-bare Right n g c p = if p.x + 1 == side n then 1 else differs n g c (pixel (p.x + 1) p.y)
-bare Top n g c p = if p.y == 0 then 1 else differs n g c (pixel p.x (p.y - 1))
-bare Bottom n g c p = if p.y + 1 == side n then 1 else differs n g c (pixel p.x (p.y + 1))
+abbrev pub bare_side : Side → ℕ → Grid → ℕ → Pixel → ℕ
+bare_side Left n g c p = if p.x == 0 then 1 else differs n g c (pixel_from (p.x - 1) p.y)
+bare_side Right n g c p = if p.x + 1 == side n then 1 else differs n g c (pixel_from (p.x + 1) p.y)
+bare_side Top n g c p = if p.y == 0 then 1 else differs n g c (pixel_from p.x (p.y - 1))
+bare_side Bottom n g c p = if p.y + 1 == side n then 1 else differs n g c (pixel_from p.x (p.y + 1))
 
 -- the block of the same size behind a side
 abbrev pub behind_of : Side → ℕ → Block → Option Block

@@ -2,7 +2,7 @@ ghost use Rattle.std.specs.Prelude.{◌≡◌, ◌*◌, ◌<◌, ◌≤◌, sum_
 ghost use Rattle.quilt_types.specs.Plane.{below, pixels_of, IsBlock};
 ghost use Rattle.quilt_types.specs.Algebra.{edges_of, perimeter};
 ghost use Rattle.quilt_blocks.specs.Mosaic.{HasColour};
-ghost use Rattle.quilt_measure.specs.Edges.{place, differs, bare, behind_of, opposite_of, halves_of};
+ghost use Rattle.quilt_measure.specs.Edges.{place, differs, bare_side, behind_of, opposite_of, halves_of};
 
 use quilt_blocks::LeafList;
 use quilt_loc::quarters;
@@ -64,7 +64,7 @@ fn edges_around(a: &LeafList, b: Block, c: Colour, near: usize) -> u16
 /// The unit edges on one side of the block behind which is another colour than this or the outside.
 fn edges_on(a: &LeafList, b: Block, on: Side, c: Colour, near: usize) -> u16
     requires valid { IsBlock a.now.level b }
-    ensures value { result ≡ sum_by (λ t. bare on a.now.level a.now.grid c.0 (place on b t)) (below b.side) }
+    ensures value { result ≡ sum_by (λ t. bare_side on a.now.level a.now.grid c.0 (place on b t)) (below b.side) }
     ensures most { result ≤ b.side }
 {
     match behind(b, on, a.level()) {

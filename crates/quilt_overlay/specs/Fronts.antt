@@ -17,7 +17,7 @@ pub record IsPassed (w : Walk) (code : ℕ) (l : Leaf) : Type 0 where
   pub colour : HasColour w.level w.grid l.block l.colour.0
 
 -- a leaf that has the code, where the leaves after it begin at another
-pub record IsAt (n : ℕ) (g : Grid) (code next : ℕ) (l : Leaf) : Type 0 where
+pub record HasCode (n : ℕ) (g : Grid) (code next : ℕ) (l : Leaf) : Type 0 where
   pub block : IsBlock n l.block
   pub from : code_from l.block ≤ code
   pub to : code < code_to l.block
@@ -25,8 +25,8 @@ pub record IsAt (n : ℕ) (g : Grid) (code next : ℕ) (l : Leaf) : Type 0 where
   pub colour : HasColour n g l.block l.colour.0
 
 -- the last leaf of a walk over the leaves of a grid has the code, or there is none and the code is that behind the square
-pub record IsFront (n : ℕ) (g : Grid) (code : ℕ) (leaf : Option Leaf) (w : Walk) : Type 0 where
+pub record StandsAt (n : ℕ) (g : Grid) (code : ℕ) (leaf : Option Leaf) (w : Walk) : Type 0 where
   pub level : w.level ≡ n
   pub grid : w.grid ≡ g
   pub over : leaf ≡ None → code ≡ 4 ^ n
-  pub here : (l : Leaf) → leaf ≡ Some l → IsAt n g code w.at l
+  pub here : (l : Leaf) → leaf ≡ Some l → HasCode n g code w.at l

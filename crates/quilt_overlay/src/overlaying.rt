@@ -2,7 +2,7 @@ ghost use Rattle.std.specs.Prelude.{◌≡◌, ◌≤◌, ◌⊎◌, ◌↔◌, 
 ghost use Rattle.quilt_types.specs.Plane.{IsBlock};
 ghost use Rattle.quilt_loc.specs.Codes.{code_from, code_to};
 ghost use Rattle.quilt_overlay.specs.Combining.{overlaid};
-ghost use Rattle.quilt_overlay.specs.Fronts.{IsPassed, IsFront};
+ghost use Rattle.quilt_overlay.specs.Fronts.{IsPassed, StandsAt};
 
 use crate::Op;
 use quilt_blocks::{Cursor, Leaf, LeafList, Maker};
@@ -33,7 +33,7 @@ pub fn overlay(alloc: Global, op: Op, a: &LeafList, b: &LeafList) -> Result<Leaf
 fn leaf_after(walk: &mut Cursor<'_>, last: Leaf, passed: Block) -> Option<Leaf>
     requires last { IsPassed walk.old (code_to passed) last }
     requires block { IsBlock walk.old.level passed }
-    ensures front { IsFront walk.old.level walk.old.grid (code_to passed) result walk.new }
+    ensures front { StandsAt walk.old.level walk.old.grid (code_to passed) result walk.new }
     ensures start { code_to last.block ≡ code_to passed → IfSome result (λ l. code_from l.block ≡ code_to passed) }
 {
     if end_together(last.block, passed) {

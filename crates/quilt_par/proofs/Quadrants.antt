@@ -20,7 +20,7 @@ use Rattle.quilt_blocks.proofs.Squares.{code_to-whole}
 use Rattle.quilt_raster.specs.Bytes.{from_corner}
 use Rattle.quilt_par.specs.declared.part.Part.{Part}
 use Rattle.quilt_par.specs.declared.part.Part.TheVariants.{Single, Leaves}
-use Rattle.quilt_par.specs.Parts.{width_of, moved_colour, quadrant_at, part_in, Shows, ShowAll}
+use Rattle.quilt_par.specs.Parts.{width_of, moved_colour, quadrant_at, part_in, ShowsBlock, ShowAll}
 
 pub wide_square : (n : ℕ) → 1 ≤ n → 1 < side n
 wide_square zero h = absurd (omega arith)
@@ -65,11 +65,11 @@ half_side n k s is half =
 -- a finished square shows the quadrant
 pub Shows-square : (n k : ℕ) (g : Grid) (b : Block) (list : Raster) (m : Painted) → n ≡ suc k → n ≤ 12 → 2 * b.side ≡ side n
     → list ≡ record { level = k; grid = grid_by_code k m.colours }
-    → Adds k (from_corner n g (corner b)) (4 ^ k) (record { level = k; colours = [] }) m → Shows n g b (Leaves list)
+    → Adds k (from_corner n g (corner b)) (4 ^ k) (record { level = k; colours = [] }) m → ShowsBlock n g b (Leaves list)
 Shows-square n k g b list m is most half made adds =
     let colours = m.colours in
     let s = half_side n k b.side is half in
-    let done : Shows n g b (Leaves (record { level = k; grid = grid_by_code k colours })) = record {
+    let done : ShowsBlock n g b (Leaves (record { level = k; grid = grid_by_code k colours })) = record {
       wide = s;
       each = λ p h.
           let l = h.left in
@@ -84,11 +84,11 @@ Shows-square n k g b list m is most half made adds =
           let ey : b.y + (p.y - b.y) ≡ p.y = omega arith in
           colour_at-grid_by_code k colours q hx hy ∙ adds.each q hx hy (omega arith) c ∙ ap₂ (λ (x y : ℕ). colour_at n g (record { x = x; y = y })) ex ey;
     } in
-    subst (λ (r : Raster). Shows n g b (Leaves r)) (sym made) done
+    subst (λ (r : Raster). ShowsBlock n g b (Leaves r)) (sym made) done
 
 -- one pixel does
 pub Shows-pixel : (n : ℕ) (g : Grid) (b : Block) (c : Colour) (place : ℕ) → n ≡ 1 → 2 * b.side ≡ side n → place ≡ 2 * b.y + b.x
-    → c.0 ≡ get_or g place 0 → Shows n g b (Single c)
+    → c.0 ≡ get_or g place 0 → ShowsBlock n g b (Single c)
 Shows-pixel n g b c place is half at colour =
     let two : side n ≡ 2 = ap (λ z. 2 ^ z) is in
     record {
@@ -116,9 +116,9 @@ pixel_place n b is h =
 pub quadrant_found : (n i j : ℕ) (b : Block) (qs : List Block) → b ≡ whole n → qs ≡ quarters_of b → j ≡ i → get_or qs j nowhere ≡ quadrant_at n i
 quadrant_found n i j b qs is are at = ap₂ (λ (l : List Block) (k : ℕ). get_or l k nowhere) (are ∙ ap quarters_of is) at
 
-module _ (n : ℕ) (g : Grid) (a b c d : Part) (ha : Shows n g (quadrant_at n 0) a) (hb : Shows n g (quadrant_at n 1) b)
-    (hc : Shows n g (quadrant_at n 2) c) (hd : Shows n g (quadrant_at n 3) d) where
-  one_of_four : (i : ℕ) → i < 4 → Shows n g (quadrant_at n i) (part_in (a ∷ b ∷ c ∷ d ∷ []) i)
+module _ (n : ℕ) (g : Grid) (a b c d : Part) (ha : ShowsBlock n g (quadrant_at n 0) a) (hb : ShowsBlock n g (quadrant_at n 1) b)
+    (hc : ShowsBlock n g (quadrant_at n 2) c) (hd : ShowsBlock n g (quadrant_at n 3) d) where
+  one_of_four : (i : ℕ) → i < 4 → ShowsBlock n g (quadrant_at n i) (part_in (a ∷ b ∷ c ∷ d ∷ []) i)
   one_of_four zero lt = ha
   one_of_four (suc zero) lt = hb
   one_of_four (suc (suc zero)) lt = hc
@@ -140,7 +140,7 @@ part_found parts i j part four lt at is = is ∙ ap (λ k. get_or parts k part) 
 
 -- one quadrant more
 pub Adds-quadrant : (n i : ℕ) (g : Grid) (part : Part) (old m new : Painted) → 1 ≤ n → n ≤ 12 → i < 4 → length old.colours ≡ 0
-    → Shows n g (quadrant_at n i) part → Adds n (colour_at n g) (i * (side n / 2 * (side n / 2))) old m
+    → ShowsBlock n g (quadrant_at n i) part → Adds n (colour_at n g) (i * (side n / 2 * (side n / 2))) old m
     → Adds n (moved_colour (quadrant_at n i) part) (code_to (quadrant_at n i)) m new → Adds n (colour_at n g) ((i + 1) * (side n / 2 * (side n / 2))) old new
 Adds-quadrant n i g part old m new some most lt none shows before step =
     let q = quadrant_at n i in

@@ -22,7 +22,7 @@ abbrev pub moved_colour : Block → Part → Pixel → ℕ
 moved_colour b part p = part_colour part (record { x = p.x - b.x; y = p.y - b.y })
 
 -- the part has the colours that the block has in the grid
-pub record Shows (n : ℕ) (g : Grid) (b : Block) (part : Part) : Type 0 where
+pub record ShowsBlock (n : ℕ) (g : Grid) (b : Block) (part : Part) : Type 0 where
   pub wide : b.side ≡ width_of part
   pub each : (p : Pixel) → Holds b p → moved_colour b part p ≡ colour_at n g p
 
@@ -36,4 +36,4 @@ part_in parts i = slice_index_or parts i (Single (record { 0 = 0 }))
 
 -- four parts have the colours of the four quadrants
 pub record ShowAll (n : ℕ) (g : Grid) (parts : List Part) : Type 0 where
-  pub each : (i : ℕ) → i < 4 → Shows n g (quadrant_at n i) (part_in parts i)
+  pub each : (i : ℕ) → i < 4 → ShowsBlock n g (quadrant_at n i) (part_in parts i)

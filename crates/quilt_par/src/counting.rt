@@ -34,9 +34,9 @@ fn tally(colours: &[u8], level: u8, square: Block, most: u32) -> Option<Tally>
         return Some(Tally::One(colour));
     }
     let four = quarters(square);
-    let first = tally(colours, level, four[0], most)?;
-    let second = tally(colours, level, four[1], most)?;
-    let third = tally(colours, level, four[2], most)?;
-    let last = tally(colours, level, four[3], most)?;
-    joined(first, second, third, last, most)
+    let mut tallies = [Tally::Many(0); 4];
+    for place in 0..4_usize {
+        tallies[place] = tally(colours, level, four[place], most)?;
+    }
+    joined(tallies[0], tallies[1], tallies[2], tallies[3], most)
 }

@@ -1,7 +1,7 @@
 ghost use Rattle.std.specs.Prelude.{◌≡◌, ℕ, ◌+◌, ◌*◌, ◌<◌, ◌≤◌, length, IfOk};
 ghost use Rattle.quilt_types.specs.Plane.{side as side_of};
 ghost use Rattle.quilt_raster.specs.Bytes.{colours_of_bytes};
-ghost use Rattle.quilt_par.specs.Parts.{Shows, quadrant_at};
+ghost use Rattle.quilt_par.specs.Parts.{ShowsBlock, quadrant_at};
 
 use crate::gate::Gate;
 use crate::part::{Part, merged};
@@ -40,10 +40,10 @@ fn four_parts<R: Threads + Sync, G: Gate + Sync>(
     requires least { 1 ≤ level }
     requires most { level ≤ 12 }
     requires all { length colours.now ≡ 2 * (side_of level * side_of level) }
-    ensures first { IfOk result (λ parts. Shows level (colours_of_bytes colours.now) (quadrant_at level 0) (parts.0).0) }
-    ensures second { IfOk result (λ parts. Shows level (colours_of_bytes colours.now) (quadrant_at level 1) (parts.0).1) }
-    ensures third { IfOk result (λ parts. Shows level (colours_of_bytes colours.now) (quadrant_at level 2) (parts.1).0) }
-    ensures fourth { IfOk result (λ parts. Shows level (colours_of_bytes colours.now) (quadrant_at level 3) (parts.1).1) }
+    ensures first { IfOk result (λ parts. ShowsBlock level (colours_of_bytes colours.now) (quadrant_at level 0) (parts.0).0) }
+    ensures second { IfOk result (λ parts. ShowsBlock level (colours_of_bytes colours.now) (quadrant_at level 1) (parts.0).1) }
+    ensures third { IfOk result (λ parts. ShowsBlock level (colours_of_bytes colours.now) (quadrant_at level 2) (parts.1).0) }
+    ensures fourth { IfOk result (λ parts. ShowsBlock level (colours_of_bytes colours.now) (quadrant_at level 3) (parts.1).1) }
 {
     let (upper, lower) = join(
         rt,
@@ -74,8 +74,8 @@ fn two_parts<R: Threads + Sync, G: Gate + Sync>(
     requires most { level ≤ 12 }
     requires all { length colours.now ≡ 2 * (side_of level * side_of level) }
     requires three { number < 3 }
-    ensures left { IfOk result (λ parts. Shows level (colours_of_bytes colours.now) (quadrant_at level number) parts.0) }
-    ensures right { IfOk result (λ parts. Shows level (colours_of_bytes colours.now) (quadrant_at level (number + 1)) parts.1) }
+    ensures left { IfOk result (λ parts. ShowsBlock level (colours_of_bytes colours.now) (quadrant_at level number) parts.0) }
+    ensures right { IfOk result (λ parts. ShowsBlock level (colours_of_bytes colours.now) (quadrant_at level (number + 1)) parts.1) }
 {
     let next = number + 1;
     let (left, right) = join(

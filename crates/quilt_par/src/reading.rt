@@ -1,7 +1,7 @@
 ghost use Rattle.std.specs.Prelude.{◌≡◌, ℕ, ◌+◌, ◌*◌, ◌<◌, ◌≤◌, length, IfOk};
 ghost use Rattle.quilt_types.specs.Plane.{side as side_of, IsBlock};
 ghost use Rattle.quilt_raster.specs.Bytes.{colours_of_bytes};
-ghost use Rattle.quilt_par.specs.Parts.{Shows, quadrant_at};
+ghost use Rattle.quilt_par.specs.Parts.{ShowsBlock, quadrant_at};
 
 use crate::gate::Gate;
 use crate::part::Part;
@@ -35,7 +35,7 @@ pub(crate) fn part_of<G: Gate>(
     requires most { level ≤ 12 }
     requires all { length colours.now ≡ 2 * (side_of level * side_of level) }
     requires four { number < 4 }
-    ensures { IfOk result (λ part. Shows level (colours_of_bytes colours.now) (quadrant_at level number) part) }
+    ensures { IfOk result (λ part. ShowsBlock level (colours_of_bytes colours.now) (quadrant_at level number) part) }
 {
     gate.pass(number);
     let block = quadrant(level, number);
@@ -54,7 +54,7 @@ fn square_of(alloc: Global, colours: &[u8], level: u8, b: Block) -> Result<Part,
     requires all { length colours.now ≡ 2 * (side_of level * side_of level) }
     requires valid { IsBlock level b }
     requires half { 2 * b.side ≡ side_of level }
-    ensures { IfOk result (λ part. Shows level (colours_of_bytes colours.now) b part) }
+    ensures { IfOk result (λ part. ShowsBlock level (colours_of_bytes colours.now) b part) }
 {
     let corner = Pixel { x: b.x, y: b.y };
     let mut maker = Maker::new(alloc, level - 1);

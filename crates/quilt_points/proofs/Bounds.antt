@@ -1,7 +1,7 @@
 -- How many pages calls read, one behind the other.
 use Rattle.std.proofs.Common.{◌≡◌, ℕ, ◌+◌, ◌*◌, ◌^◌, ◌<◌, ◌≤◌, Option, Some, None, Result, Ok, Err, IfOk, sym, ◌∙◌, ap, subst, ⊎_elim, arith}
 use Rattle.std.proofs.Common.{pow-suc, add-one}
-use Rattle.std.proofs.Math.Nat.{mul-add, add-mul, mul-le-mul_left}
+use Rattle.std.proofs.Math.Nat.{mul-add, mul-le-mul_left}
 use Rattle.std.proofs.lemmas.Bool.{cases_lt}
 use Rattle.quilt_types.specs.declared.plane.Block.{Block}
 use Rattle.quilt_types.specs.Plane.{IsBlock}

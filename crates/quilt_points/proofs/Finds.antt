@@ -1,11 +1,12 @@
 -- What is found at a pixel of a point layer.
 use Rattle.std.proofs.Common.{◌≡◌, ℕ, ◌+◌, ◌<◌, ◌≤◌, ◌^◌, Bool, true, false, List, [], ◌∷◌, length, Option, Some, None, refl, sym, ◌∙◌, ap, subst, ⊎_elim}
 use Rattle.std.proofs.Common.{arith, Contains, ◌⊎◌, inl, inr, filter, leb-true, eqb-true, ne_eqb, nat_lt, ltb-true, lt-ltb}
-use Rattle.std.specs.Prelude.{unwrap_or, MatchOption, IfSome, ◌==◌}
+use Rattle.std.specs.Prelude.{MatchOption, IfSome, ◌==◌}
 use Rattle.std.specs.FinMap as finmap
 use Rattle.std.proofs.lemmas.Bool.{cases_Bool, cond-true, cond-false, and_parts, and_from}
 use Rattle.std.proofs.lemmas.List.Elements.{All-contains}
 use Rattle.std.proofs.lemmas.List.Sums.{length-filter}
+use Rattle.std.proofs.lemmas.Option.{none-some, same_Some}
 use Rattle.quilt_types.specs.declared.plane.Pixel.{Pixel}
 use Rattle.quilt_types.specs.declared.plane.Block.{Block}
 use Rattle.quilt_types.specs.declared.plane.Point.{Point}
@@ -37,12 +38,6 @@ use Rattle.quilt_points.specs.Reads.{IsBlockRead, IsRow, IsLabelIn, label_key, l
 use Rattle.quilt_points.proofs.Shapes.{block_is, block_fact_from, block_fact_is, shaped, point_record_is, block_from}
 use Rattle.quilt_points.proofs.Records.{fact_there, fact_at}
 use Rattle.quilt_points.proofs.Floors.{IsAround, floor_around}
-
-pub none_some : {X : Type 0} (x : X) → None ≡ Some x → ⊥
-none_some x e = cc
-
-pub some_same : {X : Type 0} (x y : X) → Some x ≡ Some y → x ≡ y
-some_same x y e = ap (λ o. unwrap_or o x) e
 
 pub none_or_some : {X : Type 0} (o : Option X) → (o ≡ None) ⊎ ((x : X) × (o ≡ Some x))
 none_or_some None = inl refl
@@ -77,7 +72,7 @@ around_read told t layer n capacity points p k found r read least most le hx hy 
     let a = block_read told t layer n capacity points p k found le hx hy key is h in
     let w = a.of in
     let s = shaped n capacity points h.spelled.valid a.fact w in
-    let same : block_record n capacity layer a.fact ≡ r = sym (some_same r (block_record n capacity layer a.fact) (sym some ∙ a.is)) in
+    let same : block_record n capacity layer a.fact ≡ r = sym (same_Some r (block_record n capacity layer a.fact) (sym some ∙ a.is)) in
     let row = point_record_is n capacity layer w.block s.held least most s.fits in
     let here : block_record n capacity layer (point_fact w.block s.held) ≡ r = ap (block_record n capacity layer) (sym s.is) ∙ same in
     record {
@@ -96,13 +91,13 @@ around_read told t layer n capacity points p k found r read least most le hx hy 
 pub read_same : (n capacity : ℕ) (points : PointMap) (p : Pixel) (read : Option (Block × Option Point)) (b : Block) (held : Option Point)
     → read ≡ Some (b, held) → IsRead n capacity points p read → IsBlockRead n capacity points b held
 read_same n capacity points p read b held e i =
-    let pair : (i.block, i.held) ≡ (b, held) = some_same (i.block, i.held) (b, held) (sym i.is ∙ e) in
+    let pair : (i.block, i.held) ≡ (b, held) = same_Some (i.block, i.held) (b, held) (sym i.is ∙ e) in
     subst (λ (z : Block × Option Point). IsBlockRead n capacity points z.0 z.1) pair i.said
 
 pub read_holds : (n capacity : ℕ) (points : PointMap) (p : Pixel) (read : Option (Block × Option Point)) (b : Block) (held : Option Point)
     → read ≡ Some (b, held) → IsRead n capacity points p read → in_block b p ≡ true
 read_holds n capacity points p read b held e i =
-    let pair : (i.block, i.held) ≡ (b, held) = some_same (i.block, i.held) (b, held) (sym i.is ∙ e) in
+    let pair : (i.block, i.held) ≡ (b, held) = same_Some (i.block, i.held) (b, held) (sym i.is ∙ e) in
     subst (λ (z : Block × Option Point). in_block z.0 p ≡ true) pair i.holds
 
 -- ---- a bucket of one point
@@ -145,7 +140,7 @@ module _ (n : ℕ) (points : PointMap) (b : Block) (at : Pixel) (holds : in_bloc
       cond-false (same_pixel p.at at) (Some p.label) None (⊎_elim
       (λ t.
       let there = get_from_entry pixel_cmp pixel_total pixel_same points (p.at, p.label) (w.on).1 in
-      absurd (none_some p.label (sym e ∙ ap (finmap.get points) (sym (same_pixel_is p.at at t)) ∙ there)))
+      absurd (none-some p.label (sym e ∙ ap (finmap.get points) (sym (same_pixel_is p.at at t)) ∙ there)))
       (λ f. f) (cases_Bool (same_pixel p.at at)))
   one_label (Some p) r (Some l) e =
       let w = block_fact_from n 1 points (HoldsPoint b p.at p.label) r.fact in
@@ -215,7 +210,7 @@ module _ (rs : List Record) (layer n capacity : ℕ) (points : PointMap) (le : n
       value_none k rs (λ r c e.
       let f = fact_at rs layer n capacity points spells r c (ap (λ (z : Key). z.layer) (e ∙ is)) in
       let g = by_fact 0 f.0 f.1 (ap (λ (z : Record). z.key) f.2 ∙ e ∙ is) in
-      none_some g.0 (sym none ∙ g.1))
+      none-some g.0 (sym none ∙ g.1))
 
   pub fact_here : (l : ℕ) → finmap.get points at ≡ Some l → OfBlock n capacity points (here l)
   fact_here l some =
@@ -243,7 +238,7 @@ module _ (told : Option (List (List ℕ))) (t : Tree) (layer n capacity : ℕ) (
   pub none_read : found ≡ None → None ≡ finmap.get points at
   none_read e =
       ⊎_elim (λ n. sym n)
-      (λ s. absurd (none_some _ (sym e ∙ is h.records h.tree ∙ present h.records layer n capacity points le more up h.spelled b mb at on holds k s.0 key s.1)))
+      (λ s. absurd (none-some _ (sym e ∙ is h.records h.tree ∙ present h.records layer n capacity points le more up h.spelled b mb at on holds k s.0 key s.1)))
       (none_or_some (finmap.get points at))
 
   pub label_read : (value : List ℕ) → found ≡ Some value → (read : Option Point)
@@ -251,11 +246,11 @@ module _ (told : Option (List (List ℕ))) (t : Tree) (layer n capacity : ℕ) (
       → IsLabelRead points at read
   label_read value e read one =
       ⊎_elim
-      (λ none. absurd (none_some value (sym (absent h.records layer n capacity points le more up h.spelled b mb at on holds k key none)
+      (λ none. absurd (none-some value (sym (absent h.records layer n capacity points le more up h.spelled b mb at on holds k key none)
       ∙ sym (is h.records h.tree) ∙ e)))
       (λ s.
       let row : Record = block_record n capacity layer (HoldsPoint b at s.0) in
-      let same : value ≡ row.value = some_same value row.value
+      let same : value ≡ row.value = same_Some value row.value
       (sym e ∙ is h.records h.tree ∙ present h.records layer n capacity points le more up h.spelled b mb at on holds k s.0 key s.1) in
       let whole : row ≡ record { key = k; value = value } = λ i. record { key = key_turned i; value = sym same i } in
       let held : Point = record { at = at; label = s.0 } in
@@ -271,7 +266,7 @@ module _ (told : Option (List (List ℕ))) (t : Tree) (layer n capacity : ℕ) (
 pub label_same : (points : PointMap) (at : Pixel) (read : Option Point) (p : Point) → read ≡ Some p → (i : IsLabelRead points at read)
     → Some p.label ≡ finmap.get points at
 label_same points at read p e i =
-    let same : record { at = at; label = i.label } ≡ p = some_same (record { at = at; label = i.label }) p (sym i.is ∙ e) in
+    let same : record { at = at; label = i.label } ≡ p = same_Some (record { at = at; label = i.label }) p (sym i.is ∙ e) in
     ap Some (sym (ap (λ (q : Point). q.label) same)) ∙ sym i.there
 
 -- what a store tells after a call that left it
@@ -280,21 +275,13 @@ pub has_along : (old new : Option (List (List ℕ))) (t : Tree) (layer n capacit
 has_along old new t layer n capacity points e h = subst (λ (z : Option (List (List ℕ))). HasPoints z t layer n capacity points) (sym e) h
 
 -- ---- answers that may be none
-pub match_none : {X : Type 0} (o : Option X) (P : Type 0) (Q : X → Type 0) → o ≡ None → MatchOption o P Q → P
-match_none None P Q e h = h
-match_none (Some x) P Q e h = absurd (none_some x (sym e))
-
-pub match_some : {X : Type 0} (o : Option X) (P : Type 0) (Q : X → Type 0) (x : X) → o ≡ Some x → MatchOption o P Q → Q x
-match_some None P Q x e h = absurd (none_some x e)
-match_some (Some y) P Q x e h = subst Q (some_same y x e) h
-
 pub if_some_weaker : {X : Type 0} (o : Option X) (P Q : X → Type 0) → ((x : X) → P x → Q x) → IfSome o P → IfSome o Q
 if_some_weaker None P Q f h = tt
 if_some_weaker (Some x) P Q f h = f x h
 
 pub if_some_at : {X : Type 0} (o : Option X) (P : X → Type 0) (x : X) → o ≡ Some x → IfSome o P → P x
-if_some_at None P x e h = absurd (none_some x e)
-if_some_at (Some y) P x e h = subst P (some_same y x e) h
+if_some_at None P x e h = absurd (none-some x e)
+if_some_at (Some y) P x e h = subst P (same_Some y x e) h
 
 -- ---- what any records say
 -- a point that is read is said by the record

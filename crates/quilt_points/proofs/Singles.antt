@@ -1,5 +1,5 @@
 -- Blocks that hold one point at most, and the block around a pixel.
-use Rattle.std.proofs.Common.{◌≡◌, ℕ, ◌+◌, ◌<◌, ◌≤◌, Bool, true, List, [], ◌∷◌, ◌++◌, length, Option, Some, None, refl, sym, ◌∙◌, ap, subst, ⊎_elim, arith, Contains, filter, leb-true}
+use Rattle.std.proofs.Common.{◌≡◌, ℕ, ◌+◌, ◌<◌, ◌≤◌, Bool, true, List, [], ◌∷◌, length, Option, Some, None, sym, ◌∙◌, ap, subst, ⊎_elim, arith, Contains, filter, leb-true}
 use Rattle.std.proofs.Common.{zero, suc, get_or, nat_lt, ltb-true, ◌&&◌, Result, Ok, Err, IfOk, ◌⊎◌, inl, inr}
 use Rattle.std.specs.Prelude.{IfSome, All}
 use Rattle.std.specs.FinMap as finmap
@@ -7,21 +7,21 @@ use Rattle.std.specs.List.{last_or}
 use Rattle.std.specs.Option.{option_to_list}
 use Rattle.std.proofs.lemmas.Bool.{and_parts}
 use Rattle.std.proofs.lemmas.List.Sums.{length-filter}
+use Rattle.std.proofs.lemmas.Option.{none-some, same_Some}
 use Rattle.quilt_types.specs.declared.plane.Pixel.{Pixel}
 use Rattle.quilt_types.specs.declared.plane.Block.{Block}
 use Rattle.quilt_types.specs.declared.plane.Point.{Point}
 use Rattle.quilt_types.specs.declared.plane.Window.{Window}
 use Rattle.quilt_types.specs.declared.stop.Stop.{Stop}
-use Rattle.quilt_types.specs.Plane.{side, is_pixel, in_block, in_window, IsBlock}
+use Rattle.quilt_types.specs.Plane.{side, is_pixel, in_block, IsBlock}
 use Rattle.quilt_types.specs.Layers.{PointMap}
-use Rattle.quilt_types.specs.Facts.{Fact, HoldsPoint, HoldsNoPoint}
+use Rattle.quilt_types.specs.Facts.{HoldsPoint, HoldsNoPoint}
 use Rattle.quilt_types.specs.Quadtrees.{points_in, holds_few, point_blocks}
-use Rattle.quilt_loc.proofs.Blocks.{Holds-from, in_block-true}
+use Rattle.quilt_loc.proofs.Blocks.{Holds-from}
 use Rattle.quilt_loc.proofs.Members.{Contains-nil, Contains-here, Contains-there, Contains-cons_cases, Contains-filter, Contains-filter_from}
 use Rattle.quilt_loc.proofs.Quartered.{Within-whole}
 use Rattle.quilt_record.specs.declared.key.Key.{Key}
 use Rattle.quilt_record.specs.declared.record.Record.{Record}
-use Rattle.quilt_record.specs.Canonical.{point_fact}
 use Rattle.quilt_btree.specs.declared.tree.Tree.{Tree}
 use Rattle.quilt_btree.specs.Lists.{is_at_most, floor_of}
 use Rattle.quilt_btree.specs.Trees.{IsTree}
@@ -30,12 +30,11 @@ use Rattle.quilt_point_laws.proofs.Counts.{few_down}
 use Rattle.quilt_point_laws.proofs.Narrowing.{one_maximal}
 use Rattle.quilt_points.specs.Layers.{entries_of, pixel_key, HasPoints}
 use Rattle.quilt_points.specs.declared.searching.Search.{Search}
-use Rattle.quilt_points.specs.Reads.{AreOf, IsBlockRead, IsBlockRow}
+use Rattle.quilt_points.specs.Reads.{IsHeld, IsBlockRead, IsBlockRow}
 use Rattle.quilt_points.specs.Searches.{IsSeen, IsSearch}
 use Rattle.quilt_points.specs.Windows.{meets_window}
-use Rattle.quilt_points.proofs.Finds.{one_of, none_some, some_same, if_some_at}
+use Rattle.quilt_points.proofs.Finds.{one_of, if_some_at}
 use Rattle.quilt_points.proofs.Shapes.{block_is, block_fact_from}
-use Rattle.quilt_points.proofs.Windows.{kept_of}
 
 -- ---- a block of one point at most
 module _ (n : ℕ) (points : PointMap) (b : Block) where
@@ -117,14 +116,14 @@ block_fits n b h =
 last_member : (o : Option Record) (xs : List Record) (r : Record) → last_or o xs ≡ Some r → (o ≡ Some r) ⊎ Contains xs r
 last_member o [] r e = inl e
 last_member o (x ∷ xs) r e =
-    ⊎_elim (λ is. inr (subst (Contains (x ∷ xs)) (some_same x r is) (Contains-here x xs))) (λ c. inr (Contains-there x xs r c))
+    ⊎_elim (λ is. inr (subst (Contains (x ∷ xs)) (same_Some x r is) (Contains-here x xs))) (λ c. inr (Contains-there x xs r c))
     (last_member (Some x) xs r e)
 
 -- a floor is one of the records
 floor_there : (k : Key) (rs : List Record) (r : Record) → floor_of k rs ≡ Some r → Contains rs r
 unfolding floor_of
 floor_there k rs r e =
-    ⊎_elim (λ none. absurd (none_some r none)) (λ c. (Contains-filter_from (is_at_most k) rs r c).0) (last_member None (filter (is_at_most k) rs) r e)
+    ⊎_elim (λ none. absurd (none-some r none)) (λ c. (Contains-filter_from (is_at_most k) rs r c).0) (last_member None (filter (is_at_most k) rs) r e)
 
 -- a block whose last record is the floor of a pixel's key
 pub seen_at : (result : Result (Block × Option Point) Stop) (told : Option (List (List ℕ))) (t : Tree) (n capacity number : ℕ) (at : Pixel) (found : Option Record)
@@ -144,16 +143,13 @@ seen_at (Ok v) told t n capacity number at found is block row read = record {
   read = λ points h. read told t points is h;
 }
 
--- ---- what is added of a block that is looked at
--- the point that its record says, if it is in the window
-pub single_found : (n capacity : ℕ) (points : PointMap) (w : Window) (b c : Block) (held : Option Point) (old new : List Point) → capacity ≡ 1 → c ≡ b
-    → IsBlockRead n capacity points c held → new ≡ old ++ filter (λ p. in_window w p.at) (option_to_list held)
-    → (here : List Point) × (new ≡ old ++ here) × AreOf points (in_window w) b (entries_of here)
-single_found n capacity points w b c held old new one same r is = (
-  filter (λ (p : Point). in_window w p.at) (option_to_list held),
-  is,
-  kept_of points (in_window w) b (option_to_list held) (one_held n points b capacity held one (subst (λ (z : Block). IsBlockRead n capacity points z held) same r)),
-)
+-- ---- a block that is looked at
+-- what it holds, by its record
+pub single_held : (n capacity : ℕ) (points : PointMap) (b c : Block) (held : Option Point) → capacity ≡ 1 → c ≡ b → IsBlockRead n capacity points c held
+    → IsHeld n capacity points b (option_to_list held)
+single_held n capacity points b c held one same r =
+    let read = subst (λ (z : Block). IsBlockRead n capacity points z held) same r in
+    record { block = read.block; are = one_held n points b capacity held one read }
 
 -- ---- what a search knows after a call that only reads
 pub seen_along : (old new : Option (List (List ℕ))) (t : Tree) (n capacity number : ℕ) (b : Block) (held : Option Point) → new ≡ old

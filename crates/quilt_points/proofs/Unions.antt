@@ -17,7 +17,7 @@ use Rattle.quilt_spell.specs.Apart.{Apart}
 use Rattle.quilt_spell.proofs.Lists.{Apart-append}
 use Rattle.quilt_point_laws.specs.Laws.{AreIn}
 use Rattle.quilt_point_laws.proofs.Cuts.{quarters_apart}
-use Rattle.quilt_points.specs.Reads.{AreOf}
+use Rattle.quilt_points.specs.Reads.{ArePointsOf}
 use Rattle.quilt_edits.proofs.Lists.{member_at, taken_there}
 
 -- ---- which quarters come first
@@ -54,7 +54,7 @@ module _ (points : PointMap) (test : Pixel → Bool) where
   pub all_none : AreOfAll points test [] []
   all_none = record { once = tt; members = λ e. (λ c. absurd (Contains-nil e c), λ w. let m = w.2 in absurd (Contains-nil m.0 m.1)) }
 
-  pub all_next : (qs : List Block) (q : Block) (all here : List (Pixel × ℕ)) → AreOfAll points test qs all → AreOf points test q here
+  pub all_next : (qs : List Block) (q : Block) (all here : List (Pixel × ℕ)) → AreOfAll points test qs all → ArePointsOf points test q here
       → ((r : Block) → Contains qs r → (p : Pixel) → in_block r p ≡ true → in_block q p ≡ true → ⊥) → AreOfAll points test (qs ++ q ∷ []) (all ++ here)
   all_next qs q all here h k apart = record {
     once = Apart-append all here h.once k.once (λ e c d.
@@ -80,7 +80,7 @@ module _ (points : PointMap) (test : Pixel → Bool) where
 
   -- those of the four quarters are those of the block
   pub all_quarters : (n : ℕ) (b : Block) (all : List (Pixel × ℕ)) → IsBlock n b → 1 < b.side → AreOfAll points test (quarters_of b) all
-      → AreOf points test b all
+      → ArePointsOf points test b all
   all_quarters n b all hb wide h = record {
     once = h.once;
     members = λ e. (
@@ -108,7 +108,7 @@ module _ (points : PointMap) (test : Pixel → Bool) where
   }
 
 -- ---- all points of a block
-pub of_from : (points : PointMap) (b : Block) (held : List (Pixel × ℕ)) → AreIn points b held → AreOf points (λ p. true) b held
+pub of_from : (points : PointMap) (b : Block) (held : List (Pixel × ℕ)) → AreIn points b held → ArePointsOf points (λ p. true) b held
 of_from points b held h = record {
   once = h.once;
   members = λ e. (
@@ -117,7 +117,7 @@ of_from points b held h = record {
   );
 }
 
-pub of_is : (points : PointMap) (b : Block) (held : List (Pixel × ℕ)) → AreOf points (λ p. true) b held → AreIn points b held
+pub of_is : (points : PointMap) (b : Block) (held : List (Pixel × ℕ)) → ArePointsOf points (λ p. true) b held → AreIn points b held
 of_is points b held h = record {
   once = h.once;
   members = λ e. (

@@ -12,6 +12,7 @@ use Rattle.std.proofs.lemmas.List.Sums.{sum_by_push, sum_by-take-le}
 use Rattle.std.proofs.Math.Nat.{mul-add, mul-le-mul_left}
 use Rattle.std.specs.List.{sum_by}
 use Rattle.std.specs.Prelude.{if◌then◌else◌}
+use Rattle.std.proofs.lemmas.Option.{same_Some}
 use Rattle.quilt_types.specs.declared.plane.Pixel.{Pixel}
 use Rattle.quilt_types.specs.declared.plane.Block.{Block}
 use Rattle.quilt_types.specs.declared.plane.Point.{Point}
@@ -35,11 +36,11 @@ use Rattle.quilt_spell.proofs.facts.FactKeys.{pixel_same}
 use Rattle.quilt_point_laws.specs.Laws.{AreIn}
 use Rattle.quilt_point_laws.proofs.Counts.{few_pixel}
 use Rattle.quilt_points.specs.Layers.{entry_of, entries_of}
-use Rattle.quilt_points.specs.Reads.{AreOf}
-use Rattle.quilt_points.specs.Windows.{IsOpen, IsCovered, meets_window, visited}
+use Rattle.quilt_points.specs.Reads.{ArePointsOf, IsHeld}
+use Rattle.quilt_points.specs.Windows.{IsVisited, IsCovered, meets_window, visited}
 use Rattle.quilt_points.proofs.Bounds.{reads_then, reads_more}
 use Rattle.quilt_world.specs.Tale.{Goes}
-use Rattle.quilt_points.proofs.Finds.{some_same, pixel_in}
+use Rattle.quilt_points.proofs.Finds.{pixel_in}
 use Rattle.quilt_edits.proofs.Lists.{member_at, take_next}
 use Rattle.quilt_points.proofs.Shapes.{block_from}
 use Rattle.quilt_edits.proofs.Ascents.{permuted, next_at, apart_at}
@@ -58,11 +59,11 @@ entries-kept test (p ∷ ps) =
     kept_entries p (filter (λ (q : Point). test q.at) ps) (filter (λ (e : Pixel × ℕ). test e.0) (entries_of ps)) (test p.at) (entries-kept test ps)
 
 pub kept_of : (points : PointMap) (test : Pixel → Bool) (b : Block) (held : List Point) → AreIn points b (entries_of held)
-    → AreOf points test b (entries_of (filter (λ p. test p.at) held))
+    → ArePointsOf points test b (entries_of (filter (λ p. test p.at) held))
 kept_of points test b held are =
     let keep : Pixel × ℕ → Bool = λ e. test e.0 in
     let inside : Pixel × ℕ → Bool = λ e. in_block b e.0 in
-    subst (AreOf points test b) (sym (entries-kept test held)) (record {
+    subst (ArePointsOf points test b) (sym (entries-kept test held)) (record {
       once = Apart-filter keep (entries_of held) are.once;
       members = λ e. (
         λ c.
@@ -73,11 +74,16 @@ kept_of points test b held are =
       );
     })
 
-pub none_of : (points : PointMap) (test : Pixel → Bool) (b : Block) → ((p : Pixel) → in_block b p ≡ true → test p ≡ true → ⊥) → AreOf points test b []
+-- what is added of a block's points
+pub found_held : (n capacity : ℕ) (points : PointMap) (w : Window) (b : Block) (held old new : List Point) → IsHeld n capacity points b held
+    → new ≡ old ++ filter (λ p. in_window w p.at) held → (here : List Point) × (new ≡ old ++ here) × ArePointsOf points (in_window w) b (entries_of here)
+found_held n capacity points w b held old new h is = (filter (λ (p : Point). in_window w p.at) held, is, kept_of points (in_window w) b held h.are)
+
+pub none_of : (points : PointMap) (test : Pixel → Bool) (b : Block) → ((p : Pixel) → in_block b p ≡ true → test p ≡ true → ⊥) → ArePointsOf points test b []
 none_of points test b away = record { once = tt; members = λ e. (λ c. absurd (Contains-nil e c), λ w. absurd (away e.0 w.2 w.1)) }
 
 -- ---- which blocks are come to
-module _ (n capacity : ℕ) (points : PointMap) (b : Block) (h : IsOpen n capacity points b) (away : Contains (point_blocks n capacity points) b → ⊥) where
+module _ (n capacity : ℕ) (points : PointMap) (b : Block) (h : IsVisited n capacity points b) (away : Contains (point_blocks n capacity points) b → ⊥) where
   pub open_many : holds_few capacity points b ≡ false
   open_many =
       ⊎_elim (λ t. absurd (away
@@ -89,11 +95,11 @@ module _ (n capacity : ℕ) (points : PointMap) (b : Block) (h : IsOpen n capaci
   open_pixel least small = let pos =
       side_pos n b h.block in both_ways (holds_few capacity points b) open_many (few_pixel n capacity points least b h.block (omega arith))
 
-  pub open_quarter : 1 < b.side → (q : Block) → Contains (quarters_of b) q → IsOpen n capacity points q
+  pub open_quarter : 1 < b.side → (q : Block) → Contains (quarters_of b) q → IsVisited n capacity points q
   open_quarter wide q c = let r =
       quarters_are n b q h.block wide c in record { block = r.block; many = λ lt. ap (holds_few capacity points) r.parent ∙ open_many }
 
-pub open_whole : (n capacity : ℕ) (points : PointMap) (b : Block) → b ≡ whole n → IsOpen n capacity points b
+pub open_whole : (n capacity : ℕ) (points : PointMap) (b : Block) → b ≡ whole n → IsVisited n capacity points b
 open_whole n capacity points b is =
     let s = ap (λ (z : Block). z.side) is in
     record { block = subst (IsBlock n) (sym is) (IsBlock-whole n); many = λ lt. absurd (omega arith) }
@@ -102,7 +108,7 @@ open_whole n capacity points b is =
 pub found_next : (points : PointMap) (test : Pixel → Bool) (n : ℕ) (b : Block) (qs : List Block) (i : ℕ) (d : Block) → IsBlock n b → 1 < b.side
     → qs ≡ quarters_of b → i < 4 → (first old new : List Point)
     → ((here : List Point) × (old ≡ first ++ here) × AreOfAll points test (take i qs) (entries_of here))
-    → ((here : List Point) × (new ≡ old ++ here) × AreOf points test (get_or qs i d) (entries_of here))
+    → ((here : List Point) × (new ≡ old ++ here) × ArePointsOf points test (get_or qs i d) (entries_of here))
     → (here : List Point) × (new ≡ first ++ here) × AreOfAll points test (take (i + 1) qs) (entries_of here)
 found_next points test n b qs i d hb wide are lt first old new h k =
     let four = ap length are in (
@@ -116,7 +122,7 @@ found_next points test n b qs i d hb wide are lt first old new h k =
 pub found_all : (points : PointMap) (test : Pixel → Bool) (n : ℕ) (b : Block) (qs : List Block) (i : ℕ) → IsBlock n b → 1 < b.side
     → qs ≡ quarters_of b → 4 ≤ i → (first all : List Point)
     → ((here : List Point) × (all ≡ first ++ here) × AreOfAll points test (take i qs) (entries_of here))
-    → (here : List Point) × (all ≡ first ++ here) × AreOf points test b (entries_of here)
+    → (here : List Point) × (all ≡ first ++ here) × ArePointsOf points test b (entries_of here)
 found_all points test n b qs i hb wide are four first all h =
     let long = ap length are in (
       h.0,
@@ -142,7 +148,7 @@ module _ {X : Type 0} (R : X → X → Ordering) (o : IsTotalOrder R) where
       (tail_rises x y xs (h 0 x (omega arith)) rest, rest)
 
 module _ (points : PointMap) (n : ℕ) (inside : IsInside n points) (w : Window) (found : List Point) (b : Block) (is : b ≡ whole n)
-    (are : AreOf points (in_window w) b (entries_of found)) (list : List Point)
+    (are : ArePointsOf points (in_window w) b (entries_of found)) (list : List Point)
     (p : IsPermutation found list) (sorted : IsSortedByKey (λ q. q.at) pixel_cmp list) where
   there : (q : Point) → Contains list q → finmap.get points q.at ≡ Some q.label
   there q c = get_from_entry pixel_cmp pixel_total pixel_same points (entry_of q)
@@ -163,7 +169,7 @@ module _ (points : PointMap) (n : ℕ) (inside : IsInside n points) (w : Window)
       let cr = member_at list (suc k) d lt in
       let up = ap (λ (z : Point). is_lt (pixel_cmp z.at q.at)) (next_at list k d) ∙ sorted k d (omega arith) (omega arith) in
       less_from q.at r.at up (λ e.
-      apart_at list k d once lt (same_point q r e (some_same q.label r.label (sym (there q cq) ∙ ap (finmap.get points) e ∙ there r cr)))))
+      apart_at list k d once lt (same_point q r e (same_Some q.label r.label (sym (there q cq) ∙ ap (finmap.get points) e ∙ there r cr)))))
     where
       same_point : (q r : Point) → q.at ≡ r.at → q.label ≡ r.label → q ≡ r
       same_point q r at label = λ i. record { at = at i; label = label i }

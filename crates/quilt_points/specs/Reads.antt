@@ -50,7 +50,7 @@ pub record AreSaid (n capacity number : ℕ) (b : Block) (records : List Record)
   pub once : Apart records → Apart said
 
 -- the points of a block whose pixels pass a test, each once
-pub record AreOf (points : PointMap) (test : Pixel → Bool) (b : Block) (held : List (Pixel × ℕ)) : Type 0 where
+pub record ArePointsOf (points : PointMap) (test : Pixel → Bool) (b : Block) (held : List (Pixel × ℕ)) : Type 0 where
   pub once : Apart held
   pub members : (e : Pixel × ℕ) → Contains held e ↔ (Contains (finmap.entries points) e × (test e.0 ≡ true) × (in_block b e.0 ≡ true))
 

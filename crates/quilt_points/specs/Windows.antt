@@ -12,7 +12,7 @@ use Rattle.quilt_record.specs.declared.record.Record.{Record}
 use Rattle.quilt_points.specs.Reads.{IsRow}
 
 -- the block is the whole square, or lies in a larger one with too many points
-pub record IsOpen (n capacity : ℕ) (points : PointMap) (b : Block) : Type 0 where
+pub record IsVisited (n capacity : ℕ) (points : PointMap) (b : Block) : Type 0 where
   pub block : IsBlock n b
   pub many : b.side < side n → holds_few capacity points (parent_of b) ≡ false
 

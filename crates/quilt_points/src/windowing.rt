@@ -1,4 +1,4 @@
-ghost use Rattle.std.specs.Prelude.{◌≡◌, ℕ, ◌+◌, ◌*◌, ◌^◌, ◌&&◌, nat_lt, ◌<◌, ◌≤◌, ◌++◌, List, true, false, filter, Contains, IfOk, IfErr, IsErrOf, IsPermutation, OnOk};
+ghost use Rattle.std.specs.Prelude.{◌≡◌, ℕ, ◌+◌, ◌*◌, ◌^◌, ◌&&◌, nat_lt, ◌<◌, ◌≤◌, ◌++◌, List, true, false, filter, Contains, IfOk, IfErr, IsErrOf, IsPermutation, IfSome, MatchOption, OnOk};
 ghost use Rattle.std.specs.FinMap as finmap;
 ghost use Rattle.std.specs.List.Sorted.{IsSortedByKey};
 ghost use Rattle.std.specs.Option.{option_to_list};
@@ -14,9 +14,9 @@ ghost use Rattle.quilt_world.specs.Tale.{Goes};
 ghost use Rattle.quilt_store.specs.Stops.{IsSound};
 ghost use Rattle.quilt_btree.specs.Trees.{IsRooted, IsTree};
 ghost use Rattle.quilt_points.specs.Layers.{HasPoints, entries_of};
-ghost use Rattle.quilt_points.specs.Reads.{AreOf};
+ghost use Rattle.quilt_points.specs.Reads.{ArePointsOf, IsHeld};
 ghost use Rattle.quilt_points.specs.Searches.{IsSearch};
-ghost use Rattle.quilt_points.specs.Windows.{IsOpen, IsCovered, HasRow, meets_window, visited};
+ghost use Rattle.quilt_points.specs.Windows.{IsVisited, IsCovered, HasRow, meets_window, visited};
 
 use crate::layer::PointLayer;
 use crate::listing::{is_same, points_of};
@@ -88,16 +88,16 @@ fn add_within<S: PageStore>(
     requires window { is_window layer.level w ≡ true }
     requires block { IsBlock layer.level b }
     ensures found { OnOk result ((points : PointMap) → HasPoints (S.told store.old) tree.now layer.number layer.level layer.bucket points
-        → IsOpen layer.level layer.bucket points b → (here : List AnyPoint) × (found.new.items ≡ found.old.items ++ here)
-        × AreOf points (in_window w) b (entries_of here)) }
+        → IsVisited layer.level layer.bucket points b → (here : List AnyPoint) × (found.new.items ≡ found.old.items ++ here)
+        × ArePointsOf points (in_window w) b (entries_of here)) }
     ensures covered { OnOk result ((rs : List AnyRecord) (p : AnyPixel) → IsTree (S.told store.old) tree.now rs → in_window w p ≡ true
         → in_block b p ≡ true → IsCovered layer.level layer.bucket layer.number rs p) }
     ensures sound { IfErr result (λ e. (points : PointMap) → HasPoints (S.told store.old) tree.now layer.number layer.level layer.bucket points
-        → IsOpen layer.level layer.bucket points b → IsSound e) }
+        → IsVisited layer.level layer.bucket points b → IsSound e) }
     ensures search { OnOk result (IsSearch (S.told store.old) tree.now layer.level layer.bucket layer.number search.new) }
     ensures left { OnlyReads S.PageStore store.old store.new result }
     ensures reads { OnOk result ((points : PointMap) (k : ℕ) → HasPoints (S.told store.old) tree.now layer.number layer.level layer.bucket points
-        → IsOpen layer.level layer.bucket points b → b.side ≡ 2 ^ k
+        → IsVisited layer.level layer.bucket points b → b.side ≡ 2 ^ k
         → Goes (λ old new. new ≤ old + (6 + 3 * layer.bucket) * visited k layer.bucket points w b) (S.reads store.old) (S.reads store.new)) }
 {
     if !meets(b, w) {
@@ -138,7 +138,7 @@ fn visit<S: PageStore>(
     requires block { IsBlock layer.level b }
     requires meets { meets_window w b ≡ true }
     ensures found { IfOk result (λ yes. yes ≡ true → (points : PointMap) → HasPoints (S.told store.old) tree.now layer.number layer.level layer.bucket points
-        → (here : List AnyPoint) × (found.new.items ≡ found.old.items ++ here) × AreOf points (in_window w) b (entries_of here)) }
+        → (here : List AnyPoint) × (found.new.items ≡ found.old.items ++ here) × ArePointsOf points (in_window w) b (entries_of here)) }
     ensures covered { IfOk result (λ yes. yes ≡ true → (rs : List AnyRecord) → IsTree (S.told store.old) tree.now rs
         → HasRow layer.level layer.bucket layer.number rs b) }
     ensures none { IfOk result (λ yes. yes ≡ false → (found.new.items ≡ found.old.items)
@@ -150,7 +150,14 @@ fn visit<S: PageStore>(
     ensures reads { IfOk result (λ _. Goes (λ old new. new ≤ old + (6 + 3 * layer.bucket)) (S.reads store.old) (S.reads store.new)) }
 {
     if layer.bucket == 1 {
-        return visit_single(store, tree, layer, search, b, w, found);
+        return match single_of(store, tree, layer, search, b, w) {
+            Err(e) => Err(e),
+            Ok(None) => Ok(false),
+            Ok(Some(held)) => match add_said(found, held, w) {
+                Err(e) => Err(e),
+                Ok(()) => Ok(true),
+            },
+        };
     }
     match points_of(alloc, store, tree, layer, b) {
         Err(e) => Err(e),
@@ -162,46 +169,39 @@ fn visit<S: PageStore>(
     }
 }
 
-/// The same of a layer whose blocks hold one point at most, where the one record of a block says all: that of the block
-/// around a pixel of both. It reads at most 9 pages.
-fn visit_single<S: PageStore>(
+/// What a block that meets the window holds, in a layer whose blocks hold one point at most: None exactly where it is none of the
+/// layer's blocks. The one record of a block says all, so that of the block around a pixel of both does. It reads at most 9 pages.
+fn single_of<S: PageStore>(
     store: &mut S,
     tree: &Tree,
     layer: PointLayer,
     search: &mut Search,
     b: Block,
     w: Window,
-    found: &mut Vec<Point>,
-) -> Result<bool, Stop>
+) -> Result<Option<Option<Point>>, Stop>
     requires rooted { IsRooted (S.size store.old) tree.now }
     requires search { IsSearch (S.told store.old) tree.now layer.level layer.bucket layer.number search.old }
     requires bucket { layer.bucket ≡ 1 }
-    requires window { is_window layer.level w ≡ true }
     requires block { IsBlock layer.level b }
     requires meets { meets_window w b ≡ true }
-    ensures found { IfOk result (λ yes. yes ≡ true → (points : PointMap) → HasPoints (S.told store.old) tree.now layer.number layer.level layer.bucket points
-        → (here : List AnyPoint) × (found.new.items ≡ found.old.items ++ here) × AreOf points (in_window w) b (entries_of here)) }
-    ensures covered { IfOk result (λ yes. yes ≡ true → (rs : List AnyRecord) → IsTree (S.told store.old) tree.now rs
-        → HasRow layer.level layer.bucket layer.number rs b) }
-    ensures none { IfOk result (λ yes. yes ≡ false → (found.new.items ≡ found.old.items)
-        × ((points : PointMap) → HasPoints (S.told store.old) tree.now layer.number layer.level layer.bucket points
-        → Contains (point_blocks layer.level layer.bucket points) b → ⊥)) }
-    ensures sound { IfErr result (λ e. (points : PointMap) → HasPoints (S.told store.old) tree.now layer.number layer.level layer.bucket points → IsSound e) }
+    ensures read { IfOk result (λ o. (points : PointMap) → HasPoints (S.told store.old) tree.now layer.number layer.level layer.bucket points
+        → MatchOption o (Contains (point_blocks layer.level layer.bucket points) b → ⊥)
+        (λ held. IsHeld layer.level layer.bucket points b (option_to_list held))) }
+    ensures row { IfOk result (λ o. IfSome o (λ _. (rs : List AnyRecord) → IsTree (S.told store.old) tree.now rs
+        → HasRow layer.level layer.bucket layer.number rs b)) }
     ensures search { OnOk result (IsSearch (S.told store.old) tree.now layer.level layer.bucket layer.number search.new) }
+    ensures sound { IfErr result (λ e. (points : PointMap) → HasPoints (S.told store.old) tree.now layer.number layer.level layer.bucket points → IsSound e) }
     ensures left { OnlyReads S.PageStore store.old store.new result }
-    ensures reads { IfOk result (λ _. Goes (λ old new. new ≤ old + 9) (S.reads store.old) (S.reads store.new)) }
+    ensures reads { Goes (λ old new. new ≤ old + 9) (S.reads store.old) (S.reads store.new) }
 {
     let at = first_in(layer, b, w);
     match block_near(store, tree, layer, search, at) {
         Err(e) => Err(e),
         Ok((around, held)) => {
             if !is_same(around, b) {
-                return Ok(false);
+                return Ok(None);
             }
-            match add_said(found, held, w) {
-                Err(e) => Err(e),
-                Ok(()) => Ok(true),
-            }
+            Ok(Some(held))
         }
     }
 }

@@ -151,9 +151,9 @@ fn tally(words: &[u64], level: u8, c: Colour, square: Block, most: u32) -> Optio
         return Some(Tally::One(colour_of(inside, c)));
     }
     let four = quarters(square);
-    let first = tally(words, level, c, four[0], most)?;
-    let second = tally(words, level, c, four[1], most)?;
-    let third = tally(words, level, c, four[2], most)?;
-    let last = tally(words, level, c, four[3], most)?;
-    joined(first, second, third, last, most)
+    let mut tallies = [Tally::Many(0); 4];
+    for place in 0..4_usize {
+        tallies[place] = tally(words, level, c, four[place], most)?;
+    }
+    joined(tallies[0], tallies[1], tallies[2], tallies[3], most)
 }

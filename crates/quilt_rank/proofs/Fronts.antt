@@ -22,7 +22,7 @@ use Rattle.quilt_near.specs.Choices.{placed_at}
 use Rattle.quilt_near.proofs.NearPixels.{near_pixel, farther}
 use Rattle.quilt_near.proofs.Leading.{far_of}
 use Rattle.quilt_near.proofs.Waiting.{Waits, IsHeld, all_rest, came_out, least_of_all, waits_first, held_first, waits_split, held_rest, held_split}
-use Rattle.quilt_rank.specs.Ranks.{with_seg, last_far, is_past}
+use Rattle.quilt_rank.specs.Ranks.{with_ranked, last_far, is_past}
 use Rattle.quilt_rank.proofs.Orders.{Rank, Ahead, AreRanked, IsSettled}
 use Rattle.quilt_rank.proofs.Ranking.{last_is, IsRank, rank_of, rank_positive, ranking_from, steps}
 
@@ -49,7 +49,7 @@ module _ (n : ℕ) (p : Pixel) (k : ℕ) (l : Lines) (is : IsLines n l) where
   -- a block of the cover is opened
   pub leaf_step : (queue rest : List (ℕ × Block)) (rs : List Rank) (e : ℕ × Block) (list : List (ℕ × Seg)) → Front n p k l queue rs
       → IsPermutation queue (e ∷ rest) → list ≡ meeting l.segs e.1
-      → Front n p k l rest (fold (with_seg p k) rs list)
+      → Front n p k l rest (fold (with_ranked p k) rs list)
   leaf_step queue rest rs e list f h same =
       let es = finmap.entries l.segs in
       let test = λ (z : ℕ × Seg). meets z.1 (square e.1) in

@@ -20,7 +20,7 @@ use Rattle.quilt_near.proofs.Owing.{owed, owed_first, owed_leaf, owed_split, lef
 use Rattle.quilt_near.proofs.Waiting.{all_first, all_rest, all_split, came_out}
 use Rattle.quilt_near.proofs.Telling.{tells_same, tells_then, tells_weaker}
 use Rattle.quilt_rank.specs.Ranks.{last_far, is_past}
-use Rattle.quilt_rank.specs.Opened.{After, IsOpened}
+use Rattle.quilt_rank.specs.Opened.{AfterRanking, IsOpened}
 use Rattle.quilt_rank.proofs.Orders.{Rank}
 use Rattle.quilt_rank.proofs.Fronts.{Front, start, leaf_step, split_step, at_end, at_stop}
 use Rattle.quilt_rank.proofs.Closes.{close}
@@ -65,7 +65,7 @@ module _ (n : ℕ) (p : Pixel) (k : ℕ) (some : 1 ≤ k) (shown : Lines → Typ
         le-leb (block_distance p e.1 * far.den) far.num (subst (λ t. t * far.den ≤ far.num) w.distance c)
 
     by_part : (now : Option ℕ) (new : List (ℕ × Block)) (then : List Rank) → All (λ z. e.0 ≤ z.0) rest → is_past k rs e.0 ≡ false → (part : Part)
-        → ((l : Lines) → shown l → IsPart l e.1 part) → IsPartOf n e.1 part → After p k e.1 part rest new rs then
+        → ((l : Lines) → shown l → IsPart l e.1 part) → IsPartOf n e.1 part → AfterRanking p k e.1 part rest new rs then
         → Goes (λ x y. y ≤ x + pages_for part) mid now → Going n p k shown before now new then
     by_part now new then least past (Leaf list) found of after reads =
         subst (λ (t : List (ℕ × Block)). Going n p k shown before now t then) (sym after.0) (subst (Going n p k shown before now rest) (sym after.1) (record {
@@ -92,7 +92,7 @@ module _ (n : ℕ) (p : Pixel) (k : ℕ) (some : 1 ≤ k) (shown : Lines → Typ
               (λ x y z a b. omega arith) before mid now (g.paid l s long) reads;
         })
 
-    left_by_part : (new : List (ℕ × Block)) (then : List Rank) (part : Part) → IsPartOf n e.1 part → After p k e.1 part rest new rs then
+    left_by_part : (new : List (ℕ × Block)) (then : List Rank) (part : Part) → IsPartOf n e.1 part → AfterRanking p k e.1 part rest new rs then
         → left block_of new < left block_of queue
     left_by_part new then (Leaf list) of after =
         subst (λ (t : List (ℕ × Block)). left block_of t < left block_of queue) (sym after.0) (left_leaf block_of queue rest e h (side_pos n e.1 first_valid))

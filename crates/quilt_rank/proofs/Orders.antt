@@ -1,7 +1,8 @@
 -- Lists in the order of distance and then id.
 use Rattle.std.proofs.Common.{◌≡◌, ℕ, zero, suc, ◌<◌, ◌≤◌, Bool, true, false, cond, ◌⊎◌, inl, inr, ⊎_elim, List, [], ◌∷◌, length, take, Contains, eqb, eqb-true}
-use Rattle.std.proofs.Common.{refl, sym, ◌∙◌, ap, ap₂, subst, arith, true≢false}
+use Rattle.std.proofs.Common.{refl, sym, ◌∙◌, ap, ap₂, subst, arith}
 use Rattle.std.specs.Prelude.{◌==◌, if◌then◌else◌}
+use Rattle.std.proofs.lemmas.Bool.{eqb-false}
 use Rattle.quilt_types.specs.Fractions.{Fraction}
 use Rattle.quilt_types.specs.Ranking.{comes_first, placed}
 use Rattle.quilt_loc.proofs.Members.{Contains-nil, Contains-here, Contains-there, Contains-cons_cases}
@@ -59,12 +60,6 @@ module _ (all : Rank → Type 0) (positive : (a : Rank) → all a → 0 < a.1.de
     pub kept : (z : Rank) → Contains rs z → Contains now z
     pub real : (z : Rank) → Contains now z → (e ≡ z) ⊎ Contains rs z
 
-  pub not_eq : (a b : ℕ) → eqb a b ≡ false → a ≡ b → ⊥
-  not_eq a b f e = let t = eq_true a b e in absurd (true≢false (sym t ∙ f))
-    where
-      eq_true : (x y : ℕ) → x ≡ y → eqb x y ≡ true
-      eq_true x y i = grind arith
-
   put_by : (f : Rank) (fs : List Rank) (e : Rank) (same before : Bool) → eqb f.0 e.0 ≡ same → comes_first e f ≡ before → all e
       → ((z : Rank) → Contains (f ∷ fs) z → all z) → AreRanked (f ∷ fs) → Puts fs e (put fs e)
       → Puts (f ∷ fs) e (cond same (f ∷ fs) (cond before (e ∷ f ∷ fs) (f ∷ put fs e)))
@@ -72,7 +67,7 @@ module _ (all : Rank → Type 0) (positive : (a : Rank) → all a → 0 < a.1.de
       let is : f ≡ e = one f e (in' f (Contains-here f fs)) ie (eqb-true f.0 e.0 es) in
       record { ranked = ranked; here = subst (Contains (f ∷ fs)) is (Contains-here f fs); kept = λ z c. c; real = λ z c. inr c }
   put_by f fs e false true es eb ie in' ranked rest =
-      let h = first_ahead e f (not_eq f.0 e.0 es) eb in
+      let h = first_ahead e f (eqb-false f.0 e.0 es) eb in
       record {
         ranked = (
           λ z c. ⊎_elim (λ is. subst (Ahead e) is h)
@@ -84,7 +79,7 @@ module _ (all : Rank → Type 0) (positive : (a : Rank) → all a → 0 < a.1.de
         real = λ z c. Contains-cons_cases e (f ∷ fs) z c;
       }
   put_by f fs e false false es eb ie in' ranked rest =
-      let h = last_ahead e f (not_eq f.0 e.0 es) eb in
+      let h = last_ahead e f (eqb-false f.0 e.0 es) eb in
       record {
         ranked = (λ z c. ⊎_elim (λ is. subst (Ahead f) is h) (λ d. ranked.0 z d) (rest.real z c), rest.ranked);
         here = Contains-there f (put fs e) e rest.here;

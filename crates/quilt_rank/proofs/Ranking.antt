@@ -2,7 +2,7 @@
 use Rattle.std.proofs.Common.{◌≡◌, ℕ, zero, suc, ◌<◌, ◌≤◌, true, false, cond, inl, inr, ⊎_elim, List, [], ◌∷◌, length, take, fold, Contains, Bool, eqb, refl}
 use Rattle.std.proofs.Common.{sym, ◌∙◌, ap, subst, arith}
 use Rattle.std.specs.FinMap as finmap
-use Rattle.std.proofs.lemmas.Bool.{cases_lt}
+use Rattle.std.proofs.lemmas.Bool.{cases_lt, eqb-false}
 use Rattle.std.proofs.lemmas.List.{take_all, length-take-le}
 use Rattle.quilt_types.specs.declared.plane.Pixel.{Pixel}
 use Rattle.quilt_types.specs.declared.plane.Seg.{Seg}
@@ -15,8 +15,8 @@ use Rattle.quilt_clip.proofs.Orders.{up_to_itself}
 use Rattle.quilt_loc.proofs.Members.{Contains-nil, Contains-here, Contains-there, Contains-cons_cases}
 use Rattle.quilt_near.proofs.Leasts.{Rises, rises_if_sorted, same_entry}
 use Rattle.quilt_near.proofs.Leading.{IsOne, far_of, real_positive}
-use Rattle.quilt_rank.specs.Ranks.{added, with_seg, last_far}
-use Rattle.quilt_rank.proofs.Orders.{Rank, put, Ahead, AreRanked, ahead_trans, first_ahead, not_eq, Puts, puts, placed_put, in_take, take_ranked, take_few}
+use Rattle.quilt_rank.specs.Ranks.{added, with_ranked, last_far}
+use Rattle.quilt_rank.proofs.Orders.{Rank, put, Ahead, AreRanked, ahead_trans, first_ahead, Puts, puts, placed_put, in_take, take_ranked, take_few}
 use Rattle.quilt_rank.proofs.Orders.{IsSettled, take_settled, sub_length, first_of}
 use Rattle.quilt_rank.proofs.Adding.{added_put}
 
@@ -174,7 +174,7 @@ module _ (p : Pixel) (segs : SegMap) where
       record { full = omega arith; each = λ y c. each y (in_take (suc k) (f ∷ fs) y c) }
   cut_by f fs x z k false true es eb ix iz real long each rest =
       let l = length-take-le k (f ∷ fs) (omega arith) in
-      let before = first_ahead IsRank rank_positive one_rank x f (not_eq IsRank rank_positive one_rank f.0 x.0 es) eb in
+      let before = first_ahead IsRank rank_positive one_rank x f (eqb-false f.0 x.0 es) eb in
       let own = ahead x f z ix (real f (Contains-here f fs)) iz before (each f (Contains-here f fs)) in
       record {
         full = omega arith;
@@ -207,7 +207,7 @@ module _ (p : Pixel) (segs : SegMap) where
 
   pub steps : (k : ℕ) (rs : List Rank) (list : List (ℕ × Seg)) → ((e : ℕ × Seg) → Contains list e → Contains (finmap.entries segs) e) → AreRanked rs
       → ((z : Rank) → Contains rs z → IsRank z) → length rs ≤ k
-      → Steps k rs list (fold (with_seg p k) rs list)
+      → Steps k rs list (fold (with_ranked p k) rs list)
   steps k rs [] in' order real few = record { order = order; real = real; few = few; here = λ e c. absurd (Contains-nil e c); kept = λ z i s. s }
   steps k rs (x ∷ xs) in' order real few =
       let e = far_of p x in
@@ -219,7 +219,7 @@ module _ (p : Pixel) (segs : SegMap) where
       (λ c. take_settled k (put rs e) u.ranked z (u.kept z c)) (λ w. let a = cut_put k rs e z i iz real w.0 w.1 in inr (a.full, a.each)) s in
       let more = steps k now xs (λ y c. in' y (Contains-there x xs y c)) (take_ranked k (put rs e) u.ranked) now_real (take_few k (put rs e)) in
       let same : added rs e ≡ put rs e = added_put IsRank rank_positive one_rank rs e i real in
-      subst (λ (t : List Rank). Steps k rs (x ∷ xs) (fold (with_seg p k) (take k t) xs)) (sym same)
+      subst (λ (t : List Rank). Steps k rs (x ∷ xs) (fold (with_ranked p k) (take k t) xs)) (sym same)
       (record {
         order = more.order;
         real = more.real;

@@ -12,12 +12,12 @@ use Rattle.quilt_near.specs.Lines.{Lines}
 use Rattle.quilt_near.specs.Parts.{IsPart, IsPartOf, pages_for}
 use Rattle.quilt_near.specs.declared.part.Part.{Part}
 use Rattle.quilt_near.specs.declared.part.Part.TheVariants.{Split, Leaf}
-use Rattle.quilt_rank.specs.Ranks.{with_seg}
+use Rattle.quilt_rank.specs.Ranks.{with_ranked}
 
 -- what the opening of a block does to the queue and the first k so far
-abbrev pub After : Pixel → ℕ → Block → Part → List (ℕ × Block) → List (ℕ × Block) → List (ℕ × Fraction) → List (ℕ × Fraction) → Type 0
-After p k b Split old new was now = IsPermutation (map (placed_at p) (quarters_of b) ++ old) new × (now ≡ was)
-After p k b (Leaf list) old new was now = (new ≡ old) × (now ≡ fold (with_seg p k) was list)
+abbrev pub AfterRanking : Pixel → ℕ → Block → Part → List (ℕ × Block) → List (ℕ × Block) → List (ℕ × Fraction) → List (ℕ × Fraction) → Type 0
+AfterRanking p k b Split old new was now = IsPermutation (map (placed_at p) (quarters_of b) ++ old) new × (now ≡ was)
+AfterRanking p k b (Leaf list) old new was now = (new ≡ old) × (now ≡ fold (with_ranked p k) was list)
 
 -- a look gave the part of its block
 abbrev pub GivesPart : {S : Type 0} → (S → S → Result Part Stop → Type 0) → S → S → Type 0
@@ -29,5 +29,5 @@ pub record IsOpened (n : ℕ) (p : Pixel) (k : ℕ) (b : Block) (shown : Lines �
   pub part : Part
   pub found : (l : Lines) → shown l → IsPart l b part
   pub found_of : IsPartOf n b part
-  pub after : After p k b part old new was now
+  pub after : AfterRanking p k b part old new was now
   pub reads : Goes (λ before after. after ≤ before + pages_for part) reads_old reads_new

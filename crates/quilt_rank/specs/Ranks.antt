@@ -18,8 +18,8 @@ abbrev pub added : List (ℕ × Fraction) → ℕ × Fraction → List (ℕ × F
 added rs e = insert_key rank_cmp rs e
 
 -- the first k after one more segment
-abbrev pub with_seg : Pixel → ℕ → List (ℕ × Fraction) → ℕ × Seg → List (ℕ × Fraction)
-with_seg p k rs e = take k (added rs (e.0, square_distance p e.1))
+abbrev pub with_ranked : Pixel → ℕ → List (ℕ × Fraction) → ℕ × Seg → List (ℕ × Fraction)
+with_ranked p k rs e = take k (added rs (e.0, square_distance p e.1))
 
 -- the distance of the last one
 abbrev pub last_far : List (ℕ × Fraction) → Fraction

@@ -12,7 +12,7 @@ ghost use Rattle.quilt_near.specs.Lines.{Lines};
 ghost use Rattle.quilt_near.specs.Knowing.{Knows};
 ghost use Rattle.quilt_store.specs.Stops.{IsSound};
 ghost use Rattle.quilt_rank.specs.Firsts.{AreFirst};
-ghost use Rattle.quilt_rank.specs.Ranks.{with_seg, last_far};
+ghost use Rattle.quilt_rank.specs.Ranks.{with_ranked, last_far};
 ghost use Rattle.quilt_rank.specs.Opened.{IsOpened, GivesPart};
 
 use crate::firsts::Firsts;
@@ -27,7 +27,7 @@ fn rank_all(ranks: &mut Firsts, list: &[(u32, Seg)], p: Pixel, k: usize) -> Resu
     requires x { p.x < 8192 }
     requires y { p.y < 8192 }
     requires ends { All (λ e. (e.1.x1 < 8192) × (e.1.y1 < 8192) × (e.1.x2 < 8192) × (e.1.y2 < 8192)) list.now }
-    ensures { OnOk result (ranks.new ≡ fold (with_seg p k) ranks.old list.now) }
+    ensures { OnOk result (ranks.new ≡ fold (with_ranked p k) ranks.old list.now) }
 {
     for (id, s) in list {
         ranks.put(*id, square_distance(p, *s), k)?;

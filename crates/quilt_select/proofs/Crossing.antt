@@ -8,7 +8,7 @@ use Rattle.quilt_types.specs.Quadtrees.{reach}
 use Rattle.quilt_world.specs.Tale.{Goes}
 use Rattle.quilt_near.specs.Lines.{Lines}
 use Rattle.quilt_near.proofs.Telling.{tells_weaker}
-use Rattle.quilt_select.specs.Shares.{shares, holds_any, meets_any, is_touching}
+use Rattle.quilt_select.specs.Shares.{shares_pixel, holds_any, meets_any, is_touching}
 use Rattle.quilt_select.proofs.Filters.{any_of_one, filter_alike, reach_more}
 use Rattle.quilt_select.proofs.Sharing.{shares_touches}
 
@@ -22,6 +22,6 @@ pub crossed_reads : (n : ℕ) (w : Window) (ws : List Window) (l : Lines) (befor
     → Goes (λ old new. new ≤ old + reach n l.segs l.cover (is_touching w)) before now
 crossed_reads n w ws l before now one h =
     let more = reach_more n l.segs l.cover (holds_any ws) (is_touching w)
-    (λ b _ k. shares_touches b w (sym (any_of_one (shares b) w) ∙ (subst (λ (t : List Window). holds_any t b ≡ true) one k))) in
+    (λ b _ k. shares_touches b w (sym (any_of_one (shares_pixel b) w) ∙ (subst (λ (t : List Window). holds_any t b ≡ true) one k))) in
     tells_weaker (λ x y. y ≤ x + reach n l.segs l.cover (holds_any ws)) (λ x y. y ≤ x + reach n l.segs l.cover (is_touching w))
     (λ x y a. omega arith) before now h

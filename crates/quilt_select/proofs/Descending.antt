@@ -26,8 +26,8 @@ use Rattle.quilt_near.specs.declared.part.Part.TheVariants.{Split, Leaf}
 use Rattle.quilt_near.proofs.Reached.{All-at, list_any-true, list_any-from, quarter_holding, reached_whole, reached_quarter}
 use Rattle.quilt_near.proofs.Owing.{owed, owed_first, owed_left, owed_leaf, owed_split, left, left_leaf, left_split}
 use Rattle.quilt_near.proofs.Telling.{tells_same, tells_then, tells_weaker}
-use Rattle.quilt_select.specs.Shares.{shares, holds_any, meets_any}
-use Rattle.quilt_select.specs.Descents.{Waiting, quarter_with, four, with_seg, pages_of, After, IsOpened}
+use Rattle.quilt_select.specs.Shares.{shares_pixel, holds_any, meets_any}
+use Rattle.quilt_select.specs.Descents.{Waiting, quarter_with, four, with_selected, pages_of, AfterDescent, IsOpened}
 use Rattle.quilt_select.proofs.Touching.{IsTouched, touched}
 use Rattle.quilt_select.proofs.Gathering.{gathers}
 use Rattle.quilt_select.proofs.Filters.{one_each, passing}
@@ -56,7 +56,7 @@ pub record Front (ws : List Window) (l : Lines) (stack : List Waiting) (found : 
 -- The loop has come so far: with the reads before it and now, the blocks that wait, and what is found.
 pub record Going (n : ℕ) (ws : List Window) (shown : Lines → Type 0) (before now : Option ℕ) (stack : List Waiting) (found : Found) : Type 0 where
   pub valid : (e : Waiting) → Contains stack e → IsBlock n e.0
-  pub kept : (e : Waiting) → Contains stack e → (w : Window) → Contains e.1 w → Contains ws w × (shares e.0 w ≡ true)
+  pub kept : (e : Waiting) → Contains stack e → (w : Window) → Contains e.1 w → Contains ws w × (shares_pixel e.0 w ≡ true)
   pub front : (l : Lines) → shown l → Front ws l stack found
   pub paid : (l : Lines) → shown l → Goes (λ old new. new + owed block_of n (holds_any ws) l stack ≤ old + reach n l.segs l.cover (holds_any ws)) before now
 
@@ -84,7 +84,7 @@ module _ (n : ℕ) (ws : List Window) (inside : All (λ w. is_window n w ≡ tru
       let first : Waiting = (whole n, ws) in
       record {
         valid = λ e c. only (λ (z : Waiting). IsBlock n z.0) e (IsBlock-whole n) c;
-        kept = λ e c. only (λ (z : Waiting). (w : Window) → Contains z.1 w → Contains ws w × (shares z.0 w ≡ true)) e
+        kept = λ e c. only (λ (z : Waiting). (w : Window) → Contains z.1 w → Contains ws w × (shares_pixel z.0 w ≡ true)) e
             (λ w d. (d, whole_shares n w (window w d))) c;
         front = λ l s. record {
           reached = λ e c. only (λ (z : Waiting). is_reached l.cover z.0 ≡ true) e (reached_whole n l (lines l s)) c;
@@ -124,7 +124,7 @@ module _ (n : ℕ) (ws : List Window) (inside : All (λ w. is_window n w ≡ tru
     passes some =
         let m = some_member e.1 some in
         let k = g.kept e (Contains-here e rest) m.0 m.1 in
-        list_any-true (shares e.0) ws m.0 k.0 k.1
+        list_any-true (shares_pixel e.0) ws m.0 k.0 k.1
 
     near_any : (z : ℕ × Seg) → meets_any e.1 z.1 ≡ true → meets_any ws z.1 ≡ true
     near_any z h =
@@ -157,7 +157,7 @@ module _ (n : ℕ) (ws : List Window) (inside : All (λ w. is_window n w ≡ tru
 
     -- and is one of the layer
     gathered : (now : Option ℕ) (list : Found) → 0 < length e.1 → ((l : Lines) → shown l → IsPart l e.0 (Leaf list))
-        → Goes (λ x y. y ≤ x + (12 + 6 * length list)) mid now → Going n ws shown before now rest (fold (with_seg e.1) was list)
+        → Goes (λ x y. y ≤ x + (12 + 6 * length list)) mid now → Going n ws shown before now rest (fold (with_selected e.1) was list)
     gathered now list some found reads = record {
       valid = λ z c. g.valid z (Contains-there e rest z c);
       kept = λ z c. g.kept z (Contains-there e rest z c);
@@ -205,8 +205,8 @@ module _ (n : ℕ) (ws : List Window) (inside : All (λ w. is_window n w ≡ tru
           kept = λ z c. ⊎_elim
               (λ d.
               let m = part z d in
-              subst (λ (t : Waiting). (w : Window) → Contains t.1 w → Contains ws w × (shares t.0 w ≡ true)) m.2
-              (λ w k. let r = Contains-filter_from (shares m.0) near w k in ((g.kept e (Contains-here e rest) w r.0).0, r.1)))
+              subst (λ (t : Waiting). (w : Window) → Contains t.1 w → Contains ws w × (shares_pixel t.0 w ≡ true)) m.2
+              (λ w k. let r = Contains-filter_from (shares_pixel m.0) near w k in ((g.kept e (Contains-here e rest) w r.0).0, r.1)))
               (λ d. g.kept z (Contains-there e rest z d)) (Contains-append_cases (four b near) rest z c);
           front = λ l s.
               let f = g.front l s in
@@ -227,7 +227,7 @@ module _ (n : ℕ) (ws : List Window) (inside : All (λ w. is_window n w ≡ tru
                       by = quarter_with near r.0;
                       listed = Contains-append_left (four b near) rest (quarter_with near r.0) (Contains-map (quarter_with near) (quarters_of b) r.0 r.1);
                       holds = r.2;
-                      with_it = Contains-filter (shares r.0) near w with_it (pixel_shares z.1 r.0 w q r.2 t);
+                      with_it = Contains-filter (shares_pixel r.0) near w with_it (pixel_shares z.1 r.0 w q r.2 t);
                     }))
                     (λ k. inr (record {
                       by = held.by;
@@ -247,7 +247,7 @@ module _ (n : ℕ) (ws : List Window) (inside : All (λ w. is_window n w ≡ tru
         }
 
     by_part : (now : Option ℕ) (new : List Waiting) (then : Found) (part : Option Part) → ((l : Lines) → shown l → IfSome part (IsPart l e.0))
-        → After e.0 e.1 part rest new was then
+        → AfterDescent e.0 e.1 part rest new was then
         → Goes (λ x y. y ≤ x + pages_of part) mid now → Going n ws shown before now new then
     by_part now new then None found after reads =
         subst (λ (t : List Waiting). Going n ws shown before now t then) (sym after.1)
@@ -263,7 +263,7 @@ module _ (n : ℕ) (ws : List Window) (inside : All (λ w. is_window n w ≡ tru
         → IsOpened e.0 e.1 shown' rest new was then mid now → Going n ws shown before now new then
     going_on now new then shown' still o = by_part now new then o.part (λ l s. o.found l (still l s)) o.after o.reads
 
-    left_by_part : (new : List Waiting) (then : Found) (part : Option Part) → After e.0 e.1 part rest new was then
+    left_by_part : (new : List Waiting) (then : Found) (part : Option Part) → AfterDescent e.0 e.1 part rest new was then
         → left block_of new < left block_of (e ∷ rest)
     left_by_part new then None after =
         subst (λ (t : List Waiting). left block_of t < left block_of (e ∷ rest)) (sym after.1)

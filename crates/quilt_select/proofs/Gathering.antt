@@ -8,7 +8,7 @@ use Rattle.quilt_types.specs.declared.plane.Seg.{Seg}
 use Rattle.quilt_types.specs.declared.plane.Window.{Window}
 use Rattle.quilt_loc.proofs.Members.{Contains-nil, Contains-here, Contains-there, Contains-cons_cases}
 use Rattle.quilt_select.specs.Shares.{meets_any}
-use Rattle.quilt_select.specs.Descents.{with_seg}
+use Rattle.quilt_select.specs.Descents.{with_selected}
 
 abbrev Found : Type 0
 Found = List (ℕ × Seg)
@@ -65,7 +65,7 @@ pub record Gathers (near : List Window) (was seen now : Found) : Type 0 where
 
 -- of segments among all, of which one id has one
 module _ (near : List Window) (all : Found) (one : (a b : ℕ × Seg) → Contains all a → Contains all b → a.0 ≡ b.0 → a ≡ b) where
-  step : (was : Found) (x : ℕ × Seg) → Contains all x → ((z : ℕ × Seg) → Contains was z → Contains all z) → Gathers near was (x ∷ []) (with_seg near was x)
+  step : (was : Found) (x : ℕ × Seg) → Contains all x → ((z : ℕ × Seg) → Contains was z → Contains all z) → Gathers near was (x ∷ []) (with_selected near was x)
   step was x listed inside =
       elim (meets_any near x.1) as (λ t. meets_any near x.1 ≡ t → Gathers near was (x ∷ []) (cond t (insert_entry nat_cmp was x.0 x.1) was)) [
         | true ↦ λ t. record {
@@ -85,14 +85,14 @@ module _ (near : List Window) (all : Found) (one : (a b : ℕ × Seg) → Contai
       ] refl
 
   pub gathers : (was seen : Found) → ((z : ℕ × Seg) → Contains seen z → Contains all z) → ((z : ℕ × Seg) → Contains was z → Contains all z)
-      → Gathers near was seen (fold (with_seg near) was seen)
+      → Gathers near was seen (fold (with_selected near) was seen)
   gathers was [] listed inside = record { real = λ z c. inl c; here = λ z c m. absurd (Contains-nil z c); kept = λ z c. c }
   gathers was (x ∷ xs) listed inside =
       let s = step was x (listed x (Contains-here x xs)) inside in
-      let within : (z : ℕ × Seg) → Contains (with_seg near was x) z → Contains all z = λ z c.
+      let within : (z : ℕ × Seg) → Contains (with_selected near was x) z → Contains all z = λ z c.
       ⊎_elim (λ d. inside z d) (λ w. ⊎_elim (λ is. subst (Contains all) is (listed x (Contains-here x xs))) (λ d. absurd (Contains-nil z d))
       (Contains-cons_cases x [] z w.0)) (s.real z c) in
-      let r = gathers (with_seg near was x) xs (λ z c. listed z (Contains-there x xs z c)) within in
+      let r = gathers (with_selected near was x) xs (λ z c. listed z (Contains-there x xs z c)) within in
       record {
         real = λ z c. ⊎_elim
             (λ d. ⊎_elim (λ f. inl f)

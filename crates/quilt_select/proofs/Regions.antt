@@ -26,7 +26,7 @@ use Rattle.quilt_near.specs.Lines.{Lines}
 use Rattle.quilt_near.proofs.Reached.{list_any-true, list_any-from}
 use Rattle.quilt_near.proofs.Telling.{tells_weaker}
 use Rattle.quilt_select.specs.Regions.{is_coloured_at, is_over, has_coloured, is_coloured, coloured_windows}
-use Rattle.quilt_select.specs.Shares.{shares, holds_any, meets_any}
+use Rattle.quilt_select.specs.Shares.{shares_pixel, holds_any, meets_any}
 use Rattle.quilt_select.proofs.Touching.{touched}
 use Rattle.quilt_select.proofs.Sharing.{four_parts, four_true}
 use Rattle.quilt_select.proofs.Filters.{filter_alike, reach_more}
@@ -111,11 +111,11 @@ module _ (n : ℕ) (g : Grid) where
   -- a block with a pixel of such a leaf
   shares_coloured : (b : Block) → IsBlock n b → holds_any leaf_windows b ≡ true → has_coloured n g b ≡ true
   shares_coloured b h e =
-      let m = list_any-from (shares b) leaf_windows e in
+      let m = list_any-from (shares_pixel b) leaf_windows e in
       let k = coloured_from m.0 m.1 in
       let c = k.block in
       let p4 = four_parts (nat_lt b.x (c.x + c.side)) (nat_lt c.x (b.x + b.side)) (nat_lt b.y (c.y + c.side)) (nat_lt c.y (b.y + b.side))
-      (subst (λ (z : Window). shares b z ≡ true) (sym k.is) m.2) in
+      (subst (λ (z : Window). shares_pixel b z ≡ true) (sym k.is) m.2) in
       let l = ltb-true b.x (c.x + c.side) p4.0 in
       let r = ltb-true c.x (b.x + b.side) p4.1 in
       let t = ltb-true b.y (c.y + c.side) p4.2 in

@@ -7,12 +7,12 @@ use Rattle.quilt_types.specs.declared.plane.Window.{Window}
 use Rattle.quilt_types.specs.Segments.{meets}
 
 -- the block and the window have a pixel in common
-abbrev pub shares : Block → Window → Bool
-shares b w = nat_lt b.x (w.x + w.w) && nat_lt w.x (b.x + b.side) && nat_lt b.y (w.y + w.h) && nat_lt w.y (b.y + b.side)
+abbrev pub shares_pixel : Block → Window → Bool
+shares_pixel b w = nat_lt b.x (w.x + w.w) && nat_lt w.x (b.x + b.side) && nat_lt b.y (w.y + w.h) && nat_lt w.y (b.y + b.side)
 
 -- the block has a pixel of one of the windows
 abbrev pub holds_any : List Window → Block → Bool
-holds_any ws b = list_any (shares b) ws
+holds_any ws b = list_any (shares_pixel b) ws
 
 -- the segment meets the closed rectangle of one of the windows
 abbrev pub meets_any : List Window → Seg → Bool

@@ -9,8 +9,8 @@ ghost use Rattle.quilt_world.specs.Tale.{Goes};
 ghost use Rattle.quilt_near.specs.Lines.{Lines};
 ghost use Rattle.quilt_near.specs.Knowing.{Knows};
 ghost use Rattle.quilt_store.specs.Stops.{IsSound};
-ghost use Rattle.quilt_select.specs.Shares.{shares as shares_of, holds_any, meets_any as meets_any_of};
-ghost use Rattle.quilt_select.specs.Descents.{four, with_seg, IsOpened};
+ghost use Rattle.quilt_select.specs.Shares.{shares_pixel as shares_of, holds_any, meets_any as meets_any_of};
+ghost use Rattle.quilt_select.specs.Descents.{four, with_selected, IsOpened};
 
 use crate::stack::Stack;
 use quilt_clip::crosses;
@@ -62,7 +62,7 @@ fn gather(
     list: &[(u32, Seg)],
     near: &[Window],
 ) -> Result<(), AllocError>
-    ensures { OnOk result (found.new.entries ≡ fold (with_seg near.now) found.old.entries list.now) }
+    ensures { OnOk result (found.new.entries ≡ fold (with_selected near.now) found.old.entries list.now) }
 {
     for (id, s) in list {
         if meets_any(*s, near) {

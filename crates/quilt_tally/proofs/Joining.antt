@@ -1,12 +1,11 @@
 -- The leaves of a block by those of its quarters.
-use Rattle.std.proofs.Common.{◌≡◌, ℕ, zero, suc, ◌+◌, ◌*◌, ◌/◌, ◌^◌, ◌<◌, ◌≤◌, Bool, true, false, cond, ⊎_elim, List, [], ◌∷◌, ◌++◌, length, flat_map, Contains, refl, sym, ◌∙◌, ap, subst, arith, length-append, pow-suc}
+use Rattle.std.proofs.Common.{◌≡◌, ℕ, zero, suc, ◌+◌, ◌/◌, ◌^◌, ◌<◌, ◌≤◌, Bool, true, false, cond, ⊎_elim, List, [], ◌∷◌, ◌++◌, length, flat_map, Contains, refl, sym, ◌∙◌, ap, subst, arith, length-append, pow-suc}
 use Rattle.std.proofs.lemmas.Bool.{cases_lt, true≢false, false_from_ne_true}
 use Rattle.std.proofs.lemmas.List.{length-map}
 use Rattle.quilt_types.proofs.CodeLaws.{pow_same}
-use Rattle.quilt_types.specs.declared.plane.Pixel.{Pixel}
 use Rattle.quilt_types.specs.declared.plane.Block.{Block}
 use Rattle.quilt_types.specs.declared.plane.Colour.{Colour}
-use Rattle.quilt_types.specs.Plane.{side, corner, whole, quarters_of, Holds, IsBlock, Within}
+use Rattle.quilt_types.specs.Plane.{side, corner, whole, quarters_of, IsBlock, Within}
 use Rattle.quilt_types.specs.Layers.{Grid, colour_at}
 use Rattle.quilt_types.specs.Quadtrees.{is_uniform, coloured}
 use Rattle.quilt_loc.proofs.Quartered.{IsQuarter, IsBlock-whole, quarters_are, halved}
@@ -16,7 +15,7 @@ use Rattle.quilt_blocks.specs.Mosaic.{HasColour}
 use Rattle.quilt_blocks.proofs.Colours.{HasColour-from_uniform, uniform-from_HasColour, HasColour-within, colour_is}
 use Rattle.quilt_tally.specs.declared.tally.Tally.{Tally}
 use Rattle.quilt_tally.specs.declared.tally.Tally.TheVariants.{One, Many}
-use Rattle.quilt_tally.specs.Tallies.{size_of, HasLeaves, IsMixed, IsTally, AreTallies}
+use Rattle.quilt_tally.specs.Tallies.{size_of, HasLeaves, IsTally, AreTallies}
 
 -- a part of a block of one colour is one leaf of it
 part_of_one : (n : ℕ) (g : Grid) (b q : Block) (t : Tally) → IsBlock n q → Within q b → is_uniform n g b ≡ true → IsTally n g q t

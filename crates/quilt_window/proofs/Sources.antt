@@ -17,7 +17,7 @@ use Rattle.std.proofs.lemmas.Bool.{cases_lt}
 use Rattle.quilt_blocks.specs.Mosaic.{HasColour}
 use Rattle.quilt_raster.specs.Painting.{IsIn, place_of, in_cells}
 use Rattle.quilt_window.specs.declared.span.Span.{Span}
-use Rattle.quilt_window.specs.Copying.{IsSpan, source, copied, square}
+use Rattle.quilt_window.specs.Copying.{IsSpan, source, copied_colour, square_at}
 
 pub span_room : (n : ℕ) (s : Span) → n ≤ 12 → IsSpan n s → (s.from + s.length ≤ 4096) × (s.to + s.length ≤ 4096)
 span_room n s le h =
@@ -32,15 +32,15 @@ source_in s at low high = cond-true _ _ _ (and_from _ _ (le-leb _ _ low) (lt-ltb
 -- all pixels of a block take their colours from one square of one colour
 pub copied_in : (n : ℕ) (g : Grid) (across down : Span) (b : Block) (q : Pixel) (c : ℕ) → across.to ≤ b.x → b.x + b.side ≤ across.to + across.length
     → down.to ≤ b.y → b.y + b.side ≤ down.to + down.length
-    → q.x ≡ b.x - across.to + across.from → q.y ≡ b.y - down.to + down.from → HasColour n g (square q b.side) c
-    → (p : Pixel) → Holds b p → copied n g across down p ≡ c
+    → q.x ≡ b.x - across.to + across.from → q.y ≡ b.y - down.to + down.from → HasColour n g (square_at q b.side) c
+    → (p : Pixel) → Holds b p → copied_colour n g across down p ≡ c
 copied_in n g across down b q c xl xr yl yr ex ey has p h =
     let l = h.left in
     let r = h.right in
     let t = h.top in
     let d = h.bottom in
     let from : Pixel = record { x = p.x - across.to + across.from; y = p.y - down.to + down.from } in
-    let held : Holds (square q b.side) from = record { left = omega arith; right = omega arith; top = omega arith; bottom = omega arith } in
+    let held : Holds (square_at q b.side) from = record { left = omega arith; right = omega arith; top = omega arith; bottom = omega arith } in
     ap₂ (colour_from n g) (source_in across p.x (omega arith) (omega arith)) (source_in down p.y (omega arith) (omega arith))
     ∙ has.each from held
 
@@ -49,7 +49,7 @@ pub copied_cells : (n : ℕ) (g : Grid) (across down : Span) (b : Block) (w : Wi
     → b.x + b.side ≤ across.to + across.length → down.to ≤ b.y → b.y + b.side ≤ down.to + down.length → w.x ≡ b.x - across.to + across.from
     → w.y ≡ b.y - down.to + down.from → w.w ≡ b.side → w.h ≡ b.side
     → ((q : Pixel) → IsIn w q → get_or cells (place_of w q) 0 ≡ colour_at n g q)
-    → (p : Pixel) → Holds b p → in_cells cells b p ≡ copied n g across down p
+    → (p : Pixel) → Holds b p → in_cells cells b p ≡ copied_colour n g across down p
 copied_cells n g across down b w cells xl xr yl yr ex ey ew eh has p h =
     let l = h.left in
     let r = h.right in
@@ -125,7 +125,7 @@ module _ (n : ℕ) (p : Pixel) (s x y : ℕ) (h : Begins n p s x y) (in_x : p.x 
   -- a square has the colour of the blocks that it meets
   pub square_has : (g : Grid) (c : ℕ) → HasColour n g (record { x = x; y = y; side = s }) c
       → (x < p.x → HasColour n g (record { x = x + s; y = y; side = s }) c) → (y < p.y → HasColour n g (record { x = x; y = y + s; side = s }) c)
-      → (x < p.x → y < p.y → HasColour n g (record { x = x + s; y = y + s; side = s }) c) → HasColour n g (square p s) c
+      → (x < p.x → y < p.y → HasColour n g (record { x = x + s; y = y + s; side = s }) c) → HasColour n g (square_at p s) c
   square_has g c first right lower last = record {
     each = λ q held.
         let l = held.left in
@@ -157,7 +157,7 @@ by_tests n g p x y false c d same = refl
 
 -- a window takes each of its pixels from where it is
 pub copied_window : (n : ℕ) (g : Grid) (w : Window) (p : Pixel)
-    → copied n g (record { from = w.x; to = w.x; length = w.w }) (record { from = w.y; to = w.y; length = w.h }) p ≡ cond (in_window w p) (colour_at n g p) 0
+    → copied_colour n g (record { from = w.x; to = w.x; length = w.w }) (record { from = w.y; to = w.y; length = w.h }) p ≡ cond (in_window w p) (colour_at n g p) 0
 copied_window n g w p =
     by_tests n g p (p.x - w.x + w.x) (p.y - w.y + w.y) (nat_le w.x p.x && nat_lt p.x (w.x + w.w)) (nat_le w.y p.y) (nat_lt p.y (w.y + w.h))
     (λ ab cd.

@@ -17,9 +17,9 @@ abbrev pub source : Span → ℕ → Option ℕ
 source s at = if nat_le s.to at && nat_lt at (s.to + s.length) then Some (at - s.to + s.from) else None
 
 -- the colour that a pixel takes, and 0 where it takes none
-abbrev pub copied : ℕ → Grid → Span → Span → Pixel → ℕ
-copied n g across down p = colour_from n g (source across p.x) (source down p.y)
+abbrev pub copied_colour : ℕ → Grid → Span → Span → Pixel → ℕ
+copied_colour n g across down p = colour_from n g (source across p.x) (source down p.y)
 
 -- the pixels of this many columns and rows from the pixel on
-abbrev pub square : Pixel → ℕ → Block
-square p size = record { x = p.x; y = p.y; side = size }
+abbrev pub square_at : Pixel → ℕ → Block
+square_at p size = record { x = p.x; y = p.y; side = size }

@@ -5,7 +5,7 @@ ghost use Rattle.quilt_types.specs.Algebra.{grid_of};
 ghost use Rattle.quilt_loc.specs.Codes.{code_from, code_to, IsSide};
 ghost use Rattle.quilt_blocks.specs.Adding.{Adds};
 ghost use Rattle.quilt_blocks.specs.Mosaic.{HasColour};
-ghost use Rattle.quilt_window.specs.Copying.{IsSpan, copied, square};
+ghost use Rattle.quilt_window.specs.Copying.{IsSpan, copied_colour, square_at};
 
 use crate::span::Span;
 use quilt_blocks::{LeafList, Maker};
@@ -29,7 +29,7 @@ pub(crate) fn copy(
 ) -> Result<LeafList, AllocError>
     requires across { IsSpan a.now.level across }
     requires down { IsSpan a.now.level down }
-    ensures { IfOk result (λ list. list ≡ record { level = a.now.level; grid = grid_of a.now.level (copied a.now.level a.now.grid across down) }) }
+    ensures { IfOk result (λ list. list ≡ record { level = a.now.level; grid = grid_of a.now.level (copied_colour a.now.level a.now.grid across down) }) }
 {
     let level = a.level();
     let whole = whole_square(level);
@@ -57,7 +57,7 @@ fn copy_block(
     requires level { maker.old.level ≡ a.now.level }
     requires next { code_from b ≡ length maker.old.colours }
     requires room { length cells.old ≡ 1024 }
-    ensures copied { OnOk result (Adds a.now.level (copied a.now.level a.now.grid across down) (code_to b) maker.old maker.new) }
+    ensures copied { OnOk result (Adds a.now.level (copied_colour a.now.level a.now.grid across down) (code_to b) maker.old maker.new) }
     ensures room { length cells.new ≡ 1024 }
 {
     if let Some(colour) = one_colour(a, across, down, b) {
@@ -93,7 +93,7 @@ fn copy_tile(
     requires level { maker.old.level ≡ a.now.level }
     requires next { code_from b ≡ length maker.old.colours }
     requires room { b.side * b.side ≤ length cells.old }
-    ensures copied { OnOk result (Adds a.now.level (copied a.now.level a.now.grid across down) (code_to b) maker.old maker.new) }
+    ensures copied { OnOk result (Adds a.now.level (copied_colour a.now.level a.now.grid across down) (code_to b) maker.old maker.new) }
     ensures long { length cells.new ≡ length cells.old }
 {
     let left = across.source_of(b.x);
@@ -116,7 +116,7 @@ fn one_colour(a: &LeafList, across: Span, down: Span, b: Block) -> Option<Colour
     requires valid { IsBlock a.now.level b }
     requires across { IsSpan a.now.level across }
     requires down { IsSpan a.now.level down }
-    ensures some { IfSome result (λ c. (p : PixelValue) → Holds b p → copied a.now.level a.now.grid across down p ≡ c.0) }
+    ensures some { IfSome result (λ c. (p : PixelValue) → Holds b p → copied_colour a.now.level a.now.grid across down p ≡ c.0) }
     ensures none { IsNone result → 1 < b.side }
 {
     if across.misses(b.x, b.side) || down.misses(b.y, b.side) {
@@ -143,7 +143,7 @@ fn colour_around(a: &LeafList, p: Pixel, side: u16) -> Option<Colour>
     requires power { IsSide side }
     requires in_x { p.x + side ≤ side_of a.now.level }
     requires in_y { p.y + side ≤ side_of a.now.level }
-    ensures { IfSome result (λ c. HasColour a.now.level a.now.grid (square p side) c.0) }
+    ensures { IfSome result (λ c. HasColour a.now.level a.now.grid (square_at p side) c.0) }
 {
     let Block { x, y, .. } = block_at(p, side);
     let colour = a.uniform_in(Block { x, y, side })?;

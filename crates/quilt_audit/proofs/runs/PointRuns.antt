@@ -26,7 +26,7 @@ use Rattle.quilt_point_laws.proofs.OnBlocks.{IsOn, OfBlock}
 use Rattle.quilt_audit.specs.declared.tally.Tally.{Tally}
 use Rattle.quilt_audit.specs.declared.points.PointRun.{PointRun}
 use Rattle.quilt_line_audit.specs.Layers.{SpellsOne, IsLayerOf, Refuses, IsShort}
-use Rattle.quilt_audit.specs.Points.{IsTallied, IsPointRun, AreClosed, IsOpened, IsFinished, IsIn, IsStart, count_of, shifted}
+use Rattle.quilt_audit.specs.Points.{IsTallied, IsPointRun, AreClosed, IsOpened, IsFinished, IsHeldIn, IsStart, count_of, recent_after}
 use Rattle.quilt_audit.proofs.Lists.{rises_front, rises_behind}
 use Rattle.quilt_audit.proofs.runs.PointSteps.{opened, more_tallied, closes, begins_placed, begins_closed}
 use Rattle.quilt_audit.proofs.ahead.PointAhead.{on_layer, on_part, on_code, from_record, of_fits}
@@ -44,7 +44,7 @@ none_map None P Q f h = f h
 none_map (Some a) P Q f h = tt
 
 -- ---- a list of three
-pub shifted_three : (ts : List Tally) (z t : Tally) → length ts ≡ 3 → shifted ts t ≡ get_or ts 1 z ∷ get_or ts 2 z ∷ t ∷ []
+pub shifted_three : (ts : List Tally) (z t : Tally) → length ts ≡ 3 → recent_after ts t ≡ get_or ts 1 z ∷ get_or ts 2 z ∷ t ∷ []
 shifted_three [] z t e = absurd (omega arith)
 shifted_three (a ∷ []) z t e = absurd (omega arith)
 shifted_three (a ∷ b ∷ []) z t e = absurd (omega arith)
@@ -114,7 +114,7 @@ module _ (form n : ℕ) (least : 1 ≤ n) (le : n ≤ 12) (run : PointRun) (laye
   block_of (Some x) full o = o.on.0
 
   -- ---- refused
-  pub outside_refused : (held : Option Point) → FactFits n (point_fact b held) → (IsIn b held → ⊥)
+  pub outside_refused : (held : Option Point) → FactFits n (point_fact b held) → (IsHeldIn b held → ⊥)
       → Refuses form n rs layer (kinds.Points run.bucket) (said held)
   outside_refused None fit out = absurd (out tt)
   outside_refused (Some x) fit out =
@@ -214,7 +214,7 @@ module _ (form n : ℕ) (least : 1 ≤ n) (le : n ≤ 12) (run : PointRun) (laye
       (h.so_far (rises_front by_key rs (r ∷ rest) up)))
 
   -- ---- taken
-  pub more_taken : (held : Option Point) → FactFits n (point_fact b held) → IsIn b held → b ≡ run.last.block → (next : PointRun)
+  pub more_taken : (held : Option Point) → FactFits n (point_fact b held) → IsHeldIn b held → b ≡ run.last.block → (next : PointRun)
       → next ≡ record run { last = record { block = run.last.block; count = run.last.count + 1 } } → 1 ≤ run.last.count
       → run.last.count < run.bucket → count_of held ≡ 1
       → IsPointRun form n (rs ++ said held ∷ []) layer run.bucket next
@@ -229,18 +229,18 @@ module _ (form n : ℕ) (least : 1 ≤ n) (le : n ≤ 12) (run : PointRun) (laye
         (h.so_far (rises_front by_key rs (said (Some x) ∷ []) up));
   }
 
-  pub opened_taken : (held : Option Point) → FactFits n (point_fact b held) → IsIn b held → code_from b ≡ run.end → run.least ≤ run.last.count
+  pub opened_taken : (held : Option Point) → FactFits n (point_fact b held) → IsHeldIn b held → code_from b ≡ run.end → run.least ≤ run.last.count
       → (next : PointRun) → IsOpened n run b (count_of held) next
       → IsPointRun form n (rs ++ said held ∷ []) layer run.bucket next
   opened_taken held fit inside at enough next o = record {
     bucket = o.bucket;
     so_far = λ up.
-        let closed : AreClosed form n rs layer run.bucket run.end (shifted run.recent run.last) =
+        let closed : AreClosed form n rs layer run.bucket run.end (recent_after run.recent run.last) =
         ⊎_elim (λ before. begins_closed form n rs layer run.bucket run before) (λ t. closes form n le rs layer run.bucket run t enough)
         (h.so_far (rises_front by_key rs (said held ∷ []) up)) in
         let three : length run.recent ≡ 3 =
         ⊎_elim (λ before. ap length before.start.recent) (λ t. t.ends.three) (h.so_far (rises_front by_key rs (said held ∷ []) up)) in
-        inr (opened form n le rs layer run.bucket run.end (shifted run.recent run.last) closed b hb at next o.end
+        inr (opened form n le rs layer run.bucket run.end (recent_after run.recent run.last) closed b hb at next o.end
         (o.recent three) held o.tail o.least inside fit);
   }
 
@@ -249,10 +249,10 @@ module _ (form n : ℕ) (le : n ≤ 12) (run : PointRun) (layer capacity : ℕ) 
     (h : IsPointRun form n rs layer capacity run) where
   pub finished_points : IsFinished n run → Rises by_key rs → IsLayerOf form n rs layer (kinds.Points capacity)
   finished_points f up =
-      let closed : AreClosed form n rs layer capacity run.end (shifted run.recent run.last) =
+      let closed : AreClosed form n rs layer capacity run.end (recent_after run.recent run.last) =
       ⊎_elim (λ before. begins_closed form n rs layer capacity run before) (λ t. closes form n le rs layer capacity run t f.enough) (h.so_far up) in
-      whole_points form n le rs layer capacity (shifted run.recent run.last)
-      (subst (λ (k : ℕ). AreClosed form n rs layer capacity k (shifted run.recent run.last)) f.covered closed)
+      whole_points form n le rs layer capacity (recent_after run.recent run.last)
+      (subst (λ (k : ℕ). AreClosed form n rs layer capacity k (recent_after run.recent run.last)) f.covered closed)
 
   pub short_points : (IsFinished n run → ⊥) → IsShort form n rs layer (kinds.Points capacity)
   short_points none rest l e past up s =

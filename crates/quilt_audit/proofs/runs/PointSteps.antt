@@ -38,7 +38,7 @@ use Rattle.quilt_point_laws.proofs.Plans.{AreIn-length, put_valid}
 use Rattle.quilt_audit.specs.declared.tally.Tally.{Tally}
 use Rattle.quilt_audit.specs.declared.points.PointRun.{PointRun}
 use Rattle.quilt_audit.specs.Covers.{AreFour, no_block, no_blocks}
-use Rattle.quilt_audit.specs.Points.{plain, HasFacts, ArePlaced, EndIn, AreClosed, total, blocks_behind, IsTallied, IsStart, IsBefore, IsLeast, shifted, IsIn}
+use Rattle.quilt_audit.specs.Points.{plain, HasFacts, ArePlaced, EndIn, AreClosed, total, blocks_behind, IsTallied, IsStart, IsBefore, IsLeast, recent_after, IsHeldIn}
 use Rattle.quilt_audit.specs.Points.{count_of, no_tally}
 use Rattle.quilt_audit.proofs.Lists.{last_cases, in_front, at_last, below_itself, rises_before}
 use Rattle.quilt_audit.proofs.Covering.{covers_more, covered_more, last_apart, last_four}
@@ -286,7 +286,7 @@ module _ (form n : ℕ) (le : n ≤ 12) (rs : List Record) (layer capacity end :
         }
 
   pub opened : (held : Option Point) → next.last ≡ record { block = b; count = count_of held } → IsLeast n capacity next.recent b next.least
-      → IsIn b held → FactFits n (point_fact b held)
+      → IsHeldIn b held → FactFits n (point_fact b held)
       → IsTallied form n (rs ++ record_of n capacity [] layer (point_fact b held) ∷ []) layer capacity next
   opened None opens least inside fits =
       let bs = closed.blocks in
@@ -390,7 +390,7 @@ module _ (form n : ℕ) (le : n ≤ 12) (rs : List Record) (layer capacity : ℕ
 -- ---- the last block is closed
 shifted_blocks : (front blocks : List Block) (recent : List Tally) (t : Tally) → let block : Tally → Block = λ t. t.block in
     no_blocks ++ blocks ≡ front ++ map block recent
-    → (f : List Block) × (no_blocks ++ (blocks ++ t.block ∷ []) ≡ f ++ map block (shifted recent t))
+    → (f : List Block) × (no_blocks ++ (blocks ++ t.block ∷ []) ≡ f ++ map block (recent_after recent t))
 shifted_blocks front blocks [] t e =
     (no_blocks ++ blocks, sym (append_assoc no_blocks blocks (t.block ∷ [])))
 shifted_blocks front blocks (a ∷ rest) t e =
@@ -401,17 +401,17 @@ shifted_blocks front blocks (a ∷ rest) t e =
           ∙ ap (λ (l : List Block). (front ++ a.block ∷ []) ++ l) (sym (map-append block rest (t ∷ []))),
     )
 
-shifted_long : (recent : List Tally) (t : Tally) → length recent ≡ 3 → length (shifted recent t) ≡ 3
+shifted_long : (recent : List Tally) (t : Tally) → length recent ≡ 3 → length (recent_after recent t) ≡ 3
 shifted_long [] t e = absurd (omega arith)
 shifted_long (a ∷ rest) t e = let l = length-append rest (t ∷ []) in omega arith
 
-shifted_from : (recent : List Tally) (t u : Tally) → Contains (shifted recent t) u → Contains recent u ⊎ (t ≡ u)
+shifted_from : (recent : List Tally) (t u : Tally) → Contains (recent_after recent t) u → Contains recent u ⊎ (t ≡ u)
 shifted_from [] t u c = ⊎_elim (λ e. inr e) (λ d. absurd (Contains-nil u d)) (Contains-cons_cases t [] u c)
 shifted_from (a ∷ rest) t u c = ⊎_elim (λ d. inl (Contains-there a rest u d)) (λ e. inr e) (last_cases rest t u c)
 
 pub closes : (form n : ℕ) → n ≤ 12 → (rs : List Record) (layer capacity : ℕ) (run : PointRun) → IsTallied form n rs layer capacity run
     → run.least ≤ run.last.count
-    → AreClosed form n rs layer capacity run.end (shifted run.recent run.last)
+    → AreClosed form n rs layer capacity run.end (recent_after run.recent run.last)
 closes form n le rs layer capacity run t enough =
     let block : Tally → Block = λ t. t.block in
     let f = shifted_blocks t.ends.front t.closed run.recent run.last t.ends.split in
@@ -442,8 +442,8 @@ no_entry e c =
     let z : None ≡ Some e.1 = sym (finmap.get-empty pixel_cmp e.0) ∙ get_from_entry pixel_cmp pixel_total pixel_same finmap.empty e c in
     cc
 
-none_is : (run : PointRun) (capacity : ℕ) → IsStart capacity run → shifted run.recent run.last ≡ no_tally ∷ no_tally ∷ no_tally ∷ []
-none_is run capacity s = ap (λ (l : List Tally). shifted l run.last) s.recent ∙ ap (λ (t : Tally). no_tally ∷ no_tally ∷ t ∷ []) s.tail
+none_is : (run : PointRun) (capacity : ℕ) → IsStart capacity run → recent_after run.recent run.last ≡ no_tally ∷ no_tally ∷ no_tally ∷ []
+none_is run capacity s = ap (λ (l : List Tally). recent_after l run.last) s.recent ∙ ap (λ (t : Tally). no_tally ∷ no_tally ∷ t ∷ []) s.tail
 
 tally_none : (t : Tally) → Contains (no_tally ∷ no_tally ∷ no_tally ∷ []) t → t ≡ no_tally
 tally_none t c =
@@ -473,7 +473,7 @@ begins_placed form n rs layer capacity run h =
     }
 
 pub begins_closed : (form n : ℕ) (rs : List Record) (layer capacity : ℕ) (run : PointRun) → IsBefore form rs layer capacity run
-    → AreClosed form n rs layer capacity run.end (shifted run.recent run.last)
+    → AreClosed form n rs layer capacity run.end (recent_after run.recent run.last)
 begins_closed form n rs layer capacity run h =
     let points : PointMap = finmap.empty in
     let made : AreClosed form n rs layer capacity 0 (no_tally ∷ no_tally ∷ no_tally ∷ []) = record {
@@ -489,5 +489,5 @@ begins_closed form n rs layer capacity run h =
             λ t c. subst (λ (u : Tally). points_in points u.block ≡ u.count) (sym (tally_none t c)) (bare_is points no_block (λ q k m t'. no_entry (q, k) m));
       };
     } in
-    subst (λ (k : ℕ). AreClosed form n rs layer capacity k (shifted run.recent run.last)) (sym h.start.end)
+    subst (λ (k : ℕ). AreClosed form n rs layer capacity k (recent_after run.recent run.last)) (sym h.start.end)
     (subst (AreClosed form n rs layer capacity 0) (sym (none_is run capacity h.start)) made)

@@ -7,7 +7,7 @@ use Rattle.std.specs.FinMap.{nat_cmp-IsAntisymmetric}
 use Rattle.std.specs.Ordering.{nat_cmp}
 use Rattle.std.specs.Cmp.{nat_cmp_total}
 use Rattle.std.specs.List.Sorted.{IsPermutation}
-use Rattle.std.proofs.lemmas.Bool.{and_from, and_parts}
+use Rattle.std.proofs.lemmas.Bool.{and_from, and_parts, and_right}
 use Rattle.std.proofs.lemmas.List.{append-nil, map-append, take_all}
 use Rattle.std.proofs.lemmas.Grind.{flat_map-append}
 use Rattle.std.proofs.lemmas.List.Sums.{length-filter}
@@ -285,11 +285,7 @@ module _ (n layer t : ℕ) (segs : SegMap) (id : ℕ) (s : Seg) where
 -- ---- a descent
 module _ (cover : BlockSet) (s : Seg) where
   pub met_away : (k : ℕ) (b : Block) → meets s (square b) ≡ false → met_in cover s k b ≡ []
-  met_away ℕ.zero b e = ap (λ u. cond {A = List Block} u (b ∷ []) []) (and_false (finset.contains cover b) (meets s (square b)) e)
-    where
-      and_false : (u v : Bool) → v ≡ false → (u && v) ≡ false
-      and_false true v h = h
-      and_false false v h = refl
+  met_away ℕ.zero b e = ap (λ u. cond {A = List Block} u (b ∷ []) []) (and_right (finset.contains cover b) (meets s (square b)) e)
   met_away (ℕ.suc k) b e = ap (λ u. cond {A = List Block} (not u) []
       (cond {A = List Block} (finset.contains cover b) (b ∷ []) (flat_map (met_in cover s k) (quarters_of b)))) e
 

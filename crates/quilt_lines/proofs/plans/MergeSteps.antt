@@ -1,7 +1,7 @@
 -- A block that is kept, quarters that become one block and quarters that stay apart, as records.
 use Rattle.std.proofs.Common.{◌≡◌, ◌↔◌, ℕ, ◌+◌, ◌<◌, ◌≤◌, Bool, true, false, cond, not, ◌&&◌, nat_le, leb-true, List, [], ◌∷◌, map, filter, length}
-use Rattle.std.proofs.Common.{⊎_elim, refl, sym, ◌∙◌, ap, subst, arith, Contains, Less, nat_cmp, eqb-true, eq-eqb, true≢false, suc, get_or, pow_pos}
-use Rattle.std.proofs.Common.{pow-suc, Option, Some, None}
+use Rattle.std.proofs.Common.{⊎_elim, refl, sym, ◌∙◌, ap, subst, arith, Contains, Less, nat_cmp, eqb-true, eq-eqb, suc, get_or, pow_pos}
+use Rattle.std.proofs.Common.{pow-suc}
 use Rattle.std.specs.Prelude.{◌==◌}
 use Rattle.std.specs.List.{list_all}
 use Rattle.std.specs.List.Sorted.{IsSorted}
@@ -10,10 +10,10 @@ use Rattle.std.specs.Cmp.{nat_cmp_total}
 use Rattle.std.specs.FinMap as finmap
 use Rattle.std.specs.FinMap.{nat_cmp-IsAntisymmetric}
 use Rattle.std.proofs.lemmas.List.Sorted.{ranks_by, sorted_far}
-use Rattle.std.proofs.lemmas.Bool.{both_ways, cases_lt, and_parts}
-use Rattle.std.proofs.lemmas.Bool.Decides.{nat_tests}
+use Rattle.std.proofs.lemmas.Bool.{both_ways, cases_lt, and_parts, lt-leb, cond-true, cond-false}
 use Rattle.std.proofs.lemmas.List.{append-nil, length-map}
 use Rattle.std.proofs.lemmas.List.Sums.{length-filter}
+use Rattle.std.proofs.lemmas.Option.{none-some}
 use Rattle.quilt_types.specs.Sets as finset
 use Rattle.quilt_types.specs.declared.plane.Block.{Block}
 use Rattle.quilt_types.specs.declared.plane.Seg.{Seg}
@@ -39,7 +39,7 @@ use Rattle.quilt_line_laws.proofs.Settling.{leaf_step, unmet_step, merge_step, c
 use Rattle.quilt_lines.specs.declared.merging.Settled.{Settled}
 use Rattle.quilt_lines.specs.Layers.{fact_record}
 use Rattle.quilt_lines.specs.Reads.{ids_of, AreIdsAt}
-use Rattle.quilt_lines.specs.Merges.{records_on, pair_facts, met_by, Settles, Gathers, IsMerged}
+use Rattle.quilt_lines.specs.Merges.{records_on, pair_facts, met_by, SettlesBlock, Gathers, IsMerged}
 
 -- ---- ids in their order
 not_above : (x y : ℕ) → is_lt (nat_cmp y x) ≡ false → (x ≡ y → ⊥) → nat_cmp x y ≡ Less
@@ -103,26 +103,15 @@ pair_facts-are segs b = ap (or_none (IsMetByNone b)) (pairs_are (meeting segs b)
 pub on_one : (n layer : ℕ) (f : Block → List Fact) (b : Block) → records_on n layer f (b ∷ []) ≡ map (fact_record n layer) (f b)
 on_one n layer f b = ap (map (fact_record n layer)) (append-nil (f b))
 
-chosen : {X : Type 0} (u : Bool) (x y : X) → u ≡ true → cond u x y ≡ x
-chosen true x y e = refl
-chosen false x y e = absurd (true≢false (sym e))
-
-passed : {X : Type 0} (u : Bool) (x y : X) → u ≡ false → cond u x y ≡ y
-passed false x y e = refl
-passed true x y e = absurd (true≢false e)
-
 -- ---- a segment less
 module _ (segs : SegMap) (id : ℕ) where
   other_met : (b : Block) (i : ℕ) → IsMet (finmap.remove segs id) b i ↔ (IsMet segs b i × (i ≡ id → ⊥))
   other_met b i = (
-    λ m. let d : i ≡ id → ⊥ = λ e. none_some m.0 (sym (get_removed nat_cmp nat_cmp_total nat_cmp-IsAntisymmetric segs id)
+    λ m. let d : i ≡ id → ⊥ = λ e. none-some m.0 (sym (get_removed nat_cmp nat_cmp_total nat_cmp-IsAntisymmetric segs id)
         ∙ ap (finmap.get (finmap.remove segs id)) (sym e) ∙ m.1) in
         ((m.0, sym (get_kept nat_cmp nat_cmp_total nat_cmp-IsAntisymmetric segs id i d) ∙ m.1, m.2), d),
     λ w. (w.0.0, get_kept nat_cmp nat_cmp_total nat_cmp-IsAntisymmetric segs id i w.1 ∙ w.0.1, w.0.2),
   )
-    where
-      none_some : (r : Seg) → ◌≡◌ {A = Option Seg} None (Some r) → ⊥
-      none_some r e = cc
 
   pub others_are : (b : Block) → filter (λ i. not (i == id)) (ids_of (meeting segs b)) ≡ ids_of (meeting (finmap.remove segs id) b)
   others_are b =
@@ -156,7 +145,7 @@ module _ (n layer t id : ℕ) (segs : SegMap) (cover : BlockSet) (s : Seg) (k : 
       → x.parts.items ≡ map (fact_record n layer) (pair_facts b ids) → x.coming.items ≡ [] → x.going.items ≡ []
       → x.staying.items ≡ cond (meets s (square b)) (fact_record n layer (IsMetBy b id) ∷ []) []
       → x.emptied.items ≡ cond (meets s (square b) && (length x.ids.items == 0)) (fact_record n layer (IsMetByNone b) ∷ []) []
-      → Settles n layer t id segs cover s k b x
+      → SettlesBlock n layer t id segs cover s k b x
   kept_settles ids x at one others parts coming going staying emptied =
       let step = leaf_step t (finmap.remove segs id) cover s k b at.there in
       let met = others ∙ ap (filter (λ i. not (i == id))) at.are ∙ others_are segs id b in
@@ -166,7 +155,7 @@ module _ (n layer t id : ℕ) (segs : SegMap) (cover : BlockSet) (s : Seg) (k : 
         parts = λ _.
             parts ∙ ap (λ (l : List ℕ). map (fact_record n layer) (pair_facts b l)) at.are ∙ ap (map (fact_record n layer)) (pair_facts-are segs b)
             ∙ sym (on_one n layer (line_facts segs) b)
-            ∙ ap (records_on n layer (line_facts segs)) (sym (chosen (finset.contains cover b) (b ∷ []) (going_in t (finmap.remove segs id) cover s k b)
+            ∙ ap (records_on n layer (line_facts segs)) (sym (cond-true (finset.contains cover b) (b ∷ []) (going_in t (finmap.remove segs id) cover s k b)
             at.there));
         coming = coming ∙ ap (records_on n layer (line_facts (finmap.remove segs id))) step.come;
         going = going ∙ ap (records_on n layer (line_facts segs)) step.go;
@@ -225,13 +214,10 @@ module _ (n layer t id : ℕ) (segs : SegMap) (cover : BlockSet) (s : Seg) (k : 
     same_few : x.one ≡ true → nat_le (segs_meeting (finmap.remove segs id) b) t ≡ nat_le (length x.ids.items) t
     same_few o =
         ⊎_elim
-        (λ gt. let least = number_least o in nat_le_false (segs_meeting (finmap.remove segs id) b) t (omega arith)
-        ∙ sym (nat_le_false (length x.ids.items) t gt))
+        (λ gt. let least = number_least o in lt-leb (segs_meeting (finmap.remove segs id) b) t (omega arith)
+        ∙ sym (lt-leb (length x.ids.items) t gt))
         (λ few. ap (λ z. nat_le z t) (sym (number_is o few)))
         (cases_lt t (length x.ids.items))
-      where
-        nat_le_false : (a c : ℕ) → c < a → nat_le a c ≡ false
-        nat_le_false a c lt = grind (arith, nat_tests)
 
     becomes_is : becomes_one t (finmap.remove segs id) cover s k b ≡ (x.one && nat_le (length x.ids.items) t)
     becomes_is =
@@ -246,7 +232,7 @@ module _ (n layer t id : ℕ) (segs : SegMap) (cover : BlockSet) (s : Seg) (k : 
     -- they stay apart
     pub cut_settles : (y : Settled) → (x.one && nat_le (length x.ids.items) t) ≡ false → y.one ≡ false
         → y.coming.items ≡ x.coming.items → y.going.items ≡ x.going.items → y.staying.items ≡ x.staying.items → y.emptied.items ≡ x.emptied.items
-        → Settles n layer t id segs cover s (suc k) b y
+        → SettlesBlock n layer t id segs cover s (suc k) b y
     cut_settles y many one coming going staying emptied =
         let step = cut_step t (finmap.remove segs id) cover s k b away met (becomes_is ∙ many) in
         record {
@@ -261,7 +247,7 @@ module _ (n layer t id : ℕ) (segs : SegMap) (cover : BlockSet) (s : Seg) (k : 
 
     -- they become one block
     pub merged_settles : (y : Settled) → (x.one && nat_le (length x.ids.items) t) ≡ true → IsMerged n layer b x.ids.items x.parts.items y
-        → Settles n layer t id segs cover s (suc k) b y
+        → SettlesBlock n layer t id segs cover s (suc k) b y
     merged_settles y little m =
         let both = and_parts x.one (nat_le (length x.ids.items) t) little in
         let few = leb-true (length x.ids.items) t both.1 in
@@ -276,7 +262,7 @@ module _ (n layer t id : ℕ) (segs : SegMap) (cover : BlockSet) (s : Seg) (k : 
           parts = λ _.
               m.parts ∙ g.parts both.0 ∙ ap (records_on n layer (line_facts segs)) step.go
               ∙ ap (records_on n layer (line_facts segs)) (sym
-              (passed (finset.contains cover b) (b ∷ []) (going_in t (finmap.remove segs id) cover s (suc k) b) away));
+              (cond-false (finset.contains cover b) (b ∷ []) (going_in t (finmap.remove segs id) cover s (suc k) b) away));
           coming =
               m.coming ∙ ap (λ (l : List ℕ). map (fact_record n layer) (pair_facts b l)) ids
               ∙ ap (map (fact_record n layer)) (pair_facts-are (finmap.remove segs id) b)
@@ -289,7 +275,7 @@ module _ (n layer t id : ℕ) (segs : SegMap) (cover : BlockSet) (s : Seg) (k : 
 -- ---- a block that is none of the layer's, and that is one pixel or is not met
 module _ (n layer t id : ℕ) (segs : SegMap) (cover : BlockSet) (s : Seg) where
   nothing_settles : (k : ℕ) (b : Block) (x : Settled) → IsSettled t (finmap.remove segs id) cover s k b false [] [] [] → x.one ≡ false
-      → x.coming.items ≡ [] → x.going.items ≡ [] → x.staying.items ≡ [] → x.emptied.items ≡ [] → Settles n layer t id segs cover s k b x
+      → x.coming.items ≡ [] → x.going.items ≡ [] → x.staying.items ≡ [] → x.emptied.items ≡ [] → SettlesBlock n layer t id segs cover s k b x
   nothing_settles k b x step one coming going staying emptied = record {
     one = one ∙ step.is_one;
     ids = λ o. absurd (both_ways x.one one o);
@@ -302,13 +288,13 @@ module _ (n layer t id : ℕ) (segs : SegMap) (cover : BlockSet) (s : Seg) where
 
   pub unmet_settles : (k : ℕ) (b : Block) (x : Settled) → b.side ≡ side k → finset.contains cover b ≡ false → (1 < b.side → meets s (square b) ≡ false)
       → x.one ≡ false
-      → x.coming.items ≡ [] → x.going.items ≡ [] → x.staying.items ≡ [] → x.emptied.items ≡ [] → Settles n layer t id segs cover s k b x
+      → x.coming.items ≡ [] → x.going.items ≡ [] → x.staying.items ≡ [] → x.emptied.items ≡ [] → SettlesBlock n layer t id segs cover s k b x
   unmet_settles ℕ.zero b x e away unmet =
       nothing_settles ℕ.zero b x (record {
         is_one = sym away;
         come = refl;
         go = refl;
-        stay = sym (passed (finset.contains cover b && meets s (square b)) (b ∷ []) [] (ap (λ (u : Bool). u && meets s (square b)) away));
+        stay = sym (cond-false (finset.contains cover b && meets s (square b)) (b ∷ []) [] (ap (λ (u : Bool). u && meets s (square b)) away));
       })
   unmet_settles (suc k) b x e away unmet =
       let p = pow-suc 2 k in

@@ -22,7 +22,7 @@ use Rattle.quilt_line_laws.proofs.Counting.{fewer_law}
 use Rattle.quilt_line_laws.proofs.Lawful.{removed_law}
 use Rattle.quilt_lines.specs.declared.merging.Settled.{Settled}
 use Rattle.quilt_lines.specs.Layers.{fact_record}
-use Rattle.quilt_lines.specs.Merges.{met_by, Settles}
+use Rattle.quilt_lines.specs.Merges.{met_by, SettlesBlock}
 use Rattle.quilt_lines.specs.Plans.{IsLinePlan}
 use Rattle.quilt_lines.proofs.plans.Changes as changes
 
@@ -40,7 +40,7 @@ behind_one none first mid all xs ys gs ss r q e f g h is ex ey =
 
 module _ (n layer t id : ℕ) (le : n ≤ 12) (least : 1 ≤ layer) (segs : SegMap) (cover : BlockSet) (s : Seg) (valid : IsLineMap n t segs cover)
     (had : finmap.get segs id ≡ Some s)
-    (x : Settled) (h : Settles n layer t id segs cover s n (whole n) x) (gone back : List Record)
+    (x : Settled) (h : SettlesBlock n layer t id segs cover s n (whole n) x) (gone back : List Record)
     (gone_is : gone ≡ fact_record n layer (IsSegment id s) ∷ x.going.items ++ x.staying.items) (back_is : back ≡ x.coming.items ++ x.emptied.items) where
   abbrev now : SegMap
   now = finmap.remove segs id

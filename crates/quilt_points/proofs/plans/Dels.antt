@@ -4,6 +4,7 @@ use Rattle.std.proofs.Common.{Contains, filter}
 use Rattle.std.specs.Prelude.{IsNone}
 use Rattle.std.specs.FinMap as finmap
 use Rattle.std.specs.List.Sorted.{IsPermutation}
+use Rattle.std.proofs.lemmas.Option.{none-some}
 use Rattle.quilt_types.specs.declared.plane.Pixel.{Pixel}
 use Rattle.quilt_types.specs.declared.plane.Block.{Block}
 use Rattle.quilt_types.specs.declared.plane.Point.{Point}
@@ -27,7 +28,7 @@ use Rattle.quilt_points.specs.Climbing.{IsOnWay}
 use Rattle.quilt_point_laws.specs.Growing.{gone_of, come_of}
 use Rattle.quilt_edits.specs.Edits.{CanBeEdits}
 use Rattle.quilt_points.specs.Plans.{IsPlan}
-use Rattle.quilt_points.proofs.Finds.{same_pixel_is, same_pixel_self, none_some}
+use Rattle.quilt_points.proofs.Finds.{same_pixel_is, same_pixel_self}
 use Rattle.quilt_points.proofs.Shapes.{block_is}
 use Rattle.quilt_points.proofs.plans.Puts.{one_gone, one_come}
 use Rattle.quilt_points.proofs.Ways.{way_holds}
@@ -133,7 +134,7 @@ module _ (n capacity number : ℕ) (le : n ≤ 12) (least : 1 ≤ number) (most 
 
 pub is_none_from : {X : Type 0} (o : Option X) → o ≡ None → IsNone o
 is_none_from None e = refl
-is_none_from (Some x) e = absurd (none_some x (sym e))
+is_none_from (Some x) e = absurd (none-some x (sym e))
 
 pub none_is : {X : Type 0} (o : Option X) → IsNone o → o ≡ None
 none_is None h = refl

@@ -5,6 +5,7 @@ use Rattle.std.specs.Prelude.{IsSome, ◌==◌}
 use Rattle.std.specs.FinMap as finmap
 use Rattle.std.specs.List.Sorted.{IsPermutation}
 use Rattle.std.proofs.lemmas.Bool.{cases_Bool, both_ways}
+use Rattle.std.proofs.lemmas.Option.{none-some}
 use Rattle.quilt_types.specs.declared.plane.Pixel.{Pixel}
 use Rattle.quilt_types.specs.declared.plane.Block.{Block}
 use Rattle.quilt_types.specs.declared.plane.Point.{Point}
@@ -28,7 +29,7 @@ use Rattle.quilt_points.specs.Reads.{IsHeld}
 use Rattle.quilt_point_laws.specs.Growing.{gone_of, come_of}
 use Rattle.quilt_edits.specs.Edits.{CanBeEdits}
 use Rattle.quilt_points.specs.Plans.{IsPlan}
-use Rattle.quilt_points.proofs.Finds.{none_or_some, none_some}
+use Rattle.quilt_points.proofs.Finds.{none_or_some}
 use Rattle.quilt_points.proofs.Shapes.{block_is}
 use Rattle.quilt_points.proofs.plans.Plans as plans
 
@@ -67,7 +68,7 @@ held_point points b held p are c =
     get_from_entry pixel_cmp pixel_total pixel_same points (entry_of p) w.0
 
 pub is_some_from : {X : Type 0} (o : Option X) (x : X) → o ≡ Some x → IsSome o
-is_some_from None x e = absurd (none_some x e)
+is_some_from None x e = absurd (none-some x e)
 is_some_from (Some y) x e = refl
 
 -- no point at a pixel of the block where none of the block's is
@@ -83,7 +84,7 @@ taken_from points b held at are p c e = is_some_from (finmap.get points at) p.la
 
 pub not_some : {X : Type 0} (o : Option X) → o ≡ None → IsSome o → ⊥
 not_some None e h = cc
-not_some (Some x) e h = absurd (none_some x (sym e))
+not_some (Some x) e h = absurd (none-some x (sym e))
 
 -- ---- a put
 module _ (n capacity number : ℕ) (le : n ≤ 12) (least : 1 ≤ number) (most : number ≤ 255) (points : PointMap) (valid : IsPointMap 2 n capacity points)

@@ -7,7 +7,7 @@ use Rattle.quilt_loc.proofs.Blocks.{IsBlock-up}
 use Rattle.quilt_loc.proofs.Nesting.{side_pos}
 use Rattle.quilt_loc.proofs.Intervals.{half_codes}
 use Rattle.quilt_blocks.specs.Adding.{Adds}
-use Rattle.quilt_buffer.specs.Reach.{near}
+use Rattle.quilt_buffer.specs.Reach.{within_reach}
 use Rattle.quilt_blocks.proofs.Adding.{Adds-then, Adds-push, part_at}
 use Rattle.quilt_buffer.proofs.Filling.{filled_by_all}
 use Rattle.quilt_buffer.proofs.Reaching.{near_covered, near_none, wide_if}
@@ -16,7 +16,7 @@ use Rattle.quilt_buffer.proofs.buffering.+fill.Goals as goal
 pub returns-then-is_covered : goal.returns-then-is_covered
 returns-then-is_covered t c =
     let n = c.args.maker.now.level in
-    let f = near c.args.r c.args.blocks.now in
+    let f = within_reach c.args.r c.args.blocks.now in
     on_ok_weaker c.push.result
     (λ is. Adds-push n f c.args.maker.now c.push.new.self c.args.square 1 c.requires.most c.requires.valid c.requires.next
     (near_covered c.args.r c.args.square c.args.blocks.now (sym c.is_covered.ensures ∙ c.if-is_covered.true)) is)
@@ -25,7 +25,7 @@ returns-then-is_covered t c =
 pub returns-then-is_empty : goal.returns-then-is_empty
 returns-then-is_empty t c =
     let n = c.args.maker.now.level in
-    let f = near c.args.r c.args.blocks.now in
+    let f = within_reach c.args.r c.args.blocks.now in
     let empty = sym c.is_empty.ensures ∙ c.if-is_empty.true in
     let none : length c.in_ok-close.close.items ≡ 0 = search rules in
     on_ok_weaker c.push-then-is_empty.result
@@ -72,7 +72,7 @@ pub loop-quarter-preserved : goal.loop-quarter-preserved
 loop-quarter-preserved t c =
     let n = c.args.maker.now.level in
     let s = c.args.square in
-    let f = near c.args.r c.in_ok-close.close.items in
+    let f = within_reach c.args.r c.in_ok-close.close.items in
     let i = c.loop-quarter.quarter-index in
     let h = s.side / 2 * (s.side / 2) in
     let open' = sym c.is_covered.ensures ∙ c.if-is_covered.false in
@@ -85,8 +85,8 @@ loop-quarter-preserved t c =
     let m = c.loop-quarter.maker in
     let new = c.fill.new.maker in
     let end = code_to (get_or c.quarters-quarter-items.result i (record { x = 0; y = 0; side = 0 })) in
-    let at_level = subst (λ (k : ℕ). Adds k (near c.args.r c.deref.result.now) end m new) c.loop-quarter.invariant.level c.in_ok-fill.ensures in
-    let by_close = subst (λ (l : List Block). Adds n (near c.args.r l) end m new) c.deref.ensures.value at_level in
+    let at_level = subst (λ (k : ℕ). Adds k (within_reach c.args.r c.deref.result.now) end m new) c.loop-quarter.invariant.level c.in_ok-fill.ensures in
+    let by_close = subst (λ (l : List Block). Adds n (within_reach c.args.r l) end m new) c.deref.ensures.value at_level in
     Adds-then n f (code_from s + i * h) (code_from s + (i + 1) * h) c.args.maker.now m new (omega arith) c.loop-quarter.invariant
     (subst (λ (k : ℕ). Adds n f k m new) q.to by_close)
 
@@ -95,7 +95,7 @@ returns t c =
     let n = c.args.maker.now.level in
     let s = c.args.square in
     let m = c.loop-quarter.maker in
-    let f = near c.args.r c.in_ok-close.close.items in
+    let f = within_reach c.args.r c.in_ok-close.close.items in
     let open' = sym c.is_covered.ensures ∙ c.if-is_covered.false in
     let full = sym c.is_empty.ensures ∙ c.if-is_empty.false in
     let some : 0 < length c.in_ok-close.close.items = search rules in

@@ -1,7 +1,7 @@
-use Rattle.std.proofs.Common.{ℕ, ◌+◌, List, length, map, sum, eqb-true, ap, refl, sym, ◌∙◌, subst}
+use Rattle.std.proofs.Common.{◌+◌, List, length, map, sum, eqb-true, ap, refl, sym, ◌∙◌, subst}
 use Rattle.std.specs.List.{AllZip}
 use Rattle.quilt_join.specs.declared.rows.Row.{Row}
-use Rattle.quilt_join.specs.Rows.{IsRow}
+use Rattle.quilt_join.specs.Rows.{IsSharingRow}
 use Rattle.quilt_join.proofs.Gathered.{part_counted, part_listed, part_few, are_many, all_listed}
 use Rattle.quilt_join.proofs.joining.all_pairs.Goals as goal
 
@@ -12,7 +12,7 @@ returns-in-None g c b serves =
     are_many c.args.list.now b (c.loop-rest.total + sum found) _ c.in-None.ensures.many
     (part_counted b c.args.list.now c.loop-rest.rest.now part c.split_at.result.1.now c.split_at.ensures.by_index.0 c.deref.result.now found c.loop-rest.total
     (c.loop-rest.total + sum found)
-    (subst (λ (rows : List Row). AllZip (IsRow b) part rows) (sym c.deref.ensures.value) (c.in_ok-rows.ensures b serves))
+    (subst (λ (rows : List Row). AllZip (IsSharingRow b) part rows) (sym c.deref.ensures.value) (c.in_ok-rows.ensures b serves))
     (c.deref-in-loop-rest.ensures.value ∙ c.in_ok-counts.ensures) refl (c.loop-rest.invariant.counted b serves))
 
 pub pairs_for-requires-clause-few : goal.pairs_for-requires-clause-few
@@ -31,13 +31,13 @@ loop-rest-preserved g c =
       counted = λ b serves.
           part_counted b c.args.list.now rest part after c.split_at.ensures.by_index.0 c.deref.result.now c.deref-in-loop-rest.result.now c.loop-rest.total
           c.in-Some.all
-          (subst (λ (rows : List Row). AllZip (IsRow b) part rows) (sym c.deref.ensures.value) (c.in_ok-rows.ensures b serves))
+          (subst (λ (rows : List Row). AllZip (IsSharingRow b) part rows) (sym c.deref.ensures.value) (c.in_ok-rows.ensures b serves))
           (c.deref-in-loop-rest.ensures.value ∙ c.in_ok-counts.ensures) c.in-Some.ensures.sum (c.loop-rest.invariant.counted b serves);
       listed = λ b serves.
           part_listed b c.args.list.now rest part after c.split_at.ensures.by_index.0 c.loop-rest.pairs c.append_all.new.pairs
           c.deref-in-loop-rest-3.result.now
           (c.deref-in-loop-rest-3.ensures.value ∙ c.in_ok-lists.ensures b part serves
-          (subst (λ (rows : List Row). AllZip (IsRow b) part rows) (sym c.deref-in-loop-rest-2.ensures.value) (c.in_ok-rows.ensures b serves)))
+          (subst (λ (rows : List Row). AllZip (IsSharingRow b) part rows) (sym c.deref-in-loop-rest-2.ensures.value) (c.in_ok-rows.ensures b serves)))
           c.in_ok-append_all.ensures (c.loop-rest.invariant.listed b serves);
     }
 

@@ -1,5 +1,4 @@
 use Rattle.std.proofs.Common.{List, ℕ, sym, subst}
-use Rattle.std.proofs.lemmas.Result.{IfOk-weaker}
 use Rattle.std.specs.Prelude.{IfOk}
 use Rattle.quilt_join.specs.Pairs.{IsAnswer}
 use Rattle.quilt_join.proofs.Gathered.{crossings_are}

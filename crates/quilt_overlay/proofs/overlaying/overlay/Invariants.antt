@@ -4,15 +4,15 @@ use Rattle.quilt_loc.specs.Codes.{code_from}
 use Rattle.quilt_blocks.specs.declared.leaf.Leaf.{Leaf}
 use Rattle.quilt_blocks.proofs.Painting.{Paints}
 use Rattle.quilt_overlay.specs.Combining.{combined}
-use Rattle.quilt_overlay.specs.Fronts.{IsFront}
+use Rattle.quilt_overlay.specs.Fronts.{StandsAt}
 use Rattle.quilt_overlay.proofs.overlaying.overlay.Given as goal
 
 abbrev pub invariant-loop-p : goal.invariant-loop-p
 invariant-loop-p l = record {
   level : l.maker.level ≡ l.a.level;
   paints : Paints l.a.level (λ p. combined l.op (colour_at l.a.level l.a.grid p) (colour_at l.a.level l.b.grid p)) l.maker.colours;
-  firsts : IsFront l.a.level l.a.grid (length l.maker.colours) l.first l.firsts;
-  seconds : IsFront l.a.level l.b.grid (length l.maker.colours) l.second l.seconds;
+  firsts : StandsAt l.a.level l.a.grid (length l.maker.colours) l.first l.firsts;
+  seconds : StandsAt l.a.level l.b.grid (length l.maker.colours) l.second l.seconds;
   starts : (p q : Leaf) → l.first ≡ Some p → l.second ≡ Some q → (code_from p.block ≡ length l.maker.colours) ⊎ (code_from q.block ≡ length l.maker.colours);
 }
 

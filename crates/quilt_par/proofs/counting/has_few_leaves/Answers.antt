@@ -1,5 +1,4 @@
-use Rattle.std.proofs.Common.{◌≡◌, ◌<◌, ◌≤◌, length, refl, arith}
-use Rattle.quilt_blocks.specs.Cutting.{leaves_by_code}
+use Rattle.std.proofs.Common.{refl, arith}
 use Rattle.quilt_raster.specs.Bytes.{colours_of_bytes}
 use Rattle.quilt_tally.proofs.Quarters.{whole_leaves, whole_over}
 use Rattle.quilt_par.proofs.counting.has_few_leaves.Goals as goal

@@ -1,8 +1,9 @@
 use Rattle.std.proofs.Common.{◌≡◌, ◌+◌, ◌*◌, ◌++◌, true, List, sym, ◌∙◌, ap, subst, All}
 use Rattle.std.proofs.lemmas.Result.{IfOk-weaker}
+use Rattle.std.proofs.lemmas.Option.{MatchOption-at_none, MatchOption-at_some}
 use Rattle.quilt_types.specs.declared.plane.Point.{Point}
 use Rattle.quilt_types.specs.Plane.{is_pixel}
-use Rattle.quilt_points.proofs.Finds.{false_true, match_none, match_some, if_some_at}
+use Rattle.quilt_points.proofs.Finds.{false_true, if_some_at}
 use Rattle.quilt_points.proofs.plans.Adds.{added_all}
 use Rattle.quilt_points.proofs.Bounds.{if_ok_of, reads_none}
 use Rattle.quilt_points.proofs.climbing.add_quarter.Goals as goal
@@ -10,7 +11,7 @@ use Rattle.quilt_points.proofs.climbing.add_quarter.Goals as goal
 pub returns-in-Ok-None-clause-other : goal.returns-in-Ok-None-clause-other
 returns-in-Ok-None-clause-other g c _ = (
   λ e. false_true (sym c.if-is_same.false ∙ c.is_same.ensures.no e),
-  λ points h. match_none c.in-Ok-None.field-0 _ _ c.in-Ok-None.field-0-is (c.in-Ok-None.ensures.read points h),
+  λ points h. MatchOption-at_none _ _ c.in-Ok-None.field-0-is (c.in-Ok-None.ensures.read points h),
 )
 
 pub returns-in-Ok-Some-clause-added : goal.returns-in-Ok-Some-clause-added
@@ -18,7 +19,7 @@ returns-in-Ok-Some-clause-added g c =
     IfOk-weaker c.add_all-in-Ok-Some.result _ _ (λ _ f other t. (
       c.in-Ok-Some.here.items,
       f.1 ∙ ap (λ (l : List Point). c.args.all.now.items ++ l) c.deref-in-Ok-Some.ensures.value,
-      λ points h. (match_some c.in-Ok-Some.field-0 _ _ c.in-Ok-Some.here c.in-Ok-Some.field-0-is (c.in-Ok-Some.ensures.read points h)).are,
+      λ points h. (MatchOption-at_some _ _ c.in-Ok-Some.here c.in-Ok-Some.field-0-is (c.in-Ok-Some.ensures.read points h)).are,
     )) c.add_all-in-Ok-Some.ensures.added
 
 pub returns-in-Ok-Some-clause-pixels : goal.returns-in-Ok-Some-clause-pixels

@@ -1,11 +1,12 @@
 use Rattle.std.proofs.Common.{◌≡◌, ◌+◌, ◌*◌, true, List, sym, subst, arith}
 use Rattle.std.specs.Prelude.{All}
+use Rattle.std.proofs.lemmas.Option.{MatchOption-at_none, MatchOption-at_some}
 use Rattle.quilt_types.specs.declared.plane.Point.{Point}
 use Rattle.quilt_types.specs.Plane.{is_pixel}
 use Rattle.quilt_point_laws.specs.Laws.{AreIn}
 use Rattle.quilt_points.specs.Layers.{entries_of}
 use Rattle.quilt_store.proofs.Reading.{only_reads_then, only_reads_err, only_reads_ok, only_reads_free}
-use Rattle.quilt_points.proofs.Finds.{has_along, match_none, match_some}
+use Rattle.quilt_points.proofs.Finds.{has_along}
 use Rattle.quilt_points.proofs.Bounds.{reads_then}
 use Rattle.quilt_points.proofs.Singles.{one_held, all_held}
 use Rattle.quilt_points.proofs.listing.leaf_around.Goals as goal
@@ -17,13 +18,13 @@ returns-in-Err-points_of-clause-sound g c points h = c.in-Err-points_of.ensures.
 pub returns-in-Ok-None-clause-sound : goal.returns-in-Ok-None-clause-sound
 returns-in-Ok-None-clause-sound g c points h page e =
     let read = c.in-Ok.ensures.read points h in
-    match_none c.in-Ok-None.field-0 _ _ c.in-Ok-None.field-0-is
+    MatchOption-at_none _ _ c.in-Ok-None.field-0-is
     (c.in-Ok-None.ensures.read points
     (has_along _ _ c.args.tree.now c.args.layer.number c.args.layer.level c.args.layer.bucket points c.in-Ok.ensures.left.told h)) read.block
 
 pub returns-in-Ok-Some-clause-read : goal.returns-in-Ok-Some-clause-read
 returns-in-Ok-Some-clause-read g c points h =
-    match_some c.in-Ok-Some.field-0 _ _ c.in-Ok-Some.points c.in-Ok-Some.field-0-is
+    MatchOption-at_some _ _ c.in-Ok-Some.points c.in-Ok-Some.field-0-is
     (c.in-Ok-Some.ensures.read points
     (has_along _ _ c.args.tree.now c.args.layer.number c.args.layer.level c.args.layer.bucket points c.in-Ok.ensures.left.told h))
 

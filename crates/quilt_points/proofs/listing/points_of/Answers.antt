@@ -3,7 +3,6 @@ use Rattle.std.proofs.lemmas.Result.{IfOk-weaker, IfErr-weaker}
 use Rattle.quilt_record.specs.declared.record.Record.{Record}
 use Rattle.quilt_points.specs.Reads.{AreRecordsOf}
 use Rattle.quilt_points.proofs.Bounds.{if_ok_of, reads_range}
-use Rattle.quilt_points.specs.Windows.{HasRow}
 use Rattle.quilt_points.proofs.Finds.{if_some_weaker}
 use Rattle.quilt_points.proofs.Ranges.{rows_read, range_there}
 use Rattle.quilt_points.proofs.listing.points_of.Goals as goal

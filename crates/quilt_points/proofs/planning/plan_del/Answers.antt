@@ -1,10 +1,11 @@
 use Rattle.std.proofs.Common.{◌+◌, ◌*◌, arith, List, refl, sym, ◌∙◌, ap, subst, Contains}
 use Rattle.std.specs.FinMap as finmap
+use Rattle.std.proofs.lemmas.Option.{none-some}
 use Rattle.quilt_store.proofs.Reading.{only_reads_then, only_reads_err, only_reads_ok}
 use Rattle.quilt_types.specs.declared.plane.Point.{Point}
 use Rattle.quilt_types.specs.Plane.{in_block}
 use Rattle.quilt_points.specs.Plans.{IsPlan}
-use Rattle.quilt_points.proofs.Finds.{has_along, false_true, none_some}
+use Rattle.quilt_points.proofs.Finds.{has_along, false_true}
 use Rattle.quilt_points.proofs.plans.Puts.{free_from, held_point}
 use Rattle.quilt_points.proofs.plans.Dels.{is_none_from, none_is}
 use Rattle.quilt_points.proofs.Bounds.{reads_then, reads_more}
@@ -42,7 +43,7 @@ returns-in-Ok-take_from-clause-none g c points h =
     let found = c.in-Some.ensures.some in
     let some = ap (finmap.get points) (sym found.1) ∙ held_point points c.in-Ok.leaf.block c.in-Ok.leaf.points.items c.in-Some.p read.are
     (subst (λ (l : List Point). Contains l c.in-Some.p) c.deref.ensures.value found.0) in
-    (λ e. absurd (false_true (sym e)), λ n. absurd (none_some _ (sym (none_is (finmap.get points c.args.at) n) ∙ some)))
+    (λ e. absurd (false_true (sym e)), λ n. absurd (none-some _ (sym (none_is (finmap.get points c.args.at) n) ∙ some)))
 
 pub returns-in-Err-take_from-clause-left : goal.returns-in-Err-take_from-clause-left
 returns-in-Err-take_from-clause-left g c = only_reads_err _ (only_reads_then _ g.met.S.PageStore.goes_on _ _ _ c.in-Ok.ensures.left c.in-Err-take_from.ensures.left)

@@ -2,7 +2,6 @@ use Rattle.std.proofs.Common.{◌∙◌, ap}
 use Rattle.std.proofs.lemmas.Result.{IfOk-weaker, IfErr-weaker}
 use Rattle.quilt_record.specs.declared.key.Key.{Key}
 use Rattle.quilt_btree.specs.Lists.{floor_of}
-use Rattle.quilt_store.proofs.Reading.{only_reads_free}
 use Rattle.quilt_points.proofs.reading.block_around.Goals as goal
 
 pub returns-in-Err-clause-sound : goal.returns-in-Err-clause-sound

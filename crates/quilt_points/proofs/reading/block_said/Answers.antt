@@ -1,7 +1,8 @@
 use Rattle.std.proofs.Common.{refl, sym, ◌∙◌}
+use Rattle.std.proofs.lemmas.Option.{none-some}
 use Rattle.quilt_loc.proofs.Blocks.{IsBlock-up}
 use Rattle.quilt_points.specs.Layers.{pixel_key}
-use Rattle.quilt_points.proofs.Finds.{none_some, false_true, block_read, around_read, read_same, read_holds}
+use Rattle.quilt_points.proofs.Finds.{false_true, block_read, around_read, read_same, read_holds}
 use Rattle.quilt_points.proofs.reading.block_said.Goals as goal
 
 pub covers-requires : goal.covers-requires
@@ -12,7 +13,7 @@ returns-in_default-clause-sound c told t points is h page e =
     let f =
     block_read told t c.args.layer.number c.args.layer.level c.args.layer.bucket points c.args.at (pixel_key c.args.layer.number c.args.at) c.args.found
     c.args.layer.has_level.1 c.requires.in_x c.requires.in_y refl is h in
-    none_some _ (sym c.in_default.is ∙ f.is)
+    none-some _ (sym c.in_default.is ∙ f.is)
 
 pub returns-in-Some-block_of-clause-read : goal.returns-in-Some-block_of-clause-read
 returns-in-Some-block_of-clause-read c told t points is h =
@@ -36,4 +37,4 @@ returns-in_default-block_of-2-clause-sound c told t points is h page e =
     around_read told t c.args.layer.number c.args.layer.level c.args.layer.bucket points c.args.at (pixel_key c.args.layer.number c.args.at) c.args.found
     c.in-Some.r c.block_of.result c.args.layer.has_number.0 c.args.layer.has_number.1 c.args.layer.has_level.1 c.requires.in_x c.requires.in_y refl
     is c.in-Some.is c.block_of.ensures.one h in
-    none_some _ (sym c.in_default-block_of.is ∙ f.is)
+    none-some _ (sym c.in_default-block_of.is ∙ f.is)

@@ -1,6 +1,7 @@
 use Rattle.std.proofs.Common.{[], None, refl, sym, ◌∙◌, ap}
+use Rattle.std.proofs.lemmas.Option.{none-some}
 use Rattle.quilt_record.specs.declared.record.Record.{Record}
-use Rattle.quilt_points.proofs.Finds.{if_some_at, none_some, none_read, label_read, label_same, label_none, label_some}
+use Rattle.quilt_points.proofs.Finds.{if_some_at, none_read, label_read, label_same, label_none, label_some}
 use Rattle.quilt_points.proofs.reading.label_in.Goals as goal
 
 pub returns-in-Err-clause-sound : goal.returns-in-Err-clause-sound
@@ -27,7 +28,7 @@ returns-in-None-clause-sound g c points h m t page e =
     c.args.b c.args.at _ _ c.args.layer.has_number.0 c.args.layer.has_number.1 c.args.layer.has_level.1 c.requires.bucket
     (ap (λ (r : Record). r.key) (c.point_record-like.ensures.written []))
     c.in-Ok-Some.ensures.value h m c.requires.pixel t c.in-Ok-Some.value c.in-Ok-Some.field-0-is c.point_of.result c.point_of.ensures.point in
-    none_some _ (sym c.in-None.is ∙ i.is)
+    none-some _ (sym c.in-None.is ∙ i.is)
 
 pub returns-in-Ok-None-clause-answered : goal.returns-in-Ok-None-clause-answered
 returns-in-Ok-None-clause-answered g c rs is =

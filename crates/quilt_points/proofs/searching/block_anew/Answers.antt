@@ -1,5 +1,5 @@
 use Rattle.std.proofs.Common.{◌∙◌, ap}
-use Rattle.std.proofs.lemmas.Result.{IfOk-weaker, IfErr-weaker}
+use Rattle.std.proofs.lemmas.Result.{IfErr-weaker}
 use Rattle.quilt_record.specs.declared.key.Key.{Key}
 use Rattle.quilt_btree.specs.Lists.{floor_of}
 use Rattle.quilt_points.proofs.Singles.{seen_at}

@@ -1,17 +1,15 @@
-use Rattle.std.proofs.Common.{ℕ, suc, ◌+◌, ◌*◌, ◌^◌, ◌≤◌, Option, ◌++◌, [], List, length, filter, get_or, sym, ◌∙◌, ap, subst, arith, Contains}
+use Rattle.std.proofs.Common.{ℕ, ◌+◌, ◌*◌, ◌^◌, ◌≤◌, Option, [], List, length, get_or, sym, ◌∙◌, ap, subst, arith, Contains}
 use Rattle.std.proofs.lemmas.List.{append-nil}
-use Rattle.std.proofs.lemmas.Result.{on_ok_weaker}
 use Rattle.quilt_store.proofs.Reading.{only_reads_then, read_on, only_reads_err, only_reads_ok}
 use Rattle.quilt_types.specs.declared.plane.Block.{Block}
-use Rattle.quilt_types.specs.declared.plane.Point.{Point}
 use Rattle.quilt_types.specs.Plane.{in_window}
 use Rattle.quilt_loc.proofs.Blocks.{IsBlock-up}
 use Rattle.quilt_points.proofs.Quarters.{quarter_at}
 use Rattle.quilt_btree.specs.Trees.{IsRooted, IsTree}
-use Rattle.quilt_points.proofs.Finds.{has_along, if_some_at, match_none, match_some}
+use Rattle.quilt_points.proofs.Finds.{has_along}
 use Rattle.quilt_edits.proofs.Lists.{member_at}
 use Rattle.quilt_points.proofs.Unions.{all_none}
-use Rattle.quilt_points.proofs.Windows.{kept_of, none_of, open_pixel, open_quarter, found_next, found_all, quarter_pixel, covered_next}
+use Rattle.quilt_points.proofs.Windows.{none_of, open_pixel, open_quarter, found_next, found_all, quarter_pixel, covered_next}
 use Rattle.quilt_points.proofs.Windows.{open_many, meets_none, window_sides, reads_once, reads_first, reads_next, reads_within, quarter_side, wide_power}
 use Rattle.quilt_points.proofs.Bounds.{reads_none}
 use Rattle.quilt_points.proofs.Singles.{search_along}

@@ -1,4 +1,4 @@
-use Rattle.std.proofs.Common.{◌∙◌, arith}
+use Rattle.std.proofs.Common.{arith}
 use Rattle.quilt_points.proofs.Windows.{overlap_up, overlap_down}
 use Rattle.quilt_points.proofs.windowing.overlap.Goals as goal
 

@@ -6,7 +6,7 @@ use Rattle.quilt_loc.proofs.Quartered.{IsBlock-whole}
 use Rattle.quilt_points.specs.Layers.{entries_of}
 use Rattle.quilt_world.specs.Tale.{Goes}
 use Rattle.quilt_points.specs.Windows.{visited}
-use Rattle.quilt_points.specs.Reads.{AreOf}
+use Rattle.quilt_points.specs.Reads.{ArePointsOf}
 use Rattle.quilt_points.proofs.Windows.{open_whole, inside_whole, whole_pixel, rows_are}
 use Rattle.quilt_points.proofs.windowing.within.Goals as goal
 
@@ -22,7 +22,7 @@ returns-in-Ok-in_rows-clause-points g c points h =
     let f = c.in-Ok.ensures.found points h (open_whole c.args.level c.args.bucket points c.whole_square-whole.result c.whole_square-whole.ensures) in
     rows_are points c.args.level (inside_whole c.args.level c.args.bucket points h.spelled.valid) c.args.w c.add_within.new.found.items
     c.whole_square-whole.result c.whole_square-whole.ensures
-    (subst (λ (l : List Point). AreOf points (in_window c.args.w) c.whole_square-whole.result (entries_of l))
+    (subst (λ (l : List Point). ArePointsOf points (in_window c.args.w) c.whole_square-whole.result (entries_of l))
     (sym (f.1 ∙ ap (λ (l : List Point). l ++ f.0) c.new-found.ensures.items)) f.2)
     c.in-Ok-in_rows.list c.in-Ok-in_rows.ensures.permutation c.in-Ok-in_rows.ensures.sorted
 

@@ -1,10 +1,9 @@
-use Rattle.std.proofs.Common.{ℕ, ◌^◌, List, length, count_by, refl, sym, ◌∙◌, ap, subst}
+use Rattle.std.proofs.Common.{ℕ, ◌^◌, refl, sym, ◌∙◌, ap}
 use Rattle.quilt_types.specs.Plane.{side}
-use Rattle.quilt_types.specs.Algebra.{grid_of}
 use Rattle.quilt_blocks.specs.Painting.{grid_by_code}
 use Rattle.quilt_blocks.proofs.Squares.{whole_at}
 use Rattle.quilt_blocks.proofs.Adding.{whole_next, Adds-whole, Adds-all}
-use Rattle.quilt_poly.specs.Bits.{colour_in, HasParities}
+use Rattle.quilt_poly.specs.Bits.{colour_in}
 use Rattle.quilt_poly.proofs.filling.gathered.Goals as goal
 
 pub fill-requires-clause-valid : goal.fill-requires-clause-valid

@@ -1,7 +1,6 @@
-use Rattle.std.proofs.Common.{◌≡◌, ◌<◌, ◌≤◌, length, refl, arith}
+use Rattle.std.proofs.Common.{refl, arith}
 use Rattle.quilt_types.specs.Plane.{side}
 use Rattle.quilt_types.specs.Algebra.{grid_of}
-use Rattle.quilt_blocks.specs.Cutting.{leaves_by_code}
 use Rattle.quilt_poly.specs.Bits.{colour_in}
 use Rattle.quilt_tally.proofs.Quarters.{whole_leaves, whole_over}
 use Rattle.quilt_poly.proofs.filling.has_few_leaves.Goals as goal

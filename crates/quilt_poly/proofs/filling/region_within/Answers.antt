@@ -1,11 +1,10 @@
-use Rattle.std.proofs.Common.{◌≡◌, ◌≢◌, ℕ, ◌<◌, ◌≤◌, Bool, true, false, not, List, length, ⊎_elim, count_by, refl, sym, ◌∙◌, ap, subst, arith}
+use Rattle.std.proofs.Common.{◌≡◌, ℕ, List, length, ⊎_elim, count_by, refl, sym, ◌∙◌, ap, subst, arith}
 use Rattle.std.proofs.lemmas.Bool.{cases_lt, true≢false}
 use Rattle.quilt_types.specs.Plane.{side}
 use Rattle.quilt_types.specs.Layers.{Grid}
 use Rattle.quilt_types.specs.Algebra.{grid_of}
 use Rattle.quilt_types.specs.Polygons.{filled_rings}
 use Rattle.quilt_blocks.specs.Cutting.{leaves_by_code}
-use Rattle.quilt_blocks.specs.Raster.{Raster}
 use Rattle.quilt_poly.specs.declared.edges.RingEdge.{RingEdge}
 use Rattle.quilt_poly.specs.Edges.{crosses}
 use Rattle.quilt_poly.specs.Bits.{colour_in, HasParities}

@@ -1,4 +1,4 @@
-use Rattle.std.proofs.Common.{◌≡◌, ◌≤◌, ◌+◌, ◌&&◌, eqb, ltb, min, sym, ◌∙◌, ap, subst, arith}
+use Rattle.std.proofs.Common.{◌≡◌, ◌≤◌, ◌+◌, ◌&&◌, eqb, ltb, min, sym, subst, arith}
 use Rattle.quilt_poly.specs.Edges.{edge_of, crosses}
 use Rattle.quilt_poly.specs.Bits.{IsMarked}
 use Rattle.quilt_poly.proofs.Crossed.{column_few, before_first, up_to_last, row_below, IsCrossing-down}

@@ -1,4 +1,4 @@
-use Rattle.std.proofs.Common.{◌≡◌, ◌≤◌, ◌+◌, ◌-◌, ◌&&◌, eqb, ltb, leb, min, ◌∙◌, ap, subst, arith}
+use Rattle.std.proofs.Common.{◌≡◌, ◌≤◌, ◌+◌, ◌-◌, ◌&&◌, eqb, ltb, leb, min, subst, arith}
 use Rattle.quilt_poly.specs.Edges.{edge_of, crosses}
 use Rattle.quilt_poly.specs.Bits.{IsMarked}
 use Rattle.quilt_poly.specs.Crossings.{IsCrossing}

@@ -6,7 +6,7 @@ use Rattle.quilt_near.specs.Parts.{IsPart, IsPartOf, pages_for}
 use Rattle.quilt_near.specs.declared.part.Part.{Part}
 use Rattle.quilt_near.specs.declared.part.Part.TheVariants.{Split, Leaf}
 use Rattle.quilt_near.proofs.Ends.{ends_small}
-use Rattle.quilt_rank.specs.Ranks.{with_seg}
+use Rattle.quilt_rank.specs.Ranks.{with_ranked}
 use Rattle.quilt_rank.proofs.searching.open.Goals as goal
 
 pub rank_all-requires-clause-ends : goal.rank_all-requires-clause-ends
@@ -22,7 +22,7 @@ returns-in-Ok-Leaf-clause-opened g c = record {
   part = Leaf c.in-Ok-Leaf.list;
   found = λ l s. subst (λ (part : Part). IsPart l c.args.b part) c.in-Ok-Leaf.field-0-is (c.in-Ok-Leaf.ensures.part l s);
   found_of = subst (λ (part : Part). IsPartOf (g.B.SegBlocks.level_of c.args.blocks.now) c.args.b part) c.in-Ok-Leaf.field-0-is c.in-Ok-Leaf.ensures.part_of;
-  after = (refl, c.in-Ok.ensures ∙ ap (fold (with_seg c.args.p c.args.k) c.args.ranks.now) c.items.ensures);
+  after = (refl, c.in-Ok.ensures ∙ ap (fold (with_ranked c.args.p c.args.k) c.args.ranks.now) c.items.ensures);
   reads =
       subst (λ (part : Part). Goes (λ old new. new ≤ old + pages_for part) (g.S.PageStore.reads c.args.store.now)
       (g.S.PageStore.reads c.part_known.new.store)) c.in-Ok-Leaf.field-0-is c.in-Ok-Leaf.ensures.reads;

@@ -5,7 +5,7 @@ use Rattle.quilt_near.specs.Parts.{IsPart, IsPartOf, pages_for}
 use Rattle.quilt_near.specs.declared.part.Part.{Part}
 use Rattle.quilt_near.specs.declared.part.Part.TheVariants.{Split, Leaf}
 use Rattle.quilt_near.proofs.Telling.{tells_same}
-use Rattle.quilt_select.specs.Descents.{with_seg}
+use Rattle.quilt_select.specs.Descents.{with_selected}
 use Rattle.quilt_select.proofs.Descending.{some_length}
 use Rattle.quilt_select.proofs.descent.open.Goals as goal
 
@@ -24,7 +24,7 @@ returns-in-Ok-Leaf-clause-opened g c = record {
   after = (
     some_length (length c.args.near.now) (sym c.is_empty.ensures ∙ c.if-is_empty.false),
     refl,
-    c.in-Ok.ensures ∙ ap (fold (with_seg c.args.near.now) c.args.found.now.entries) c.items.ensures,
+    c.in-Ok.ensures ∙ ap (fold (with_selected c.args.near.now) c.args.found.now.entries) c.items.ensures,
   );
   reads =
       subst (λ (part : Part). Goes (λ old new. new ≤ old + pages_for part) (g.S.PageStore.reads c.args.store.now)

@@ -1,4 +1,4 @@
-use Rattle.std.proofs.Common.{◌≡◌, ℕ, ◌+◌, refl, subst, sym, arith}
+use Rattle.std.proofs.Common.{◌≡◌, ℕ, ◌+◌, refl, subst, arith}
 use Rattle.quilt_tally.specs.Tallies.{size_of, HasLeaves}
 use Rattle.quilt_tally.proofs.Joining.{joined_one, joined_mixed, joined_leaves, joined_count}
 use Rattle.quilt_tally.proofs.tally.joined.Goals as goal

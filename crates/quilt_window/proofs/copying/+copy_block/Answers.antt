@@ -5,7 +5,7 @@ use Rattle.quilt_loc.specs.Codes.{code_from, code_to}
 use Rattle.quilt_loc.proofs.Blocks.{IsBlock-up}
 use Rattle.quilt_loc.proofs.Intervals.{half_codes}
 use Rattle.quilt_blocks.specs.Adding.{Adds}
-use Rattle.quilt_window.specs.Copying.{copied}
+use Rattle.quilt_window.specs.Copying.{copied_colour}
 use Rattle.quilt_blocks.proofs.Adding.{Adds-then, Adds-push, part_at}
 use Rattle.quilt_blocks.proofs.Squares.{block_room}
 use Rattle.quilt_window.proofs.Sources.{span_room}
@@ -15,7 +15,7 @@ pub returns-in-Some-clause-copied : goal.returns-in-Some-clause-copied
 returns-in-Some-clause-copied t c =
     let n = c.args.a.now.level in
     on_ok_weaker c.push.result
-    (λ is. Adds-push n (copied n c.args.a.now.grid c.args.across c.args.down) c.args.maker.now c.push.new.self c.args.b c.in-Some.colour.0
+    (λ is. Adds-push n (copied_colour n c.args.a.now.grid c.args.across c.args.down) c.args.maker.now c.push.new.self c.args.b c.in-Some.colour.0
     c.requires.most c.requires.valid c.requires.next c.in-Some.ensures.some is)
     c.push.ensures.ok
 
@@ -34,7 +34,7 @@ copy_block-requires t c =
 pub loop-q-preserved : goal.loop-q-preserved
 loop-q-preserved t c =
     let n = c.args.a.now.level in
-    let f = copied n c.args.a.now.grid c.args.across c.args.down in
+    let f = copied_colour n c.args.a.now.grid c.args.across c.args.down in
     let b = c.args.b in
     let i = c.loop-q.q-index in
     let s = b.side / 2 * (b.side / 2) in
@@ -58,7 +58,7 @@ returns-clause-copied t c =
     let all = codes.all in
     let end : code_from b + c.loop-q.q-index * (b.side / 2 * (b.side / 2)) ≡ code_to b =
     ap (λ k. code_from b + k * (b.side / 2 * (b.side / 2))) four ∙ sym all in
-    subst (λ (k : ℕ). Adds n (copied n c.args.a.now.grid c.args.across c.args.down) k c.args.maker.now c.loop-q.maker) end c.loop-q.invariant.added
+    subst (λ (k : ℕ). Adds n (copied_colour n c.args.a.now.grid c.args.across c.args.down) k c.args.maker.now c.loop-q.maker) end c.loop-q.invariant.added
 
 pub covers-requires-clause-here : goal.covers-requires-clause-here
 covers-requires-clause-here t c = (block_room c.args.a.now.level c.args.b c.requires.most c.requires.valid).0

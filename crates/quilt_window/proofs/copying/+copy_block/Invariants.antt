@@ -1,7 +1,7 @@
 use Rattle.std.proofs.Common.{◌≡◌, ◌+◌, ◌*◌, ◌/◌, length}
 use Rattle.quilt_loc.specs.Codes.{code_from}
 use Rattle.quilt_blocks.specs.Adding.{Adds}
-use Rattle.quilt_window.specs.Copying.{copied}
+use Rattle.quilt_window.specs.Copying.{copied_colour}
 use Rattle.quilt_window.proofs.copying.+copy_block.Given as goal
 
 abbrev pub decreases-copy_block : goal.decreases-copy_block
@@ -10,6 +10,6 @@ decreases-copy_block l = l.b.side
 abbrev pub invariant-loop-q : goal.invariant-loop-q
 invariant-loop-q l = record {
   added :
-      Adds l.a.level (copied l.a.level l.a.grid l.across l.down) (code_from l.fn.b + l.q-index * (l.fn.b.side / 2 * (l.fn.b.side / 2))) l.initial.maker l.maker;
+      Adds l.a.level (copied_colour l.a.level l.a.grid l.across l.down) (code_from l.fn.b + l.q-index * (l.fn.b.side / 2 * (l.fn.b.side / 2))) l.initial.maker l.maker;
   room : length l.cells ≡ 1024;
 }

@@ -1,6 +1,6 @@
 use Rattle.std.proofs.Common.{ℕ, ◌^◌, sym, ◌∙◌, ap}
 use Rattle.quilt_blocks.specs.Painting.{grid_by_code}
-use Rattle.quilt_window.specs.Copying.{copied}
+use Rattle.quilt_window.specs.Copying.{copied_colour}
 use Rattle.quilt_blocks.proofs.Squares.{whole_at}
 use Rattle.quilt_blocks.proofs.Adding.{whole_next, Adds-whole, Adds-all}
 use Rattle.quilt_window.proofs.copying.copy.Goals as goal
@@ -14,7 +14,7 @@ copy_block-requires-clause-next c = whole_next _ _ _ c.whole_square-whole.ensure
 pub finish-requires : goal.finish-requires
 finish-requires c =
     let n = c.args.a.now.level in
-    let f = copied n c.args.a.now.grid c.args.across c.args.down in
+    let f = copied_colour n c.args.a.now.grid c.args.across c.args.down in
     let all = Adds-whole n c.level-level.result f _ c.new-maker.result c.copy_block.new.maker c.level-level.ensures.value c.whole_square-whole.ensures
     c.new-maker.ensures c.in_ok-copy_block.ensures.copied in
     all.long ∙ ap (λ (k : ℕ). 4 ^ k) (sym all.level)
@@ -22,7 +22,7 @@ finish-requires c =
 pub returns : goal.returns
 returns c =
     let n = c.args.a.now.level in
-    let f = copied n c.args.a.now.grid c.args.across c.args.down in
+    let f = copied_colour n c.args.a.now.grid c.args.across c.args.down in
     let most = c.level-level.ensures.raster.most in
     let all = Adds-whole n c.level-level.result f _ c.new-maker.result c.copy_block.new.maker c.level-level.ensures.value c.whole_square-whole.ensures
     c.new-maker.ensures c.in_ok-copy_block.ensures.copied in

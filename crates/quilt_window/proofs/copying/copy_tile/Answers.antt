@@ -6,7 +6,7 @@ use Rattle.quilt_loc.proofs.Intervals.{held_code}
 use Rattle.quilt_blocks.specs.Adding.{Adds}
 use Rattle.quilt_blocks.proofs.Adding.{Adds-change}
 use Rattle.quilt_raster.specs.Painting.{in_cells}
-use Rattle.quilt_window.specs.Copying.{copied}
+use Rattle.quilt_window.specs.Copying.{copied_colour}
 use Rattle.quilt_loc.proofs.Blocks.{side_most}
 use Rattle.quilt_window.proofs.Sources.{span_room, copied_cells}
 use Rattle.quilt_window.proofs.copying.copy_tile.Goals as goal
@@ -25,7 +25,7 @@ returns-clause-copied c =
     let cells = c.paint_window.new.cells in
     let w : Window = record { x = c.source_of-left.result; y = c.source_of-top.result; w = b.side; h = b.side } in
     let f = in_cells cells b in
-    let to = copied n g c.args.across c.args.down in
+    let to = copied_colour n g c.args.across c.args.down in
     let most = c.requires.most in
     let m = side_most n most in
     let in_x = c.requires.valid.in_x in

@@ -1,6 +1,7 @@
 use Rattle.std.proofs.Common.{List, sym, subst, ⊎_elim, arith, Contains}
+use Rattle.std.proofs.lemmas.Bool.{OnTrue_at, OnFalse_at, OnTrue_from, OnFalse_from}
+use Rattle.std.proofs.lemmas.Result.{IfOk-weaker}
 use Rattle.quilt_record.specs.declared.entry.Entry.{Entry}
-use Rattle.quilt_audit.proofs.Taking.{ok_map, on_true, on_false, from_true, from_false}
 use Rattle.quilt_audit.proofs.checker.Checker.is_whole.Goals as goal
 
 pub returns-then-next_number-ne256-clause-no : goal.returns-then-next_number-ne256-clause-no
@@ -14,17 +15,17 @@ returns-then-next_number-ne256-clause-no c w =
 
 pub returns-clause-yes : goal.returns-clause-yes
 returns-clause-yes c =
-    ok_map c.is_covered.result _ _
-    (λ ok full. on_true ok _ (λ t.
+    IfOk-weaker c.is_covered.result _ _
+    (λ ok full. OnTrue_from ok _ (λ t.
     let e = c.if-next_number-ne256.false in
     record {
       sound = c.if-not-self.false;
       none_due = c.if-due-ne0.false;
-      covered = from_true ok _ t full;
+      covered = OnTrue_at t full;
       reached = λ d m. ⊎_elim (λ low. low) (λ high. let a = high.0 in let b = high.1 in absurd (omega arith))
           (c.next_number.ensures.least d (subst (λ (l : List Entry). Contains l d) (sym c.entries-entries.ensures.entries) m));
     })) c.is_covered.ensures.yes
 
 pub returns-clause-no : goal.returns-clause-no
 returns-clause-no c =
-    ok_map c.is_covered.result _ _ (λ ok open_. on_false ok _ (λ f w. let o = from_false ok _ f open_ in o.1 (w.covered o.0))) c.is_covered.ensures.no
+    IfOk-weaker c.is_covered.result _ _ (λ ok open_. OnFalse_from ok _ (λ f w. let o = OnFalse_at f open_ in o.1 (w.covered o.0))) c.is_covered.ensures.no

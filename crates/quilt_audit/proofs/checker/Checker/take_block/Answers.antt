@@ -1,7 +1,9 @@
 use Rattle.std.proofs.Common.{refl, sym, arith}
+use Rattle.std.proofs.lemmas.Bool.{OnTrue_at, OnFalse_at, OnTrue_from, OnFalse_from}
+use Rattle.std.proofs.lemmas.Result.{IfOk-weaker}
 use Rattle.quilt_audit.proofs.Lists.{at_last}
 use Rattle.quilt_audit.proofs.Steps.{IsSoFar-more}
-use Rattle.quilt_audit.proofs.Taking.{layer_no, record_no, from_true, from_false, on_true, on_false, ok_map, run_moved, no_moved}
+use Rattle.quilt_audit.proofs.Taking.{layer_no, record_no, run_moved, no_moved}
 use Rattle.quilt_audit.proofs.checker.Checker.take_block.Goals as goal
 
 pub returns-then-r-gt255-clause-no : goal.returns-then-r-gt255-clause-no
@@ -12,7 +14,7 @@ returns-then-r-gt255-clause-no c rs f begun =
 
 pub returns-then-not-branch-clause-no : goal.returns-then-not-branch-clause-no
 returns-then-not-branch-clause-no c rs f begun =
-    from_false c.in_ok-turn_to.field-0 _ c.if-not-branch.true (c.in_ok-turn_to.ensures.no rs c.args.r.now f begun refl)
+    OnFalse_at c.if-not-branch.true (c.in_ok-turn_to.ensures.no rs c.args.r.now f begun refl)
 
 pub returns-clause-yes : goal.returns-clause-yes
 returns-clause-yes c =
@@ -20,14 +22,14 @@ returns-clause-yes c =
     let t = c.turn_to.new.self in
     let r = c.args.r.now in
     let next = c.take.new.self in
-    ok_map c.take.result _ _
-    (λ ok taken rs f. on_true ok _ (λ yes'.
-    let turned = from_true c.in_ok-turn_to.field-0 _ c.if-not-branch.false (c.in_ok-turn_to.ensures.yes rs f) in
+    IfOk-weaker c.take.result _ _
+    (λ ok taken rs f. OnTrue_from ok _ (λ yes'.
+    let turned = OnTrue_at c.if-not-branch.false (c.in_ok-turn_to.ensures.yes rs f) in
     let here = turned.1 in
     let some = c.requires in (
       IsSoFar-more s.format s.level t.catalog t.last t.layer t.run rs turned.0 r next (omega arith) (sym here)
           (λ kind. run_moved s.format s.level t.format t.level t.layer r.key.layer c.turn_to.ensures.format c.turn_to.ensures.level here rs r kind
-          t.run next (λ h. from_true ok _ yes' (taken rs kind h))),
+          t.run next (λ h. OnTrue_at yes' (taken rs kind h))),
       λ one. (r, at_last rs r, sym here),
     ))) c.take.ensures.taken
 
@@ -36,12 +38,12 @@ returns-clause-no c =
     let s = c.args.self.now in
     let t = c.turn_to.new.self in
     let r = c.args.r.now in
-    ok_map c.take.result _ _
-    (λ ok refused rs f begun. on_false ok _ (λ no'.
-    let turned = from_true c.in_ok-turn_to.field-0 _ c.if-not-branch.false (c.in_ok-turn_to.ensures.yes rs f) in
+    IfOk-weaker c.take.result _ _
+    (λ ok refused rs f begun. OnFalse_from ok _ (λ no'.
+    let turned = OnTrue_at c.if-not-branch.false (c.in_ok-turn_to.ensures.yes rs f) in
     let here = turned.1 in
     let some = c.requires in
     record_no s.format s.level s.level_least s.level_most t.catalog t.last t.layer t.run t.last_most r rs (omega arith) (sym here)
     (λ kind. no_moved s.format s.level t.format t.level t.layer r.key.layer c.turn_to.ensures.format c.turn_to.ensures.level here rs r kind t.run
-    (λ h. from_false ok _ no' (refused rs kind h)))
+    (λ h. OnFalse_at no' (refused rs kind h)))
     turned.0)) c.take.ensures.refused

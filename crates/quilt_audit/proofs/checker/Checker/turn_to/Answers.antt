@@ -1,7 +1,8 @@
 use Rattle.std.proofs.Common.{List, refl, sym, subst, inl, inr, ⊎_elim, arith, Contains}
+use Rattle.std.proofs.lemmas.Bool.{OnTrue_at, OnFalse_at}
 use Rattle.quilt_record.specs.declared.entry.Entry.{Entry}
 use Rattle.quilt_audit.proofs.Steps.{IsSoFar-turn}
-use Rattle.quilt_audit.proofs.Taking.{layer_no, next_reached, from_true, from_false}
+use Rattle.quilt_audit.proofs.Taking.{layer_no, next_reached}
 use Rattle.quilt_audit.proofs.checker.Checker.turn_to.Goals as goal
 
 pub returns-then-layer-from-2-clause-no : goal.returns-then-layer-from-2-clause-no
@@ -13,7 +14,7 @@ returns-then-layer-from-2-clause-no c =
 pub returns-then-not-branch-clause-no : goal.returns-then-not-branch-clause-no
 returns-then-not-branch-clause-no c =
     let s = c.args.self.now in
-    let open_ = from_false c.in_ok-is_covered.field-0 _ c.if-not-branch.true c.in_ok-is_covered.ensures.no in
+    let open_ = OnFalse_at c.if-not-branch.true c.in_ok-is_covered.ensures.no in
     layer_no s.format s.level s.level_least s.level_most s.catalog s.last s.layer s.run s.last_most c.args.layer c.requires.0
     (λ w.
     let ge = c.if-layer-from-2.false in
@@ -43,7 +44,7 @@ returns-clause-yes c rs f =
     let s = c.args.self.now in
     let over = c.next_number.ensures.over.0 in
     let is = c.if-next_number-layer.false in
-    let full = from_true c.in_ok-is_covered.field-0 _ c.if-not-branch.false c.in_ok-is_covered.ensures.yes in
+    let full = OnTrue_at c.if-not-branch.false c.in_ok-is_covered.ensures.yes in
     let e = c.in-Some.ensures.some in (
       IsSoFar-turn s.format s.level s.catalog s.last s.layer s.run rs f s.level_least s.level_most full c.args.layer c.in-Some.run' (omega arith)
           e.0 (subst (λ (l : List Entry). Contains l e.0) c.entries-2.ensures.entries e.1) e.2 e.3

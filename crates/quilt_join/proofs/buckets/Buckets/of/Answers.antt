@@ -3,7 +3,7 @@ use Rattle.std.specs.Prelude.{slice_index_or}
 use Rattle.std.proofs.lemmas.List.{take_more}
 use Rattle.quilt_types.specs.declared.plane.Seg.{Seg}
 use Rattle.quilt_join.specs.Boxes.{span_at, count}
-use Rattle.quilt_join.specs.Buckets.{AreFilled, HasPut}
+use Rattle.quilt_join.specs.Buckets.{AreFilled, HasBucketed}
 use Rattle.quilt_join.proofs.Spans.{number_below}
 use Rattle.quilt_join.proofs.Fillings.{filled_more}
 use Rattle.quilt_join.proofs.buckets.Buckets.of.Goals as goal
@@ -31,7 +31,7 @@ loop-id-preserved c =
     let e = slice_index_or c.args.list.now c.loop-id.id-index no_seg in
     let old = c.loop-id.buckets.lists.items in
     let new = c.put.new.self.lists.items in
-    let put : HasPut (span_at (2 ^ c.args.shift) e.1) c.columns_of-columns.result (count (span_at (2 ^ c.args.shift) e.1)) old new e = rw
+    let put : HasBucketed (span_at (2 ^ c.args.shift) e.1) c.columns_of-columns.result (count (span_at (2 ^ c.args.shift) e.1)) old new e = rw
     (i.shift, i.columns) at c.in_ok-put.ensures.put in
     record {
       shift = c.put.ensures.shift ∙ i.shift;

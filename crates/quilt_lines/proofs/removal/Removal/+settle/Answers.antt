@@ -1,6 +1,7 @@
 use Rattle.std.proofs.Common.{◌≡◌, ℕ, zero, suc, ◌+◌, ◌*◌, List, take, length, sum_by, get_or, sym, ◌∙◌, ap, subst, arith, Contains, pow-suc, vec_len}
 use Rattle.std.proofs.lemmas.Result.{IfOk-weaker, IfErr-weaker}
 use Rattle.std.proofs.lemmas.List.{take_all}
+use Rattle.std.proofs.lemmas.Option.{MatchOption-at_none, MatchOption-at_some}
 use Rattle.quilt_store.proofs.Reading.{read_on}
 use Rattle.quilt_types.specs.declared.plane.Block.{Block}
 use Rattle.quilt_types.specs.Plane.{side, quarters_of}
@@ -9,9 +10,9 @@ use Rattle.quilt_loc.proofs.Quartered.{quarters_are}
 use Rattle.quilt_edits.proofs.Lists.{member_at, take_next}
 use Rattle.quilt_btree.specs.Trees.{IsRooted}
 use Rattle.quilt_lines.specs.Reads.{AreIdsAt}
-use Rattle.quilt_lines.specs.Merges.{Becomes, Gathers}
+use Rattle.quilt_lines.specs.Merges.{BecomesSettled, Gathers}
 use Rattle.quilt_lines.proofs.Around.{search_along}
-use Rattle.quilt_lines.proofs.Lookups.{match_none, match_some, lines_along}
+use Rattle.quilt_lines.proofs.Lookups.{lines_along}
 use Rattle.quilt_lines.proofs.plans.MergeSteps.{unmet_settles}
 use Rattle.quilt_lines.proofs.Gathering.{gathers_next}
 use Rattle.quilt_near.proofs.Reached.{reached_quarter}
@@ -27,13 +28,13 @@ settle-returns-in-Err-clause-sound g t c segs cover h = c.in-Err.ensures.sound c
 pub settle-returns-in-Ok-Some-clause-settled : goal.settle-returns-in-Ok-Some-clause-settled
 settle-returns-in-Ok-Some-clause-settled g t c k segs cover e h =
     c.in-Ok.ensures k segs cover (subst (AreIdsAt segs cover c.args.b) (sym c.deref.ensures.value)
-    (match_some c.in-Ok-Some.field-0 _ _ c.in-Ok-Some.ids c.in-Ok-Some.field-0-is (c.in-Ok-Some.ensures.ids c.args.self.now.threshold segs cover h)))
+    (MatchOption-at_some _ _ c.in-Ok-Some.ids c.in-Ok-Some.field-0-is (c.in-Ok-Some.ensures.ids c.args.self.now.threshold segs cover h)))
 
 pub settle-returns-then-not-enters-clause-settled : goal.settle-returns-then-not-enters-clause-settled
 settle-returns-then-not-enters-clause-settled g t c k segs cover e h =
     unmet_settles c.args.self.now.level c.args.self.now.layer c.args.self.now.threshold c.args.self.now.id segs cover c.args.self.now.segment k c.args.b
     c.new.result e
-    (match_none c.in-Ok-None.field-0 _ _ c.in-Ok-None.field-0-is (c.in-Ok-None.ensures.ids c.args.self.now.threshold segs cover h))
+    (MatchOption-at_none _ _ c.in-Ok-None.field-0-is (c.in-Ok-None.ensures.ids c.args.self.now.threshold segs cover h))
     (c.enters.ensures.unmet c.if-not-enters.true) c.new.ensures.one c.new.ensures.coming c.new.ensures.going c.new.ensures.staying c.new.ensures.emptied
 
 pub settle-returns-clause-settled : goal.settle-returns-clause-settled
@@ -41,7 +42,7 @@ settle-returns-clause-settled g t c =
     IfOk-weaker c.settle_quarters.result _ _ (λ x f k segs cover e h.
     f k segs cover e (lines_along _ _ c.args.tree.now c.args.self.now.layer c.args.self.now.level c.args.self.now.threshold segs cover
     c.in-Ok-None.ensures.left.told h)
-    (match_none c.in-Ok-None.field-0 _ _ c.in-Ok-None.field-0-is (c.in-Ok-None.ensures.ids c.args.self.now.threshold segs cover h)))
+    (MatchOption-at_none _ _ c.in-Ok-None.field-0-is (c.in-Ok-None.ensures.ids c.args.self.now.threshold segs cover h)))
     c.settle_quarters.ensures.settled
 
 pub settle-returns-clause-sound : goal.settle-returns-clause-sound
@@ -118,7 +119,7 @@ pub settle_quarters-returns-in-Ok-joined-clause-settled :
 settle_quarters-returns-in-Ok-joined-clause-settled g t c k segs cover e h away = by_level k e
   where
     by_level : (j : ℕ) → c.args.b.side ≡ side j
-        → Becomes c.args.self.now segs cover j c.args.b c.in-Ok-joined.x
+        → BecomesSettled c.args.self.now segs cover j c.args.b c.in-Ok-joined.x
     by_level zero e' = let wide = c.requires.wide in absurd (omega arith)
     by_level (suc j) e' =
         let past = c.loop-q-test.false in
@@ -133,31 +134,31 @@ settle-returns-in-Ok-Some-clause-reads g t c segs cover h reached above =
     let counts = is_met_above n c.args.self.now.segment in
     let ids = c.in-Ok-Some.ids.items in
     let le = due_leaf n counts segs cover c.args.b c.requires.block above reached ids
-    (match_some c.in-Ok-Some.field-0 _ _ c.in-Ok-Some.ids c.in-Ok-Some.field-0-is (c.in-Ok-Some.ensures.ids c.args.self.now.threshold segs cover h)) in
+    (MatchOption-at_some _ _ c.in-Ok-Some.ids c.in-Ok-Some.field-0-is (c.in-Ok-Some.ensures.ids c.args.self.now.threshold segs cover h)) in
     let same = ap length c.deref.ensures.value in
     let len = c.deref.ensures.len in
     reads_more _ _ (12 + 3 * vec_len c.in-Ok-Some.ids) (due n counts segs cover c.args.b) (omega arith)
-    (match_some c.in-Ok-Some.field-0 _ _ c.in-Ok-Some.ids c.in-Ok-Some.field-0-is c.in-Ok-Some.ensures.reads)
+    (MatchOption-at_some _ _ c.in-Ok-Some.ids c.in-Ok-Some.field-0-is c.in-Ok-Some.ensures.reads)
 
 pub settle-returns-then-not-enters-clause-reads : goal.settle-returns-then-not-enters-clause-reads
 settle-returns-then-not-enters-clause-reads g t c segs cover h reached above =
     let n = c.args.self.now.level in
     let counts = is_met_above n c.args.self.now.segment in
     let le = due_cut n counts segs cover c.args.b c.requires.block above reached
-    (match_none c.in-Ok-None.field-0 _ _ c.in-Ok-None.field-0-is (c.in-Ok-None.ensures.ids c.args.self.now.threshold segs cover h)) in
+    (MatchOption-at_none _ _ c.in-Ok-None.field-0-is (c.in-Ok-None.ensures.ids c.args.self.now.threshold segs cover h)) in
     reads_more _ _ 9 (due n counts segs cover c.args.b) (omega arith)
-    (match_none c.in-Ok-None.field-0 _ _ c.in-Ok-None.field-0-is c.in-Ok-None.ensures.reads)
+    (MatchOption-at_none _ _ c.in-Ok-None.field-0-is c.in-Ok-None.ensures.reads)
 
 pub settle-returns-clause-reads : goal.settle-returns-clause-reads
 settle-returns-clause-reads g t c =
     IfOk-weaker c.settle_quarters.result _ _ (λ x f segs cover h reached above.
     let n = c.args.self.now.level in
     let counts = is_met_above n c.args.self.now.segment in
-    let away = match_none c.in-Ok-None.field-0 _ _ c.in-Ok-None.field-0-is (c.in-Ok-None.ensures.ids c.args.self.now.threshold segs cover h) in
+    let away = MatchOption-at_none _ _ c.in-Ok-None.field-0-is (c.in-Ok-None.ensures.ids c.args.self.now.threshold segs cover h) in
     let rest = sum_by (due n counts segs cover) (quarters_of c.args.b) in
     let le = due_split n counts segs cover c.args.b c.requires.block above reached away (c.enters.ensures.wide c.if-not-enters.false) in
     reads_sum _ _ _ 9 rest (due n counts segs cover c.args.b) (omega arith)
-    (match_none c.in-Ok-None.field-0 _ _ c.in-Ok-None.field-0-is c.in-Ok-None.ensures.reads)
+    (MatchOption-at_none _ _ c.in-Ok-None.field-0-is c.in-Ok-None.ensures.reads)
     (f segs cover (lines_along _ _ c.args.tree.now c.args.self.now.layer n c.args.self.now.threshold segs cover c.in-Ok-None.ensures.left.told h) reached away))
     c.settle_quarters.ensures.reads
 

@@ -6,7 +6,7 @@ use Rattle.quilt_types.specs.Quadtrees.{is_reached, reach}
 use Rattle.quilt_world.specs.Tale.{Goes}
 use Rattle.quilt_near.proofs.Reached.{reached_whole}
 use Rattle.quilt_loc.proofs.Quartered.{IsBlock-whole}
-use Rattle.quilt_lines.specs.Merges.{Settles}
+use Rattle.quilt_lines.specs.Merges.{SettlesBlock}
 use Rattle.quilt_lines.specs.Bounds.{is_met_above, due}
 use Rattle.quilt_lines.proofs.Costs.{due_whole, whole_above}
 use Rattle.quilt_lines.proofs.Sums.{reads_more}
@@ -23,7 +23,7 @@ pub returns-in-Ok-clause-plan : goal.returns-in-Ok-clause-plan
 returns-in-Ok-clause-plan g c =
     let r = c.args.self.now in
     IfOk-weaker c.edits.result _ _ (λ e f segs cover h had.
-    f segs cover h.spelled.valid had (subst (λ (b : Block). Settles r.level r.layer r.threshold r.id segs cover r.segment r.level b c.in-Ok.all)
+    f segs cover h.spelled.valid had (subst (λ (b : Block). SettlesBlock r.level r.layer r.threshold r.id segs cover r.segment r.level b c.in-Ok.all)
     c.whole_square.ensures
     (c.in-Ok.ensures.settled r.level segs cover (ap (λ (b : Block). b.side) c.whole_square.ensures) h))) c.edits.ensures.plan
 
@@ -31,7 +31,7 @@ pub returns-in-Ok-clause-sound : goal.returns-in-Ok-clause-sound
 returns-in-Ok-clause-sound g c =
     let r = c.args.self.now in
     IfErr-weaker c.edits.result _ _ (λ e f segs cover h had.
-    f segs cover h.spelled.valid had (subst (λ (b : Block). Settles r.level r.layer r.threshold r.id segs cover r.segment r.level b c.in-Ok.all)
+    f segs cover h.spelled.valid had (subst (λ (b : Block). SettlesBlock r.level r.layer r.threshold r.id segs cover r.segment r.level b c.in-Ok.all)
     c.whole_square.ensures
     (c.in-Ok.ensures.settled r.level segs cover (ap (λ (b : Block). b.side) c.whole_square.ensures) h))) c.edits.ensures.sound
 

@@ -1,7 +1,8 @@
 use Rattle.std.proofs.Common.{◌≡◌, true, sym, ◌∙◌, subst}
+use Rattle.std.proofs.lemmas.Option.{none-some}
 use Rattle.quilt_types.specs.Layers.{is_in_square}
 use Rattle.quilt_lines.specs.Said.{SaySegmentAt}
-use Rattle.quilt_lines.proofs.Lookups.{none_some, if_some_at}
+use Rattle.quilt_lines.proofs.Lookups.{if_some_at}
 use Rattle.quilt_lines.proofs.view.LineView.add_segment.Goals as goal
 
 pub returns-in-Err-clause-sound : goal.returns-in-Err-clause-sound
@@ -9,7 +10,7 @@ returns-in-Err-clause-sound g c t segs cover h s e = c.in-Err.ensures.sound t se
 
 pub returns-in-Ok-None-clause-sound : goal.returns-in-Ok-None-clause-sound
 returns-in-Ok-None-clause-sound g c t segs cover h s e page p =
-    none_some s (sym c.in-Ok-None.field-0-is ∙ c.in-Ok-None.ensures.segment t segs cover h ∙ e)
+    none-some s (sym c.in-Ok-None.field-0-is ∙ c.in-Ok-None.ensures.segment t segs cover h ∙ e)
 
 pub returns-in-Ok-clause-added : goal.returns-in-Ok-clause-added
 returns-in-Ok-clause-added g c = (

@@ -3,6 +3,7 @@ use Rattle.std.specs.FinMap as finmap
 use Rattle.std.specs.Ordering.{nat_cmp}
 use Rattle.std.proofs.lemmas.List.{take_all}
 use Rattle.std.proofs.lemmas.List.Elements.{All-append}
+use Rattle.std.proofs.lemmas.Option.{none-some, same_Some}
 use Rattle.quilt_types.specs.declared.plane.Seg.{Seg}
 use Rattle.quilt_types.specs.Layers.{is_in_square}
 use Rattle.quilt_loc.specs.Codes.{Rises}
@@ -13,7 +14,6 @@ use Rattle.quilt_lines.specs.Layers.{fact_record}
 use Rattle.quilt_lines.specs.Reads.{ids_of}
 use Rattle.quilt_lines.proofs.Saying.{says_more}
 use Rattle.quilt_lines.proofs.Listed.{all_one}
-use Rattle.quilt_lines.proofs.Lookups.{none_some, same_some}
 use Rattle.quilt_lines.proofs.Scans.{order_more, below_more, smallest_more, next_at, all_read}
 use Rattle.quilt_lines.proofs.view.LineView.all_segments.Goals as goal
 
@@ -32,13 +32,13 @@ pub returns-in_default-clause-sound : goal.returns-in_default-clause-sound
 returns-in_default-clause-sound c t segs cover valid is page e =
     let w = next_at c.args.self.now.level c.args.self.now.layer t segs cover valid c.args.self.now.has_level.1 c.args.records.now c.loop-r.r-index _
     c.loop-r-test.true is c.segment_said.result c.segment_said.ensures.one in
-    none_some w.next (sym c.in_default.is ∙ w.is_said)
+    none-some w.next (sym c.in_default.is ∙ w.is_said)
 
 pub returns-then-from-least-clause-sound : goal.returns-then-from-least-clause-sound
 returns-then-from-least-clause-sound c t segs cover valid is page e =
     let w = next_at c.args.self.now.level c.args.self.now.layer t segs cover valid c.args.self.now.has_level.1 c.args.records.now c.loop-r.r-index _
     c.loop-r-test.true is c.segment_said.result c.segment_said.ensures.one in
-    let same = same_some (c.in-Some.id, c.in-Some.s) w.next (sym c.in-Some.is ∙ w.is_said) in
+    let same = same_Some (c.in-Some.id, c.in-Some.s) w.next (sym c.in-Some.is ∙ w.is_said) in
     let id : c.in-Some.id ≡ w.next.0 = ap (λ (d : ℕ × Seg). d.0) same in
     let le = c.loop-r.invariant.smallest w.next.0
     (subst (All (λ (d : ℕ × Seg). d.0 < w.next.0)) (sym (c.loop-r.invariant.segments t segs cover valid is)) w.later) in
@@ -57,7 +57,7 @@ loop-r-preserved c =
       segments = λ t segs cover valid is.
           let w = next_at c.args.self.now.level c.args.self.now.layer t segs cover valid c.args.self.now.has_level.1 c.args.records.now
           c.loop-r.r-index _ c.loop-r-test.true is c.segment_said.result c.segment_said.ensures.one in
-          let same = same_some (c.in-Some.id, c.in-Some.s) w.next (sym c.in-Some.is ∙ w.is_said) in
+          let same = same_Some (c.in-Some.id, c.in-Some.s) w.next (sym c.in-Some.is ∙ w.is_said) in
           new ∙ ap (λ (l : List (ℕ × Seg)). l ++ more) (c.loop-r.invariant.segments t segs cover valid is)
           ∙ ap (λ (d : ℕ × Seg). take c.loop-r.r-index (finmap.entries segs) ++ d ∷ []) same ∙ sym w.longer;
       inside =

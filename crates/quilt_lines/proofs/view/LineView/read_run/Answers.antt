@@ -1,12 +1,12 @@
-use Rattle.std.proofs.Common.{◌≡◌, ◌≢◌, ℕ, ◌+◌, ◌-◌, ◌≤◌, ◌<◌, Some, None, ⊎_elim, sym, ◌∙◌, ap, arith, vec_len}
+use Rattle.std.proofs.Common.{◌≡◌, ℕ, ◌+◌, ◌-◌, ◌≤◌, ◌<◌, Some, None, ⊎_elim, sym, ◌∙◌, ap, arith}
 use Rattle.std.proofs.lemmas.Bool.{cases_eq, cases_lt}
 use Rattle.std.specs.FinMap as finmap
+use Rattle.std.proofs.lemmas.Option.{none-some}
 use Rattle.quilt_record.proofs.Readers.{pair_same}
 use Rattle.quilt_near.specs.Knowing.{known_seg}
 use Rattle.quilt_near.proofs.Knowing.{knows_more, stays_more}
 use Rattle.quilt_lines.specs.Reads.{segment_key}
 use Rattle.quilt_lines.proofs.Followers.{said_is, run_whole, run_next}
-use Rattle.quilt_lines.proofs.Lookups.{none_some}
 use Rattle.quilt_lines.proofs.Saying.{sound_zero}
 use Rattle.quilt_lines.proofs.view.LineView.read_run.Goals as goal
 use Rattle.quilt_lines.proofs.view.LineView.read_run.Goals.{in_default-via-in-Some+else-from-next, in_default-via-in_default}
@@ -40,7 +40,7 @@ returns-in_default-clause-sound g c l h all page e =
           let no = w.if-from-next.false in
           let next = c.loop-r.invariant.next in
           absurd (no (from ∙ id ∙ sym next))
-      | in_default-via-in_default w ↦ none_some (run.first + c.loop-r.r-index, said.0) (sym w.in_default.is ∙ said.1)
+      | in_default-via-in_default w ↦ none-some (run.first + c.loop-r.r-index, said.0) (sym w.in_default.is ∙ said.1)
     ]
 
 pub loop-r-preserved : goal.loop-r-preserved

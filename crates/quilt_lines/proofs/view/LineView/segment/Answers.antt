@@ -1,6 +1,7 @@
 use Rattle.std.proofs.Common.{Some, sym, ◌∙◌, ap}
+use Rattle.std.proofs.lemmas.Option.{none-some}
 use Rattle.quilt_record.proofs.Readers.{pair_same}
-use Rattle.quilt_lines.proofs.Lookups.{none_some, none_found, found}
+use Rattle.quilt_lines.proofs.Lookups.{none_found, found}
 use Rattle.quilt_lines.proofs.Saying.{sound_zero, segment_at, none_at}
 use Rattle.quilt_lines.proofs.view.LineView.segment.Goals as goal
 
@@ -24,7 +25,7 @@ returns-in-None-clause-sound g c t segs cover h page e =
     let f = found (g.S.PageStore.told c.args.store.now) c.args.self.now.tree c.args.self.now.layer c.args.self.now.level t segs cover c.args.id _ _
     c.segment_key-key.ensures c.in-Ok-Some.ensures.value h _ c.in-Ok-Some.field-0-is
     c.args.self.now.has_level.1 c.segment_said.result c.segment_said.ensures.one in
-    none_some (c.args.id, f.seg) (sym c.in-None.is ∙ f.is_said)
+    none-some (c.args.id, f.seg) (sym c.in-None.is ∙ f.is_said)
 
 pub returns-in-Err-clause-zero : goal.returns-in-Err-clause-zero
 returns-in-Err-clause-zero g c rs is = sound_zero c.in-Err.e (c.in-Err.ensures.sound rs is)

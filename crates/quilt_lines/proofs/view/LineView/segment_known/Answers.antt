@@ -1,7 +1,8 @@
 use Rattle.std.proofs.Common.{◌≡◌, true, sym, ◌∙◌}
+use Rattle.std.proofs.lemmas.Option.{none-some}
 use Rattle.quilt_types.specs.Layers.{is_in_square}
 use Rattle.quilt_near.proofs.Knowing.{knows_more}
-use Rattle.quilt_lines.proofs.Lookups.{none_some, if_some_at}
+use Rattle.quilt_lines.proofs.Lookups.{if_some_at}
 use Rattle.quilt_lines.proofs.view.LineView.segment_known.Goals as goal
 
 pub returns-in-Err-clause-sound : goal.returns-in-Err-clause-sound
@@ -9,7 +10,7 @@ returns-in-Err-clause-sound g c l h s e = c.in-Err.ensures.sound h.threshold l.s
 
 pub returns-in-Ok-None-clause-sound : goal.returns-in-Ok-None-clause-sound
 returns-in-Ok-None-clause-sound g c l h s e page p =
-    none_some s (sym c.in-Ok-None.field-0-is ∙ c.in-Ok-None.ensures.segment h.threshold l.segs l.cover h.has ∙ e)
+    none-some s (sym c.in-Ok-None.field-0-is ∙ c.in-Ok-None.ensures.segment h.threshold l.segs l.cover h.has ∙ e)
 
 pub returns-in-Ok-clause-found : goal.returns-in-Ok-clause-found
 returns-in-Ok-clause-found g c l h = sym (c.in-Ok-Some.ensures.segment h.threshold l.segs l.cover h.has) ∙ c.in-Ok-Some.field-0-is

@@ -1,17 +1,15 @@
-use Rattle.std.proofs.Common.{◌≡◌, ℕ, ◌*◌, true, Some, [], ◌∷◌, ◌++◌, List, All, length, get_or, sym, ◌∙◌, ap, subst, arith, length-append}
+use Rattle.std.proofs.Common.{ℕ, ◌*◌, true, [], ◌∷◌, List, All, length, get_or, sym, ◌∙◌, ap, subst, arith, length-append}
 use Rattle.std.specs.FinMap as finmap
-use Rattle.std.proofs.lemmas.List.{map-append}
 use Rattle.std.proofs.lemmas.List.Elements.{All-append}
 use Rattle.quilt_store.proofs.Reading.{only_reads_then, read_on, only_reads_err}
 use Rattle.quilt_types.specs.declared.plane.Seg.{Seg}
-use Rattle.quilt_types.specs.Layers.{is_in_square}
-use Rattle.quilt_edits.proofs.Lists.{member_at, take_next}
-use Rattle.quilt_lines.specs.Reads.{ids_of}
+use Rattle.quilt_edits.proofs.Lists.{member_at}
 use Rattle.quilt_lines.specs.Said.{SaySegment}
 use Rattle.quilt_lines.proofs.Listed.{all_one}
 use Rattle.quilt_lines.proofs.Lookups.{lines_along}
 use Rattle.quilt_lines.proofs.Saying.{tree_along}
 use Rattle.quilt_lines.proofs.Sums.{reads_sum}
+use Rattle.quilt_lines.proofs.Taken.{taken_more}
 use Rattle.quilt_lines.proofs.view.LineView.segments.Goals as goal
 
 pub returns-in-Err-clause-sound : goal.returns-in-Err-clause-sound
@@ -27,16 +25,9 @@ loop-id-preserved g c =
     let more : List (ℕ × Seg) = (id, a.0) ∷ [] in
     let longer = ap length a.1 ∙ length-append c.loop-id.list more in
     record {
-      ids = ap ids_of a.1 ∙ map-append (λ (e : ℕ × Seg). e.0) c.loop-id.list more ∙ ap (λ (l : List ℕ). l ++ id ∷ []) c.loop-id.invariant.ids
-          ∙ sym (take_next c.args.ids.now c.loop-id.id-index _ c.loop-id-test.true);
-      found = λ t segs cover h.
-          let P = λ (e : ℕ × Seg). finmap.get segs e.0 ≡ Some e.1 in
-          subst (All P) (sym a.1) (All-append P c.loop-id.list more (c.loop-id.invariant.found t segs cover h)
-          (all_one P (id, a.0) (a.3 t segs cover
-          (lines_along _ _ c.args.self.now.tree c.args.self.now.layer c.args.self.now.level t segs cover c.loop-id.invariant.left.told h))));
-      inside =
-          let P = λ (e : ℕ × Seg). is_in_square c.args.self.now.level e.1 ≡ true in
-          subst (All P) (sym a.1) (All-append P c.loop-id.list more c.loop-id.invariant.inside (all_one P (id, a.0) a.2));
+      taken = taken_more c.args.ids.now c.loop-id.id-index _ a.0 _ c.loop-id.invariant.taken c.loop-id-test.true a.1 a.2
+          (λ x h. a.3 x.0 x.1 x.2
+          (lines_along _ _ c.args.self.now.tree c.args.self.now.layer c.args.self.now.level x.0 x.1 x.2 c.loop-id.invariant.left.told h));
       said = λ rs is.
           let P = λ (e : ℕ × Seg). SaySegment c.args.self.now.level c.args.self.now.layer rs e.0 e.1 in
           subst (All P) (sym a.1) (All-append P c.loop-id.list more (c.loop-id.invariant.said rs is)
@@ -50,3 +41,6 @@ returns-in-Err-clause-left g c = only_reads_err _ (only_reads_then _ g.met.S.Pag
 
 pub returns-in-Err-clause-zero : goal.returns-in-Err-clause-zero
 returns-in-Err-clause-zero g c rs is = c.in-Err.ensures.zero rs (tree_along _ _ c.args.self.now.tree rs c.loop-id.invariant.left.told is)
+
+pub returns-clause-found : goal.returns-clause-found
+returns-clause-found g c t segs cover h = c.loop-id.invariant.taken.found (t, segs, cover) h

@@ -1,19 +1,14 @@
-use Rattle.std.proofs.Common.{◌≡◌, ℕ, ◌+◌, ◌*◌, ◌≤◌, true, Some, [], ◌∷◌, ◌++◌, List, All, length, get_or, sym, ◌∙◌, ap, subst, arith, length-append}
+use Rattle.std.proofs.Common.{◌+◌, ◌*◌, ◌≤◌, true, get_or, arith}
 use Rattle.std.specs.FinMap as finmap
-use Rattle.std.proofs.lemmas.List.{map-append}
-use Rattle.std.proofs.lemmas.List.Elements.{All-append}
 use Rattle.quilt_store.proofs.Reading.{read_on}
-use Rattle.quilt_types.specs.declared.plane.Seg.{Seg}
-use Rattle.quilt_types.specs.Layers.{is_in_square}
 use Rattle.quilt_near.specs.Knowing.{known_seg, many_known}
 use Rattle.quilt_near.proofs.Knowing.{knows_where}
 use Rattle.quilt_near.proofs.Telling.{tells_then}
-use Rattle.quilt_edits.proofs.Lists.{member_at, take_next}
-use Rattle.quilt_lines.specs.Reads.{ids_of}
-use Rattle.quilt_lines.proofs.Listed.{all_one}
+use Rattle.quilt_edits.proofs.Lists.{member_at}
 use Rattle.quilt_lines.proofs.Lookups.{shows_along}
 use Rattle.quilt_lines.proofs.Saying.{tree_along}
 use Rattle.quilt_lines.proofs.Followers.{unknown_more}
+use Rattle.quilt_lines.proofs.Taken.{taken_more}
 use Rattle.quilt_lines.proofs.view.LineView.segments_known.Goals as goal
 
 pub returns-in-Err-clause-zero : goal.returns-in-Err-clause-zero
@@ -28,22 +23,13 @@ returns-in-Err-clause-sound g c l h all =
 pub loop-id-preserved : goal.loop-id-preserved
 loop-id-preserved g c =
     let id = get_or c.args.ids.now c.loop-id.id-index _ in
-    let more : List (ℕ × Seg) = (id, c.in-Ok.s) ∷ [] in
-    let pushed = c.in-Ok-push.ensures.ok in
     let initial = many_known c.args.known.now in
     let before = many_known c.loop-id.known in
     let after = many_known c.segment_known.new.known in
     record {
-      ids = ap ids_of pushed ∙ map-append (λ (e : ℕ × Seg). e.0) c.loop-id.list more ∙ ap (λ (l : List ℕ). l ++ id ∷ []) c.loop-id.invariant.ids
-          ∙ sym (take_next c.args.ids.now c.loop-id.id-index _ c.loop-id-test.true);
-      found = λ m h.
-          let P = λ (e : ℕ × Seg). finmap.get m.segs e.0 ≡ Some e.1 in
-          subst (All P) (sym pushed) (All-append P c.loop-id.list more (c.loop-id.invariant.found m h)
-          (all_one P (id, c.in-Ok.s) (c.in-Ok.ensures.found m
-          (shows_along _ _ c.args.self.now.tree c.args.self.now.layer c.args.self.now.level m c.loop-id.invariant.left.told h))));
-      inside =
-          let P = λ (e : ℕ × Seg). is_in_square c.args.self.now.level e.1 ≡ true in
-          subst (All P) (sym pushed) (All-append P c.loop-id.list more c.loop-id.invariant.inside (all_one P (id, c.in-Ok.s) c.in-Ok.ensures.inside));
+      taken = taken_more c.args.ids.now c.loop-id.id-index _ c.in-Ok.s _ c.loop-id.invariant.taken c.loop-id-test.true c.in-Ok-push.ensures.ok c.in-Ok.ensures.inside
+          (λ m h. c.in-Ok.ensures.found m
+          (shows_along _ _ c.args.self.now.tree c.args.self.now.layer c.args.self.now.level m c.loop-id.invariant.left.told h));
       known = knows_where _ _ _ c.segment_known.new.known
           (λ l h. shows_along _ _ c.args.self.now.tree c.args.self.now.layer c.args.self.now.level l c.loop-id.invariant.left.told h) c.in-Ok.ensures.known;
       stays = λ q s e. c.in-Ok.ensures.stays q s (c.loop-id.invariant.stays q s e);

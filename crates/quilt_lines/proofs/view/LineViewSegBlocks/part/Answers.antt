@@ -1,10 +1,11 @@
-use Rattle.std.proofs.Common.{◌≡◌, ℕ, ◌+◌, ◌*◌, List, All, [], Contains, length, sym, ◌∙◌, ap, subst, arith, vec_len}
+use Rattle.std.proofs.Common.{ℕ, ◌+◌, ◌*◌, List, Contains, length, sym, ◌∙◌, ap, subst, arith, vec_len}
 use Rattle.std.proofs.lemmas.List.{length-map}
+use Rattle.std.proofs.lemmas.Option.{MatchOption-at_none, MatchOption-at_some}
 use Rattle.quilt_types.specs.declared.plane.Seg.{Seg}
 use Rattle.quilt_store.proofs.Reading.{only_reads_then, only_reads_err}
 use Rattle.quilt_lines.proofs.Listed.{same_segments, all_there, each_there, one_pixel}
-use Rattle.quilt_lines.specs.Said.{SaySegment, SayIds, records_at}
-use Rattle.quilt_lines.proofs.Lookups.{lines_along, match_none, match_some}
+use Rattle.quilt_lines.specs.Said.{SayIds, records_at}
+use Rattle.quilt_lines.proofs.Lookups.{lines_along}
 use Rattle.quilt_lines.proofs.Saying.{tree_along}
 use Rattle.quilt_lines.proofs.Sums.{reads_sum, reads_more}
 use Rattle.quilt_lines.proofs.view.LineViewSegBlocks.part.Goals as goal
@@ -16,21 +17,21 @@ pub returns-then-b-le1-clause-sound : goal.returns-then-b-le1-clause-sound
 returns-then-b-le1-clause-sound g c l h page e =
     one_pixel c.args.self.now.level c.args.self.now.layer h.threshold l.segs l.cover c.args.b h.has.spelled.valid c.requires.block c.if-b-le1.true
     (c.requires.reached l h)
-    (match_none c.in-Ok-None.field-0 _ _ c.in-Ok-None.field-0-is (c.in-Ok-None.ensures.ids h.threshold l.segs l.cover h.has))
+    (MatchOption-at_none _ _ c.in-Ok-None.field-0-is (c.in-Ok-None.ensures.ids h.threshold l.segs l.cover h.has))
 
 pub returns-in-Ok-None-clause-part : goal.returns-in-Ok-None-clause-part
-returns-in-Ok-None-clause-part g c l h = match_none c.in-Ok-None.field-0 _ _ c.in-Ok-None.field-0-is (c.in-Ok-None.ensures.ids h.threshold l.segs l.cover h.has)
+returns-in-Ok-None-clause-part g c l h = MatchOption-at_none _ _ c.in-Ok-None.field-0-is (c.in-Ok-None.ensures.ids h.threshold l.segs l.cover h.has)
 
 pub returns-in-Err-segments-clause-sound : goal.returns-in-Err-segments-clause-sound
 returns-in-Err-segments-clause-sound g c l h =
-    let at = match_some c.in-Ok-Some.field-0 _ _ c.in-Ok-Some.ids c.in-Ok-Some.field-0-is (c.in-Ok-Some.ensures.ids h.threshold l.segs l.cover h.has) in
+    let at = MatchOption-at_some _ _ c.in-Ok-Some.ids c.in-Ok-Some.field-0-is (c.in-Ok-Some.ensures.ids h.threshold l.segs l.cover h.has) in
     c.in-Err-segments.ensures.sound h.threshold l.segs l.cover
     (lines_along _ _ c.args.self.now.tree c.args.self.now.layer c.args.self.now.level h.threshold l.segs l.cover c.in-Ok-Some.ensures.left.told h.has)
     (λ id m. each_there l.segs c.args.b id (subst (λ (ids : List ℕ). Contains ids id) (c.deref.ensures.value ∙ at.are) m))
 
 pub returns-clause-part : goal.returns-clause-part
 returns-clause-part g c l h =
-    let at = match_some c.in-Ok-Some.field-0 _ _ c.in-Ok-Some.ids c.in-Ok-Some.field-0-is (c.in-Ok-Some.ensures.ids h.threshold l.segs l.cover h.has) in (
+    let at = MatchOption-at_some _ _ c.in-Ok-Some.ids c.in-Ok-Some.field-0-is (c.in-Ok-Some.ensures.ids h.threshold l.segs l.cover h.has) in (
       at.there,
       same_segments l.segs c.in-Ok.list _ (c.in-Ok.ensures.ids ∙ c.deref.ensures.value ∙ at.are)
           (c.in-Ok.ensures.found h.threshold l.segs l.cover
@@ -43,11 +44,11 @@ returns-in-Err-segments-clause-left g c = only_reads_err _ (only_reads_then _ g.
 
 pub returns-in-Ok-None-clause-said : goal.returns-in-Ok-None-clause-said
 returns-in-Ok-None-clause-said g c rs is =
-    match_none c.in-Ok-None.field-0 _ _ c.in-Ok-None.field-0-is (c.in-Ok-None.ensures.said rs is)
+    MatchOption-at_none _ _ c.in-Ok-None.field-0-is (c.in-Ok-None.ensures.said rs is)
 
 pub returns-in-Ok-None-clause-reads : goal.returns-in-Ok-None-clause-reads
 returns-in-Ok-None-clause-reads g c =
-    reads_more _ _ 6 12 (omega arith) (match_none c.in-Ok-None.field-0 _ _ c.in-Ok-None.field-0-is c.in-Ok-None.ensures.reads)
+    reads_more _ _ 6 12 (omega arith) (MatchOption-at_none _ _ c.in-Ok-None.field-0-is c.in-Ok-None.ensures.reads)
 
 pub returns-in-Err-segments-clause-zero : goal.returns-in-Err-segments-clause-zero
 returns-in-Err-segments-clause-zero g c rs is =
@@ -57,7 +58,7 @@ pub returns-clause-said : goal.returns-clause-said
 returns-clause-said g c rs is =
     let n = c.args.self.now.level in
     let layer = c.args.self.now.layer in
-    let ids = match_some c.in-Ok-Some.field-0 _ _ c.in-Ok-Some.ids c.in-Ok-Some.field-0-is (c.in-Ok-Some.ensures.said rs is) in (
+    let ids = MatchOption-at_some _ _ c.in-Ok-Some.ids c.in-Ok-Some.field-0-is (c.in-Ok-Some.ensures.said rs is) in (
       subst (λ (l : List ℕ). SayIds n layer c.args.b (records_at n layer c.args.b rs) l) (sym (c.in-Ok.ensures.ids ∙ c.deref.ensures.value)) ids,
       c.in-Ok.ensures.said rs (tree_along _ _ c.args.self.now.tree rs c.in-Ok-Some.ensures.left.told is),
     )
@@ -68,4 +69,4 @@ returns-clause-reads g c =
     let len = c.deref.ensures.len in
     let all = length-map c.in-Ok.list (λ (e : ℕ × Seg). e.0) in
     reads_sum _ _ _ (9 + 3 * vec_len c.in-Ok-Some.ids) (3 * length c.in-Ok.list) (12 + 6 * length c.in-Ok.list) (omega arith)
-    (match_some c.in-Ok-Some.field-0 _ _ c.in-Ok-Some.ids c.in-Ok-Some.field-0-is c.in-Ok-Some.ensures.reads) c.in-Ok.ensures.reads
+    (MatchOption-at_some _ _ c.in-Ok-Some.ids c.in-Ok-Some.field-0-is c.in-Ok-Some.ensures.reads) c.in-Ok.ensures.reads

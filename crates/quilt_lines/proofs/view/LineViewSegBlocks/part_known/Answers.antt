@@ -1,7 +1,8 @@
 use Rattle.std.proofs.Common.{ℕ, List, Contains, ◌∙◌, subst, arith, refl}
+use Rattle.std.proofs.lemmas.Option.{MatchOption-at_none, MatchOption-at_some}
 use Rattle.quilt_near.proofs.Knowing.{knows_block}
 use Rattle.quilt_lines.proofs.Listed.{same_segments, all_there, each_there, one_pixel}
-use Rattle.quilt_lines.proofs.Lookups.{shows_along, match_none, match_some}
+use Rattle.quilt_lines.proofs.Lookups.{shows_along}
 use Rattle.quilt_lines.proofs.Saying.{tree_along}
 use Rattle.quilt_lines.proofs.view.LineViewSegBlocks.part_known.Goals.{in-Err-segments_known, in-Ok}
 use Rattle.quilt_lines.proofs.view.LineViewSegBlocks.part_known.Goals as goal
@@ -14,11 +15,11 @@ returns-then-b-lt2-clause-sound g c l h page e =
     let small = c.if-b-lt2.true in
     one_pixel c.args.self.now.level c.args.self.now.layer h.threshold l.segs l.cover c.args.b h.has.spelled.valid c.requires.block (omega arith)
     (c.requires.reached l h)
-    (match_none c.in-Ok-None.field-0 _ _ c.in-Ok-None.field-0-is (c.in-Ok-None.ensures.ids h.threshold l.segs l.cover h.has (c.requires.known.block l h)))
+    (MatchOption-at_none _ _ c.in-Ok-None.field-0-is (c.in-Ok-None.ensures.ids h.threshold l.segs l.cover h.has (c.requires.known.block l h)))
 
 pub returns-in-Ok-None-clause-part : goal.returns-in-Ok-None-clause-part
 returns-in-Ok-None-clause-part g c l h =
-    match_none c.in-Ok-None.field-0 _ _ c.in-Ok-None.field-0-is (c.in-Ok-None.ensures.ids h.threshold l.segs l.cover h.has (c.requires.known.block l h))
+    MatchOption-at_none _ _ c.in-Ok-None.field-0-is (c.in-Ok-None.ensures.ids h.threshold l.segs l.cover h.has (c.requires.known.block l h))
 
 pub returns-in-Ok-None-clause-known : goal.returns-in-Ok-None-clause-known
 returns-in-Ok-None-clause-known g c =
@@ -27,7 +28,7 @@ returns-in-Ok-None-clause-known g c =
 
 pub returns-in-Err-segments_ahead-clause-sound : goal.returns-in-Err-segments_ahead-clause-sound
 returns-in-Err-segments_ahead-clause-sound g c l h =
-    let at = match_some c.in-Ok-Some.field-0 _ _ c.in-Ok-Some.ids c.in-Ok-Some.field-0-is
+    let at = MatchOption-at_some _ _ c.in-Ok-Some.ids c.in-Ok-Some.field-0-is
     (c.in-Ok-Some.ensures.ids h.threshold l.segs l.cover h.has (c.requires.known.block l h)) in
     c.in-Err-segments_ahead.ensures.sound l
     (shows_along _ _ c.args.self.now.tree c.args.self.now.layer c.args.self.now.level l c.in-Ok-Some.ensures.left.told h)
@@ -39,7 +40,7 @@ returns-in-Err-segments_ahead-clause-zero g c rs is =
 
 pub returns-clause-part : goal.returns-clause-part
 returns-clause-part g c l h =
-    let at = match_some c.in-Ok-Some.field-0 _ _ c.in-Ok-Some.ids c.in-Ok-Some.field-0-is
+    let at = MatchOption-at_some _ _ c.in-Ok-Some.ids c.in-Ok-Some.field-0-is
     (c.in-Ok-Some.ensures.ids h.threshold l.segs l.cover h.has (c.requires.known.block l h)) in (
       at.there,
       same_segments l.segs c.in-Ok-segments_ahead.list _ (c.in-Ok-segments_ahead.ensures.ids ∙ c.deref-in-Ok-Some.ensures.value ∙ at.are)
@@ -54,7 +55,7 @@ returns-then-is_none-clause-part g c =
     elim c.match-segments_known.branch [
       | in-Err-segments_known w ↦ rw w.result-is tt
       | in-Ok w ↦ rw w.result-is (λ l h.
-          let at = match_some c.in-Ok-Some.field-0 _ _ c.in-Ok-Some.ids c.in-Ok-Some.field-0-is
+          let at = MatchOption-at_some _ _ c.in-Ok-Some.ids c.in-Ok-Some.field-0-is
           (c.in-Ok-Some.ensures.ids h.threshold l.segs l.cover h.has (c.requires.known.block l h)) in (
             at.there,
             same_segments l.segs w.in-Ok.list _ (w.in-Ok.ensures.ids ∙ c.deref.ensures.value ∙ at.are)
@@ -68,7 +69,7 @@ pub returns-then-is_none-clause-sound : goal.returns-then-is_none-clause-sound
 returns-then-is_none-clause-sound g c =
     elim c.match-segments_known.branch [
       | in-Err-segments_known w ↦ rw w.result-is (λ l h.
-          let at = match_some c.in-Ok-Some.field-0 _ _ c.in-Ok-Some.ids c.in-Ok-Some.field-0-is
+          let at = MatchOption-at_some _ _ c.in-Ok-Some.ids c.in-Ok-Some.field-0-is
           (c.in-Ok-Some.ensures.ids h.threshold l.segs l.cover h.has (c.requires.known.block l h)) in
           w.in-Err-segments_known.ensures.sound l
           (shows_along _ _ c.args.self.now.tree c.args.self.now.layer c.args.self.now.level l c.in-Ok-Some.ensures.left.told h)
