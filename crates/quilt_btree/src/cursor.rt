@@ -55,6 +55,7 @@ impl Tree {
     }
 
     /// Goes to the leaf that a separator key begins.
+    #[inline(never)]
     fn enter<S: PageStore>(&self, store: &mut S, k: &Key, c: &mut Cursor) -> Result<(), Stop>
         requires rooted { IsRooted (S.size store.old) self.now }
         requires some { 1 ≤ self.now.height }
@@ -85,6 +86,7 @@ impl Tree {
     /// Goes over the next record, which is the answer: none where the cursor stands behind the last. It reads nothing
     /// where the record is in the cursor's leaf, and else at most 3 pages. Page 0 is said to be damaged where a leaf has no
     /// record.
+    #[inline(always)]
     pub fn next<S: PageStore>(&self, store: &mut S, c: &mut Cursor) -> Result<Option<Record>, Stop>
         requires rooted { IsRooted (S.size store.old) self.now }
         requires some { 1 ≤ self.now.height }
