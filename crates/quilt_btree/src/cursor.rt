@@ -11,7 +11,7 @@ ghost use Rattle.quilt_btree.specs.Cursors.{IsParted, StandsIn, IsSought, GoesOv
 
 use crate::lower::{lower_under, place_from};
 use crate::pages::stop_of;
-use crate::reading::leaf_at;
+use crate::reading::leaf_for;
 use crate::tree::Tree;
 use quilt_node::{rec_in, records_in};
 use quilt_record::{Key, Record};
@@ -41,7 +41,7 @@ impl Tree {
         ensures left { OnlyReads S.PageStore store.old store.new result }
         ensures reads { Goes (λ old new. new ≤ old + 3) (S.reads store.old) (S.reads store.new) }
     {
-        match leaf_at(store, self.root, self.height, k, &None) {
+        match leaf_for(store, self, k) {
             Err(e) => Err(e),
             Ok(found) => match store.page(found.page) {
                 Err(e) => Err(stop_of(e)),
@@ -69,7 +69,7 @@ impl Tree {
         ensures left { OnlyReads S.PageStore store.old store.new result }
         ensures reads { Goes (λ old new. new ≤ old + 3) (S.reads store.old) (S.reads store.new) }
     {
-        match leaf_at(store, self.root, self.height, k, &None) {
+        match leaf_for(store, self, k) {
             Err(e) => Err(e),
             Ok(found) => match store.page(found.page) {
                 Err(e) => Err(stop_of(e)),
