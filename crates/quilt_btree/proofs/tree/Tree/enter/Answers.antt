@@ -1,4 +1,4 @@
-use Rattle.std.proofs.Common.{◌≢◌, ◌++◌, arith}
+use Rattle.std.proofs.Common.{◌≢◌, arith}
 use Rattle.quilt_btree.proofs.cursors.Stands.{entered, are_before}
 use Rattle.quilt_btree.proofs.subtrees.Whole.{tree_spells}
 use Rattle.quilt_btree.proofs.tree.Tree.enter.Goals as goal
