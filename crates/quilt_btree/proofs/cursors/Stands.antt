@@ -13,7 +13,7 @@ use Rattle.quilt_node.specs.Pages.{leaf_of}
 use Rattle.quilt_node.specs.Nodes.{IsFound, records_of}
 use Rattle.quilt_btree.specs.declared.tree.Tree.{Tree}
 use Rattle.quilt_btree.specs.declared.cursor.Cursor.{Cursor}
-use Rattle.quilt_btree.specs.Cursors.{IsParted, StandsIn, IsSought, GoesOver}
+use Rattle.quilt_btree.specs.Cursors.{IsParted, StandsAt, StandsIn, IsSoughtAt, GoesOverTo}
 use Rattle.quilt_btree.specs.Arrivals.{Arrives}
 use Rattle.quilt_btree.specs.Trees.{IsTree, LeadsTo, IsCut, is_past}
 use Rattle.quilt_btree.specs.Searches.{AreOf}
@@ -91,7 +91,7 @@ pub sought : (told : Option (List (List ℕ))) (t : Tree) (k : Key) (rs : List R
     → Arrives told t.root t.height k None bytes high → 1 ≤ t.height → IsTree told t rs → place ≤ length (records_of bytes)
     → (leaf_of bytes ≡ Some (records_of bytes) → list_all (λ r. is_lt (key_cmp r.key k)) (take place (records_of bytes)) ≡ true)
     → (leaf_of bytes ≡ Some (records_of bytes) → list_all (λ r. is_le (key_cmp k r.key)) (drop place (records_of bytes)) ≡ true)
-    → IsSought told t (record { bytes = bytes; place = place; high = high }) k rs
+    → IsSoughtAt told t bytes place high k rs
 sought told t k rs bytes place high a some is inside low up =
     let ne : t.height ≢ 0 = omega arith in
     let s = tree_spells told t rs ne is in
@@ -149,7 +149,7 @@ parts_same k (x ∷ xs) ys (u ∷ us) vs e a b c d =
 
 pub entered : (told : Option (List (List ℕ))) (t : Tree) (k : Key) (before after : List Record) (bytes : List ℕ) (high : Option Key)
     → Arrives told t.root t.height k None bytes high → 1 ≤ t.height → IsTree told t (before ++ after) → IsParted told t k before after
-    → StandsIn told t (record { bytes = bytes; place = 0; high = high }) before after
+    → StandsAt told t bytes 0 high before after
 entered told t k before after bytes high a some is p =
     let ne : t.height ≢ 0 = omega arith in
     let s = tree_spells told t (before ++ after) ne is in
@@ -170,8 +170,8 @@ entered told t k before after bytes high a some is p =
 
 pub goes_over : (told : Option (List (List ℕ))) (t : Tree) (r : Record) (bytes : List ℕ) (place : ℕ) (high : Option Key) (before after : List Record)
     → place < length (records_of bytes) → slice_get (records_of bytes) place ≡ Some r
-    → StandsIn told t (record { bytes = bytes; place = place; high = high }) before after
-    → GoesOver told t r (record { bytes = bytes; place = place + 1; high = high }) before after
+    → StandsAt told t bytes place high before after
+    → GoesOverTo told t r bytes (place + 1) high before after
 goes_over told t r bytes place high before after lt at s =
     let here = records_of bytes in
     record {

@@ -1,4 +1,4 @@
-use Rattle.std.proofs.Common.{◌≢◌, arith}
+use Rattle.std.proofs.Common.{rules, ◌≢◌, ◌∙◌, arith}
 use Rattle.quilt_btree.proofs.cursors.Stands.{entered, are_before}
 use Rattle.quilt_btree.proofs.subtrees.Whole.{tree_spells}
 use Rattle.quilt_btree.proofs.tree.Tree.enter.Goals as goal
@@ -13,3 +13,17 @@ returns-in-Ok-page-clause-least g c rs is =
     let ne : c.args.self.now.height ≢ 0 = let h = c.requires.some in omega arith in
     (c.in-Ok.ensures.arrives c.in-Ok-page.bytes.now (are_before _ _ _ _ c.in-Ok.ensures.left.told c.in-Ok-page.ensures.bytes)).least rs
     (tree_spells (g.S.PageStore.told c.args.store.now) c.args.self.now rs ne is).0
+
+pub returns-in-Err-page-clause-left : goal.returns-in-Err-page-clause-left
+returns-in-Err-page-clause-left g c =
+    let a = c.in-Ok.ensures.left in
+    let b = c.page.follows.holds-at-none in
+    record {
+      size = b.2 ∙ a.size;
+      told = b.4 ∙ a.told;
+      free = b.3 ∙ a.free;
+      later = g.met.S.PageStore.goes_on _ _ _ a.later b.1;
+      changed = let x = a.changed in let y = b.8 in omega arith;
+      faults = let x = a.faults in let y = b.0.later in omega arith;
+      device = search rules;
+    }
