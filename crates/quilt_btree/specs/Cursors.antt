@@ -18,7 +18,7 @@ pub record IsParted (told : Option (List (List ℕ))) (t : Tree) (k : Key) (befo
   pub lower : list_all (λ r. is_lt (key_cmp r.key k)) before ≡ true
   pub higher : list_all (λ r. is_le (key_cmp k r.key)) after ≡ true
 
--- the cursor stands between these records of the tree: in its leaf, behind as many records as its place says
+-- a place in a leaf, behind as many of its records, stands between these records of the tree
 pub record StandsAt (told : Option (List (List ℕ))) (t : Tree) (bytes : List ℕ) (place : ℕ) (high : Option Key) (before after : List Record) : Type 0 where
   pub first : List Record
   pub last : List Record
@@ -28,11 +28,13 @@ pub record StandsAt (told : Option (List (List ℕ))) (t : Tree) (bytes : List �
   pub is_after : after ≡ drop place (records_of bytes) ++ last
   pub further : MatchOption high (last ≡ []) (λ k. IsParted told t k (first ++ records_of bytes) last)
 
+-- the cursor stands between these records of the tree: in its leaf, behind as many records as its place says
 abbrev pub StandsIn : Option (List (List ℕ)) → Tree → Cursor → List Record → List Record → Type 0
 StandsIn told t c before after = StandsAt told t c.bytes c.place c.high before after
 
--- the place that is looked for: behind all records whose keys are below this one
-pub record IsSoughtAt (told : Option (List (List ℕ))) (t : Tree) (bytes : List ℕ) (place : ℕ) (high : Option Key) (k : Key) (rs : List Record) : Type 0 where
+-- the place in a leaf is behind all records of the tree whose keys are below this one
+pub record IsSoughtAt (told : Option (List (List ℕ))) (t : Tree) (bytes : List ℕ) (place : ℕ) (high : Option Key) (k : Key)
+    (rs : List Record) : Type 0 where
   pub before : List Record
   pub after : List Record
   pub records : rs ≡ before ++ after
@@ -40,23 +42,28 @@ pub record IsSoughtAt (told : Option (List (List ℕ))) (t : Tree) (bytes : List
   pub higher : list_all (λ r. is_le (key_cmp k r.key)) after ≡ true
   pub stands : StandsAt told t bytes place high before after
 
+-- the cursor stands at the place that is looked for: behind all records whose keys are below this one
 abbrev pub IsSought : Option (List (List ℕ)) → Tree → Cursor → Key → List Record → Type 0
 IsSought told t c k rs = IsSoughtAt told t c.bytes c.place c.high k rs
 
--- the cursor has gone over the next record
-pub record GoesOverTo (told : Option (List (List ℕ))) (t : Tree) (r : Record) (bytes : List ℕ) (place : ℕ) (high : Option Key) (before after : List Record) : Type 0 where
+-- the place is behind the next record
+pub record GoesOverTo (told : Option (List (List ℕ))) (t : Tree) (r : Record) (bytes : List ℕ) (place : ℕ) (high : Option Key)
+    (before after : List Record) : Type 0 where
   pub rest : List Record
   pub records : after ≡ r ∷ rest
   pub stands : StandsAt told t bytes place high (before ++ r ∷ []) rest
 
+-- the cursor has gone over the next record
 abbrev pub GoesOver : Option (List (List ℕ)) → Tree → Record → Cursor → List Record → List Record → Type 0
 GoesOver told t r c before after = GoesOverTo told t r c.bytes c.place c.high before after
 
--- the cursor has gone back over the record before
-pub record GoesBackTo (told : Option (List (List ℕ))) (t : Tree) (r : Record) (bytes : List ℕ) (place : ℕ) (high : Option Key) (before after : List Record) : Type 0 where
+-- the place is before the record before
+pub record GoesBackTo (told : Option (List (List ℕ))) (t : Tree) (r : Record) (bytes : List ℕ) (place : ℕ) (high : Option Key)
+    (before after : List Record) : Type 0 where
   pub rest : List Record
   pub records : before ≡ rest ++ r ∷ []
   pub stands : StandsAt told t bytes place high rest (r ∷ after)
 
+-- the cursor has gone back over the record before
 abbrev pub GoesBack : Option (List (List ℕ)) → Tree → Record → Cursor → List Record → List Record → Type 0
 GoesBack told t r c before after = GoesBackTo told t r c.bytes c.place c.high before after
