@@ -2,6 +2,7 @@
 pub mod Damage
 pub mod Floors
 pub mod Forks
+pub mod Heights
 pub mod Leaves
 pub mod Looked
 pub mod Steps

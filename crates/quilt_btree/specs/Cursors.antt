@@ -18,33 +18,52 @@ pub record IsParted (told : Option (List (List ℕ))) (t : Tree) (k : Key) (befo
   pub lower : list_all (λ r. is_lt (key_cmp r.key k)) before ≡ true
   pub higher : list_all (λ r. is_le (key_cmp k r.key)) after ≡ true
 
--- the cursor stands between these records of the tree: in its leaf, behind as many records as its place says
-pub record StandsIn (told : Option (List (List ℕ))) (t : Tree) (c : Cursor) (before after : List Record) : Type 0 where
+-- a place in a leaf, behind as many of its records, stands between these records of the tree
+pub record StandsAt (told : Option (List (List ℕ))) (t : Tree) (bytes : List ℕ) (place : ℕ) (high : Option Key) (before after : List Record) : Type 0 where
   pub first : List Record
   pub last : List Record
-  pub some : 1 ≤ length (records_of c.bytes)
-  pub in_range : c.place ≤ length (records_of c.bytes)
-  pub is_before : before ≡ first ++ take c.place (records_of c.bytes)
-  pub is_after : after ≡ drop c.place (records_of c.bytes) ++ last
-  pub further : MatchOption c.high (last ≡ []) (λ k. IsParted told t k (first ++ records_of c.bytes) last)
+  pub some : 1 ≤ length (records_of bytes)
+  pub in_range : place ≤ length (records_of bytes)
+  pub is_before : before ≡ first ++ take place (records_of bytes)
+  pub is_after : after ≡ drop place (records_of bytes) ++ last
+  pub further : MatchOption high (last ≡ []) (λ k. IsParted told t k (first ++ records_of bytes) last)
 
--- the place that is looked for: behind all records whose keys are below this one
-pub record IsSought (told : Option (List (List ℕ))) (t : Tree) (c : Cursor) (k : Key) (rs : List Record) : Type 0 where
+-- the cursor stands between these records of the tree: in its leaf, behind as many records as its place says
+abbrev pub StandsIn : Option (List (List ℕ)) → Tree → Cursor → List Record → List Record → Type 0
+StandsIn told t c before after = StandsAt told t c.bytes c.place c.high before after
+
+-- the place in a leaf is behind all records of the tree whose keys are below this one
+pub record IsSoughtAt (told : Option (List (List ℕ))) (t : Tree) (bytes : List ℕ) (place : ℕ) (high : Option Key) (k : Key)
+    (rs : List Record) : Type 0 where
   pub before : List Record
   pub after : List Record
   pub records : rs ≡ before ++ after
   pub lower : list_all (λ r. is_lt (key_cmp r.key k)) before ≡ true
   pub higher : list_all (λ r. is_le (key_cmp k r.key)) after ≡ true
-  pub stands : StandsIn told t c before after
+  pub stands : StandsAt told t bytes place high before after
 
--- the cursor has gone over the next record
-pub record GoesOver (told : Option (List (List ℕ))) (t : Tree) (r : Record) (c : Cursor) (before after : List Record) : Type 0 where
+-- the cursor stands at the place that is looked for: behind all records whose keys are below this one
+abbrev pub IsSought : Option (List (List ℕ)) → Tree → Cursor → Key → List Record → Type 0
+IsSought told t c k rs = IsSoughtAt told t c.bytes c.place c.high k rs
+
+-- the place is behind the next record
+pub record GoesOverTo (told : Option (List (List ℕ))) (t : Tree) (r : Record) (bytes : List ℕ) (place : ℕ) (high : Option Key)
+    (before after : List Record) : Type 0 where
   pub rest : List Record
   pub records : after ≡ r ∷ rest
-  pub stands : StandsIn told t c (before ++ r ∷ []) rest
+  pub stands : StandsAt told t bytes place high (before ++ r ∷ []) rest
 
--- the cursor has gone back over the record before
-pub record GoesBack (told : Option (List (List ℕ))) (t : Tree) (r : Record) (c : Cursor) (before after : List Record) : Type 0 where
+-- the cursor has gone over the next record
+abbrev pub GoesOver : Option (List (List ℕ)) → Tree → Record → Cursor → List Record → List Record → Type 0
+GoesOver told t r c before after = GoesOverTo told t r c.bytes c.place c.high before after
+
+-- the place is before the record before
+pub record GoesBackTo (told : Option (List (List ℕ))) (t : Tree) (r : Record) (bytes : List ℕ) (place : ℕ) (high : Option Key)
+    (before after : List Record) : Type 0 where
   pub rest : List Record
   pub records : before ≡ rest ++ r ∷ []
-  pub stands : StandsIn told t c rest (r ∷ after)
+  pub stands : StandsAt told t bytes place high rest (r ∷ after)
+
+-- the cursor has gone back over the record before
+abbrev pub GoesBack : Option (List (List ℕ)) → Tree → Record → Cursor → List Record → List Record → Type 0
+GoesBack told t r c before after = GoesBackTo told t r c.bytes c.place c.high before after

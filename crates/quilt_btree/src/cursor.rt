@@ -7,27 +7,30 @@ ghost use Rattle.quilt_world.specs.Tale.{Goes};
 ghost use Rattle.quilt_store.specs.Stops.{IsSound};
 ghost use Rattle.quilt_btree.specs.Damage.{NamesBad};
 ghost use Rattle.quilt_btree.specs.Stops.{NamesPage};
-ghost use Rattle.quilt_btree.specs.Cursors.{IsParted, StandsIn, IsSought, GoesOver, GoesBack};
 
 use crate::lower::{lower_under, place_from};
 use crate::pages::stop_of;
-use crate::reading::leaf_at;
+use crate::reading::leaf_for;
 use crate::tree::Tree;
 use quilt_node::{rec_in, records_in};
 use quilt_record::{Key, Record};
 use quilt_store::PageStore;
 use quilt_types::Stop;
 
-/// A place between the records of a tree: the bytes of a leaf, how many of its records stand before the place, and the
-/// key that parts this leaf from the next. It is good as long as the tree stays as it is; an edit gives it up.
+/// A place between the records of a tree: the bytes of a leaf, how many of its records stand before the place, how many it
+/// has, and the key that parts this leaf from the next. It is good as long as the tree stays as it is; an edit gives it up.
 #[derive(Clone, Copy)]
 pub struct Cursor {
     bytes: [u8; 4096],
     place: usize,
+    count: usize,
     high: Option<Key>,
+    ghost counted: { count ≡ length (records_of bytes) },
+    ghost most: { count ≤ 144 },
 }
 
 impl Tree {
+    ghost use Rattle.quilt_btree.specs.Cursors.{IsParted, StandsIn, IsSought, GoesOver, GoesBack};
     ghost use Rattle.quilt_btree.specs.Trees.{IsRooted, IsTree};
 
     /// The place behind all records whose keys are below `k`. It reads at most 3 pages.
@@ -41,13 +44,14 @@ impl Tree {
         ensures left { OnlyReads S.PageStore store.old store.new result }
         ensures reads { Goes (λ old new. new ≤ old + 3) (S.reads store.old) (S.reads store.new) }
     {
-        match leaf_at(store, self.root, self.height, k, &None) {
+        match leaf_for(store, self, k) {
             Err(e) => Err(e),
             Ok(found) => match store.page(found.page) {
                 Err(e) => Err(stop_of(e)),
                 Ok(bytes) => Ok(Cursor {
                     bytes: *bytes,
                     place: place_from(bytes, k),
+                    count: records_in(bytes),
                     high: found.high,
                 }),
             },
@@ -68,13 +72,14 @@ impl Tree {
         ensures left { OnlyReads S.PageStore store.old store.new result }
         ensures reads { Goes (λ old new. new ≤ old + 3) (S.reads store.old) (S.reads store.new) }
     {
-        match leaf_at(store, self.root, self.height, k, &None) {
+        match leaf_for(store, self, k) {
             Err(e) => Err(e),
             Ok(found) => match store.page(found.page) {
                 Err(e) => Err(stop_of(e)),
                 Ok(bytes) => {
                     c.bytes = *bytes;
                     c.place = 0;
+                    c.count = records_in(bytes);
                     c.high = found.high;
                     Ok(())
                 }
@@ -99,8 +104,8 @@ impl Tree {
         ensures reads { Goes (λ old new. new ≤ old + 3) (S.reads store.old) (S.reads store.new) }
         ensures here { c.old.place < length (records_of c.old.bytes) → Goes (λ old new. new ≤ old) (S.reads store.old) (S.reads store.new) }
     {
-        if c.place < records_in(&c.bytes) {
-            return Ok(Some(over(c)));
+        if c.place < c.count {
+            return Ok(Some(c.over()));
         }
         let k = match c.high {
             None => return Ok(None),
@@ -109,8 +114,8 @@ impl Tree {
         match self.enter(store, &k, c) {
             Err(e) => Err(e),
             Ok(()) => {
-                if c.place < records_in(&c.bytes) {
-                    Ok(Some(over(c)))
+                if c.place < c.count {
+                    Ok(Some(c.over()))
                 } else {
                     Err(Stop::Damaged { page: 0 })
                 }
@@ -140,7 +145,7 @@ impl Tree {
             → Goes (λ old new. new ≤ old) (S.reads store.old) (S.reads store.new) }
     {
         if 0 < c.place && c.place <= records_in(&c.bytes) {
-            return Ok(Some(back(c)));
+            return Ok(Some(c.back()));
         }
         let first = rec_in(&c.bytes, 0);
         match lower_under(store, self.root, self.height, &first.key) {
@@ -157,23 +162,29 @@ impl Tree {
     }
 }
 
-/// The record behind the cursor's place, which goes over it.
-fn over(c: &mut Cursor) -> Record
-    requires here { c.old.place < length (records_of c.old.bytes) }
-    requires place { c.old.place < 144 }
-    ensures { (told : Option (List (List ℕ))) (t : Tree) (before after : List Record) → StandsIn told t c.old before after → GoesOver told t result c.new before after }
-{
-    let r = rec_in(&c.bytes, c.place);
-    c.place += 1;
-    r
-}
+impl Cursor {
+    ghost use Rattle.quilt_btree.specs.Cursors.{StandsIn, GoesOver, GoesBack};
 
-/// The record before the cursor's place, which goes back over it.
-fn back(c: &mut Cursor) -> Record
-    requires here { 0 < c.old.place }
-    requires place { (c.old.place ≤ 144) × (c.old.place ≤ length (records_of c.old.bytes)) }
-    ensures { (told : Option (List (List ℕ))) (t : Tree) (before after : List Record) → StandsIn told t c.old before after → GoesBack told t result c.new before after }
-{
-    c.place -= 1;
-    rec_in(&c.bytes, c.place)
+    /// The record behind the cursor's place, which goes over it.
+    fn over(&mut self) -> Record
+        requires here { self.old.place < length (records_of self.old.bytes) }
+        requires place { self.old.place < 144 }
+        ensures { (told : Option (List (List ℕ))) (t : Tree) (before after : List Record) → StandsIn told t self.old before after
+            → GoesOver told t result self.new before after }
+    {
+        let r = rec_in(&self.bytes, self.place);
+        self.place += 1;
+        r
+    }
+
+    /// The record before the cursor's place, which goes back over it.
+    fn back(&mut self) -> Record
+        requires here { 0 < self.old.place }
+        requires place { (self.old.place ≤ 144) × (self.old.place ≤ length (records_of self.old.bytes)) }
+        ensures { (told : Option (List (List ℕ))) (t : Tree) (before after : List Record) → StandsIn told t self.old before after
+            → GoesBack told t result self.new before after }
+    {
+        self.place -= 1;
+        rec_in(&self.bytes, self.place)
+    }
 }

@@ -11,7 +11,7 @@ ghost use Rattle.quilt_btree.specs.Stops.{NamesPage};
 ghost use Rattle.quilt_btree.specs.Trees.{IsRooted, IsTree};
 
 use crate::pages::stop_of;
-use crate::reading::leaf_at;
+use crate::reading::leaf_for;
 use crate::searching::floor_in;
 use crate::tree::Tree;
 use quilt_record::{Key, Record};
@@ -79,7 +79,7 @@ impl Tree {
         ensures left { OnlyReads S.PageStore store.old store.new result }
         ensures reads { Goes (λ old new. new ≤ old + 3) (S.reads store.old) (S.reads store.new) }
     {
-        match leaf_at(store, self.root, self.height, k, &None) {
+        match leaf_for(store, self, k) {
             Err(e) => Err(e),
             Ok(found) => match store.page(found.page) {
                 Err(e) => Err(stop_of(e)),

@@ -14,6 +14,7 @@ ghost use Rattle.quilt_btree.specs.Damage.{NamesBad};
 ghost use Rattle.quilt_record.specs.Lists.{has_key};
 ghost use Rattle.quilt_btree.specs.Outcomes.{was_there};
 ghost use Rattle.quilt_store.specs.Stops.{HasStopCause, IsSound};
+ghost use Rattle.quilt_btree.specs.Costs.{EditsWithin};
 ghost use Rattle.quilt_btree.specs.Stops.{NamesPage};
 ghost use Rattle.quilt_btree.specs.Trees.{Spells};
 ghost use Rattle.quilt_btree.specs.Edits.{CanInsert, DidInsert};
@@ -83,11 +84,7 @@ pub fn put_record<S: PageStore>(
     ensures room { OnOk result (count_free (S.free store.old) (S.size store.old) ≤ count_free (S.free store.new) (S.size store.old) + 1) }
     ensures new { IfOk result (λ o. o ≢ There) }
     ensures names { IfErr result (NamesPage 1) }
-    ensures cause { HasStopCause (S.faults store.old) (S.faults store.new) result }
-    ensures size { S.size store.new ≡ S.size store.old }
-    ensures later { S.later store.old store.new }
-    ensures changed { S.changed store.new ≤ S.changed store.old + 2 }
-    ensures reads { Goes (λ old new. new ≤ old) (S.reads store.old) (S.reads store.new) }
+    ensures left { EditsWithin S.PageStore 2 0 store.old store.new result }
 {
     if leaf.len() < MOST_RECORDS {
         leaf.insert(i, r);
@@ -156,12 +153,8 @@ pub fn put_child<S: PageStore>(
     ensures room { OnOk result (count_free (S.free store.old) (S.size store.old) ≤ count_free (S.free store.new) (S.size store.old) + 1) }
     ensures new { IfOk result (λ o. o ≢ There) }
     ensures names { IfErr result (NamesPage 1) }
-    ensures cause { HasStopCause (S.faults store.old) (S.faults store.new) result }
-    ensures size { S.size store.new ≡ S.size store.old }
-    ensures later { S.later store.old store.new }
-    ensures changed { S.changed store.new ≤ S.changed store.old + 2 }
+    ensures left { EditsWithin S.PageStore 2 0 store.old store.new result }
     ensures less { inner.old.height ≡ 3 → S.changed store.new ≤ S.changed store.old + 1 }
-    ensures reads { Goes (λ old new. new ≤ old) (S.reads store.old) (S.reads store.new) }
 {
     if !fits(inner, i, key) {
         return Err(Stop::Damaged { page: 0 });

@@ -13,7 +13,7 @@ ghost use Rattle.quilt_store.specs.Stops.{IsSound};
 ghost use Rattle.quilt_btree.specs.Stops.{store_stop, unnamed, NamesPage};
 ghost use Rattle.quilt_btree.specs.Trees.{ReadsLeaf, ReadsInner, Spells};
 
-use quilt_node::{InnerPage, LeafPage, inner_of, is_leaf};
+use quilt_node::{InnerPage, LeafPage, is_inner, is_leaf};
 use quilt_store::{PageStore, StoreErr};
 use quilt_types::Stop;
 
@@ -40,6 +40,7 @@ pub fn stop_behind(e: Stop, done: usize) -> Stop
 
 /// The leaf at a page. Where it is none, `named` is said to be damaged: the page itself, or 0 where the call has written
 /// before.
+#[inline(always)]
 pub fn read_leaf<S: PageStore>(store: &mut S, page: u32, named: u32) -> Result<LeafPage, Stop>
     requires page { (1 ≤ page) × (page < S.size store.old) }
     requires named { named ≤ page }
@@ -53,14 +54,13 @@ pub fn read_leaf<S: PageStore>(store: &mut S, page: u32, named: u32) -> Result<L
     ensures held_is_free { IfSome (S.held store.old) (λ pages. IsTrue (list_any (λ p. p == page) pages)
         → Goes (λ old new. new ≤ old) (S.reads store.old) (S.reads store.new)) }
 {
-    let mut bytes = [0; 4096];
-    match store.read(page, &mut bytes) {
+    match store.page(page) {
         Err(e) => Err(stop_of(e)),
-        Ok(()) => {
-            if !is_leaf(&bytes) {
+        Ok(bytes) => {
+            if !is_leaf(bytes) {
                 return Err(Stop::Damaged { page: named });
             }
-            Ok(LeafPage::from_bytes(bytes))
+            Ok(LeafPage::from_bytes(*bytes))
         }
     }
 }
@@ -73,16 +73,13 @@ pub fn inner_high(bytes: &[u8; 4096], pages: u32, height: u8) -> Option<InnerPag
     ensures children { IfSome result (λ inner. are_pages pages inner.children ≡ true) }
     ensures none { result ≡ None → IsHigh pages bytes.now height → ⊥ }
 {
-    match inner_of(bytes, pages) {
-        None => None,
-        Some(inner) => {
-            if inner.height() == height {
-                Some(inner)
-            } else {
-                None
-            }
-        }
+    if !is_inner(bytes, pages) {
+        return None;
     }
+    if bytes[1] != height {
+        return None;
+    }
+    Some(InnerPage::from_bytes(*bytes, pages))
 }
 
 /// The page that is at fault where its bytes are no inner page of its height in a store of so many pages: the page itself
@@ -91,10 +88,7 @@ pub fn inner_at_fault(bytes: &[u8; 4096], pages: u32, page: u32) -> u32
     ensures at_most { result ≤ page }
     ensures fault { (result ≡ 0) ⊎ ((result ≡ page) × (spec.inner_of pages bytes.now ≡ None)) }
 {
-    match inner_of(bytes, pages) {
-        None => page,
-        Some(_) => 0,
-    }
+    if is_inner(bytes, pages) { 0 } else { page }
 }
 
 /// The inner page of this height at a page beside one that was written. Where it is none, page 0 is said to be damaged.

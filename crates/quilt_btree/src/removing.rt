@@ -14,6 +14,7 @@ ghost use Rattle.quilt_btree.specs.Damage.{NamesBad, NamesBeside, OthersStay};
 ghost use Rattle.quilt_btree.specs.Rebalancing.{HasUnderfull, HasDropped, Writes};
 ghost use Rattle.quilt_btree.specs.Outcomes.{was_found};
 ghost use Rattle.quilt_store.specs.Stops.{HasStopCause, IsSound};
+ghost use Rattle.quilt_btree.specs.Costs.{EditsWithin};
 ghost use Rattle.quilt_btree.specs.Stops.{NamesPage};
 ghost use Rattle.quilt_btree.specs.Trees.{Spells};
 
@@ -107,11 +108,7 @@ fn drop_child<S: PageStore>(
     ensures sound { IfErr result (λ e. S.free store.old page ≡ false → IsSound e) }
     ensures free { S.free store.new ≡ S.free store.old }
     ensures names { IfErr result (NamesPage 1) }
-    ensures cause { HasStopCause (S.faults store.old) (S.faults store.new) result }
-    ensures size { S.size store.new ≡ S.size store.old }
-    ensures later { S.later store.old store.new }
-    ensures changed { S.changed store.new ≤ S.changed store.old + 1 }
-    ensures reads { Goes (λ old new. new ≤ old) (S.reads store.old) (S.reads store.new) }
+    ensures left { EditsWithin S.PageStore 1 0 store.old store.new result }
 {
     if inner.len() == 2 {
         return Ok(Removed::Only {
@@ -146,11 +143,7 @@ fn renew_key<S: PageStore>(
     ensures sound { IfErr result (λ e. S.free store.old page ≡ false → is_ascending (slice_set inner.old.keys j key.now) ≡ true → IsSound e) }
     ensures free { S.free store.new ≡ S.free store.old }
     ensures names { IfErr result (NamesPage 1) }
-    ensures cause { HasStopCause (S.faults store.old) (S.faults store.new) result }
-    ensures size { S.size store.new ≡ S.size store.old }
-    ensures later { S.later store.old store.new }
-    ensures changed { S.changed store.new ≤ S.changed store.old + 1 }
-    ensures reads { Goes (λ old new. new ≤ old) (S.reads store.old) (S.reads store.new) }
+    ensures left { EditsWithin S.PageStore 1 0 store.old store.new result }
 {
     if !key_fits(inner, j, key) {
         return Err(Stop::Damaged { page: 0 });

@@ -2,6 +2,7 @@ ghost use Rattle.std.specs.Prelude.{◌≡◌, ℕ, ◌+◌, ◌<◌, ◌≤◌,
 ghost use Rattle.quilt_store.specs.Store.{FreesOnly, count_free};
 ghost use Rattle.quilt_world.specs.Tale.{Goes};
 ghost use Rattle.quilt_store.specs.Stops.{HasStopCause, IsSound};
+ghost use Rattle.quilt_btree.specs.Costs.{EditsWithin};
 ghost use Rattle.quilt_btree.specs.Stops.{NamesPage};
 
 use crate::writing::write_page;
@@ -23,11 +24,7 @@ pub fn write_split<S: PageStore>(
     ensures room { OnOk result (count_free (S.free store.old) (S.size store.old) ≤ count_free (S.free store.new) (S.size store.old) + 1) }
     ensures sound { IfErr result (λ e. S.free store.old page ≡ false → 0 < count_free (S.free store.old) (S.size store.old) → IsSound e) }
     ensures names { IfErr result (NamesPage 1) }
-    ensures cause { HasStopCause (S.faults store.old) (S.faults store.new) result }
-    ensures size { S.size store.new ≡ S.size store.old }
-    ensures later { S.later store.old store.new }
-    ensures changed { S.changed store.new ≤ S.changed store.old + 2 }
-    ensures reads { Goes (λ old new. new ≤ old) (S.reads store.old) (S.reads store.new) }
+    ensures left { EditsWithin S.PageStore 2 0 store.old store.new result }
 {
     if store.is_free(page) || store.free_pages() == 0 {
         return Err(Stop::Damaged { page: 0 });
@@ -50,11 +47,7 @@ pub fn write_new<S: PageStore>(store: &mut S, bytes: &[u8; 4096]) -> Result<u32,
     ensures taken { IfOk result (λ new. FreesOnly new false (S.free store.old) (S.free store.new)) }
     ensures sound { IfErr result (λ e. 0 < count_free (S.free store.old) (S.size store.old) → IsSound e) }
     ensures names { IfErr result (NamesPage 1) }
-    ensures cause { HasStopCause (S.faults store.old) (S.faults store.new) result }
-    ensures size { S.size store.new ≡ S.size store.old }
-    ensures later { S.later store.old store.new }
-    ensures changed { S.changed store.new ≤ S.changed store.old + 1 }
-    ensures reads { Goes (λ old new. new ≤ old) (S.reads store.old) (S.reads store.new) }
+    ensures left { EditsWithin S.PageStore 1 0 store.old store.new result }
 {
     if store.free_pages() == 0 {
         return Err(Stop::Damaged { page: 0 });

@@ -2,6 +2,7 @@ ghost use Rattle.std.specs.Prelude.{◌≡◌, ℕ, ◌+◌, ◌<◌, ◌≤◌,
 ghost use Rattle.quilt_store.specs.Store.{FreesOnly};
 ghost use Rattle.quilt_world.specs.Tale.{Goes};
 ghost use Rattle.quilt_store.specs.Stops.{HasStopCause, IsSound};
+ghost use Rattle.quilt_btree.specs.Costs.{EditsWithin};
 ghost use Rattle.quilt_btree.specs.Stops.{NamesPage};
 ghost use Rattle.quilt_btree.specs.Rebalancing.{HasGiven};
 
@@ -17,11 +18,7 @@ pub fn write_page<S: PageStore>(store: &mut S, page: u32, bytes: &[u8; 4096]) ->
     ensures sound { IfErr result (λ e. S.free store.old page ≡ false → IsSound e) }
     ensures free { S.free store.new ≡ S.free store.old }
     ensures names { IfErr result (NamesPage 1) }
-    ensures cause { HasStopCause (S.faults store.old) (S.faults store.new) result }
-    ensures size { S.size store.new ≡ S.size store.old }
-    ensures later { S.later store.old store.new }
-    ensures changed { S.changed store.new ≤ S.changed store.old + 1 }
-    ensures reads { Goes (λ old new. new ≤ old) (S.reads store.old) (S.reads store.new) }
+    ensures left { EditsWithin S.PageStore 1 0 store.old store.new result }
 {
     if store.is_free(page) {
         return Err(Stop::Damaged { page: 0 });
@@ -46,11 +43,7 @@ pub fn write_and_give<S: PageStore>(
     ensures taken { OnOk result (S.free store.old right ≡ false) }
     ensures sound { IfErr result (λ e. S.free store.old left ≡ false → S.free store.old right ≡ false → IsSound e) }
     ensures names { IfErr result (NamesPage 1) }
-    ensures cause { HasStopCause (S.faults store.old) (S.faults store.new) result }
-    ensures size { S.size store.new ≡ S.size store.old }
-    ensures later { S.later store.old store.new }
-    ensures changed { S.changed store.new ≤ S.changed store.old + 1 }
-    ensures reads { Goes (λ old new. new ≤ old) (S.reads store.old) (S.reads store.new) }
+    ensures left { EditsWithin S.PageStore 1 0 store.old store.new result }
 {
     if store.is_free(right) {
         return Err(Stop::Damaged { page: 0 });
@@ -78,11 +71,7 @@ pub fn write_both<S: PageStore>(
     ensures sound { IfErr result (λ e. S.free store.old left ≡ false → S.free store.old right ≡ false → IsSound e) }
     ensures free { S.free store.new ≡ S.free store.old }
     ensures names { IfErr result (NamesPage 1) }
-    ensures cause { HasStopCause (S.faults store.old) (S.faults store.new) result }
-    ensures size { S.size store.new ≡ S.size store.old }
-    ensures later { S.later store.old store.new }
-    ensures changed { S.changed store.new ≤ S.changed store.old + 2 }
-    ensures reads { Goes (λ old new. new ≤ old) (S.reads store.old) (S.reads store.new) }
+    ensures left { EditsWithin S.PageStore 2 0 store.old store.new result }
 {
     match write_page(store, left, bytes) {
         Err(e) => Err(e),
@@ -98,11 +87,7 @@ pub fn give_back<S: PageStore>(store: &mut S, page: u32) -> Result<(), Stop>
     ensures taken { OnOk result (S.free store.old page ≡ false) }
     ensures sound { IfErr result (λ e. S.free store.old page ≡ false → IsSound e) }
     ensures names { IfErr result (NamesPage 1) }
-    ensures cause { HasStopCause (S.faults store.old) (S.faults store.new) result }
-    ensures size { S.size store.new ≡ S.size store.old }
-    ensures later { S.later store.old store.new }
-    ensures changed { S.changed store.new ≤ S.changed store.old }
-    ensures reads { Goes (λ old new. new ≤ old) (S.reads store.old) (S.reads store.new) }
+    ensures left { EditsWithin S.PageStore 0 0 store.old store.new result }
 {
     if store.is_free(page) {
         return Err(Stop::Damaged { page: 0 });

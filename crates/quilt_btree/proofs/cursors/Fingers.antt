@@ -1,7 +1,7 @@
 -- What the leaf of a finger tells of the tree.
-use Rattle.std.proofs.Common.{◌≡◌, ◌≢◌, ℕ, Bool, true, false, not, List, [], ◌∷◌, ◌++◌, filter, Option, Some, None, refl, sym, ◌∙◌, ap, subst}
+use Rattle.std.proofs.Common.{◌≡◌, ◌≢◌, ◌≤◌, ℕ, true, not, List, [], ◌∷◌, ◌++◌, filter, Option, Some, None, sym, ◌∙◌, ap, subst, arith}
 use Rattle.std.specs.Prelude.{IfSome}
-use Rattle.std.specs.List.{list_all, last_or}
+use Rattle.std.specs.List.{last_or}
 use Rattle.std.specs.Ordering.{is_lt}
 use Rattle.std.proofs.lemmas.List.{append-nil}
 use Rattle.std.proofs.lemmas.List.Elements.{filter-append}
@@ -16,22 +16,22 @@ use Rattle.quilt_btree.specs.declared.finger.Finger.{Finger}
 use Rattle.quilt_btree.specs.declared.tree.Tree.{Tree}
 use Rattle.quilt_btree.specs.Lists.{is_at_most, floor_of}
 use Rattle.quilt_btree.specs.Fingers.{IsLeafOf, IsFinger}
-use Rattle.quilt_btree.specs.Trees.{IsTree, Spells, LeadsTo, is_past}
+use Rattle.quilt_btree.specs.Arrivals.{Arrives}
+use Rattle.quilt_btree.specs.Trees.{IsTree, is_past}
 use Rattle.quilt_btree.proofs.lists.Lists.{filter_none, above_not_at_most, last_append}
 use Rattle.quilt_btree.proofs.lists.Rising.{all_follow}
 use Rattle.quilt_btree.proofs.subtrees.Whole.{tree_spells}
 
 -- the leaf to which a key leads
 pub leaf_of_finger : (told : Option (List (List ℕ))) (t : Tree) (k : Key) (rs : List Record) (bytes : List ℕ) (high : Option Key)
-    → ((rs : List Record) (s : Spells told t.root t.height rs) → s.bounds.high ≡ None → LeadsTo k rs (records_of bytes) None high)
-    → ((rs : List Record) → Spells told t.root t.height rs → leaf_of bytes ≡ Some (records_of bytes))
-    → t.height ≢ 0 → IsTree told t rs → IsLeafOf bytes high rs
-leaf_of_finger told t k rs bytes high leads leaf ne is =
+    → Arrives told t.root t.height k None bytes high → 1 ≤ t.height → IsTree told t rs → IsLeafOf bytes high rs
+leaf_of_finger told t k rs bytes high a some is =
+    let ne : t.height ≢ 0 = omega arith in
     let s = tree_spells told t rs ne is in
-    let l = leads rs s.0 s.1 in
+    let l = a.leads rs s.0 s.1 in
     record {
       own = records_of bytes;
-      is_leaf = leaf rs s.0;
+      is_leaf = a.leaf rs s.0;
       before = l.before;
       behind = l.behind;
       records = l.records;

@@ -12,7 +12,7 @@ use Rattle.quilt_node.specs.Nodes.{records_of, keys_of}
 use Rattle.quilt_node.proofs.Places.{leaf_records}
 use Rattle.quilt_btree.specs.declared.tree.Tree.{Tree}
 use Rattle.quilt_btree.specs.declared.cursor.Cursor.{Cursor}
-use Rattle.quilt_btree.specs.Cursors.{StandsIn, IsSought, GoesBack}
+use Rattle.quilt_btree.specs.Cursors.{StandsAt, StandsIn, IsSought, GoesBack, GoesBackTo}
 use Rattle.quilt_btree.specs.Lists.{IsLast, IsLower}
 use Rattle.quilt_btree.specs.Trees.{Spells, IsTree}
 use Rattle.quilt_btree.proofs.cursors.Stands.{take_at, drop_at, over_le, parts_same, no_both}
@@ -107,8 +107,8 @@ lower_before old new newer page height child prior i k inner r a some t is f g r
 -- the cursor goes back within its leaf
 pub goes_back : (told : Option (List (List ℕ))) (t : Tree) (r : Record) (bytes : List ℕ) (place low : ℕ) (high : Option Key) (before after : List Record)
     → place ≡ suc low → slice_get (records_of bytes) low ≡ Some r
-    → StandsIn told t (record { bytes = bytes; place = place; high = high }) before after
-    → GoesBack told t r (record { bytes = bytes; place = low; high = high }) before after
+    → StandsAt told t bytes place high before after
+    → GoesBackTo told t r bytes low high before after
 goes_back told t r bytes place low high before after e at s =
     let here = records_of bytes in
     record {

@@ -1,7 +1,7 @@
 -- Where a cursor stands.
 use Rattle.std.proofs.Common.{◌≡◌, ◌≢◌, ℕ, zero, suc, ◌+◌, ◌<◌, ◌≤◌, Bool, true, false, List, [], ◌∷◌, ◌++◌, length, take, drop, Option, Some, None}
 use Rattle.std.proofs.Common.{refl, sym, ◌∙◌, ap, subst, arith, add-one, take-append-drop}
-use Rattle.std.specs.Prelude.{slice_get, MatchOption}
+use Rattle.std.specs.Prelude.{slice_get, slice_index_or, IfSome, MatchOption}
 use Rattle.std.specs.List.{list_all}
 use Rattle.std.specs.Ordering.{is_le, is_lt}
 use Rattle.std.proofs.lemmas.List.{take_all, append-nil}
@@ -9,16 +9,20 @@ use Rattle.quilt_record.specs.declared.key.Key.{Key}
 use Rattle.quilt_record.specs.declared.record.Record.{Record}
 use Rattle.quilt_record.specs.Records.{key_cmp}
 use Rattle.quilt_record.proofs.Orders.{lt_le, lt_to_le}
+use Rattle.quilt_node.specs.Pages.{leaf_of}
 use Rattle.quilt_node.specs.Nodes.{IsFound, records_of}
 use Rattle.quilt_btree.specs.declared.tree.Tree.{Tree}
 use Rattle.quilt_btree.specs.declared.cursor.Cursor.{Cursor}
-use Rattle.quilt_btree.specs.Cursors.{IsParted, StandsIn, IsSought, GoesOver}
-use Rattle.quilt_btree.specs.Trees.{IsTree, Spells, LeadsTo, IsCut, is_past}
+use Rattle.quilt_btree.specs.Cursors.{IsParted, StandsAt, StandsIn, IsSoughtAt, GoesOverTo}
+use Rattle.quilt_btree.specs.Arrivals.{Arrives}
+use Rattle.quilt_btree.specs.Trees.{IsTree, LeadsTo, IsCut, is_past}
+use Rattle.quilt_btree.specs.Searches.{AreOf}
 use Rattle.quilt_btree.proofs.lists.Lists.{gt_not_le}
 use Rattle.quilt_btree.proofs.lists.Rising.{all_follow, all_append}
 use Rattle.quilt_btree.proofs.ranges.Rests.{next_divides}
 use Rattle.quilt_btree.proofs.subtrees.Walks.{and_parts, and_both}
 use Rattle.quilt_btree.proofs.subtrees.Whole.{tree_spells}
+use Rattle.quilt_btree.proofs.ways.Forks.{are_of}
 use Rattle.quilt_btree.proofs.ways.Leaves.{same_le}
 
 pub drop_at : (rs : List Record) (i : ℕ) (r : Record) → slice_get rs i ≡ Some r → drop i rs ≡ r ∷ drop (suc i) rs
@@ -78,17 +82,21 @@ further_at told t k rs here (Some h) l cut is ne =
       higher = l.bounded;
     }
 
+-- the bytes of a page behind calls that only read are those that it had before
+pub are_before : (old new : Option (List (List ℕ))) (page : ℕ) (bytes : List ℕ) → new ≡ old → IfSome new (λ pages. bytes ≡ slice_index_or pages page [])
+    → AreOf old page bytes
+are_before old new page bytes same shown = subst (λ o. AreOf o page bytes) same (are_of new page bytes shown)
+
 pub sought : (told : Option (List (List ℕ))) (t : Tree) (k : Key) (rs : List Record) (bytes : List ℕ) (place : ℕ) (high : Option Key)
-    → ((rs : List Record) (s : Spells told t.root t.height rs) → s.bounds.high ≡ None → LeadsTo k rs (records_of bytes) None high)
-    → IsCut told t.root t.height k None (records_of bytes) high → 1 ≤ t.height → IsTree told t rs → 1 ≤ length (records_of bytes)
-    → place ≤ length (records_of bytes)
-    → list_all (λ r. is_lt (key_cmp r.key k)) (take place (records_of bytes)) ≡ true
-    → list_all (λ r. is_le (key_cmp k r.key)) (drop place (records_of bytes)) ≡ true
-    → IsSought told t (record { bytes = bytes; place = place; high = high }) k rs
-sought told t k rs bytes place high leads cut some is least inside low up =
+    → Arrives told t.root t.height k None bytes high → 1 ≤ t.height → IsTree told t rs → place ≤ length (records_of bytes)
+    → (leaf_of bytes ≡ Some (records_of bytes) → list_all (λ r. is_lt (key_cmp r.key k)) (take place (records_of bytes)) ≡ true)
+    → (leaf_of bytes ≡ Some (records_of bytes) → list_all (λ r. is_le (key_cmp k r.key)) (drop place (records_of bytes)) ≡ true)
+    → IsSoughtAt told t bytes place high k rs
+sought told t k rs bytes place high a some is inside low up =
     let ne : t.height ≢ 0 = omega arith in
     let s = tree_spells told t rs ne is in
-    let l = leads rs s.0 s.1 in
+    let leaf = a.leaf rs s.0 in
+    let l = a.leads rs s.0 s.1 in
     let here = records_of bytes in
     record {
       before = l.before ++ take place here;
@@ -96,16 +104,16 @@ sought told t k rs bytes place high leads cut some is least inside low up =
       records = l.records ∙ ap (λ h. l.before ++ (h ++ l.behind)) (sym (take-append-drop place here))
           ∙ ap (λ h. l.before ++ h) (assoc (take place here) (drop place here) l.behind)
           ∙ sym (assoc l.before (take place here) (drop place here ++ l.behind));
-      lower = all_append (λ (r : Record). is_lt (key_cmp r.key k)) l.before (take place here) l.lower low;
-      higher = all_append (λ (r : Record). is_le (key_cmp k r.key)) (drop place here) l.behind up (over_le k l.behind l.higher);
+      lower = all_append (λ (r : Record). is_lt (key_cmp r.key k)) l.before (take place here) l.lower (low leaf);
+      higher = all_append (λ (r : Record). is_le (key_cmp k r.key)) (drop place here) l.behind (up leaf) (over_le k l.behind l.higher);
       stands = record {
         first = l.before;
         last = l.behind;
-        some = least;
+        some = a.least rs s.0;
         in_range = inside;
         is_before = refl;
         is_after = refl;
-        further = further_at told t k rs here high l cut is ne;
+        further = further_at told t k rs here high l a.cut is ne;
       };
     }
 
@@ -140,31 +148,30 @@ parts_same k (x ∷ xs) ys (u ∷ us) vs e a b c d =
     (cc, h.1)
 
 pub entered : (told : Option (List (List ℕ))) (t : Tree) (k : Key) (before after : List Record) (bytes : List ℕ) (high : Option Key)
-    → ((rs : List Record) (s : Spells told t.root t.height rs) → s.bounds.high ≡ None → LeadsTo k rs (records_of bytes) None high)
-    → IsCut told t.root t.height k None (records_of bytes) high → 1 ≤ t.height → IsTree told t (before ++ after) → 1 ≤ length (records_of bytes)
-    → IsParted told t k before after → StandsIn told t (record { bytes = bytes; place = 0; high = high }) before after
-entered told t k before after bytes high leads cut some is least p =
+    → Arrives told t.root t.height k None bytes high → 1 ≤ t.height → IsTree told t (before ++ after) → IsParted told t k before after
+    → StandsAt told t bytes 0 high before after
+entered told t k before after bytes high a some is p =
     let ne : t.height ≢ 0 = omega arith in
     let s = tree_spells told t (before ++ after) ne is in
-    let l = leads (before ++ after) s.0 s.1 in
+    let l = a.leads (before ++ after) s.0 s.1 in
     let here = records_of bytes in
-    let from = cut.starts p.pages (before ++ after) p.is_told s.0 s.1 p.divides in
+    let from = a.cut.starts p.pages (before ++ after) p.is_told s.0 s.1 p.divides in
     let same = parts_same k before after l.before (here ++ l.behind) l.records p.lower p.higher l.lower
     (all_append (λ (r : Record). is_le (key_cmp k r.key)) here l.behind from (over_le k l.behind l.higher)) in
     record {
       first = l.before;
       last = l.behind;
-      some = least;
+      some = a.least (before ++ after) s.0;
       in_range = omega arith;
       is_before = same.0 ∙ sym (append-nil l.before);
       is_after = same.1;
-      further = further_at told t k (before ++ after) here high l cut is ne;
+      further = further_at told t k (before ++ after) here high l a.cut is ne;
     }
 
 pub goes_over : (told : Option (List (List ℕ))) (t : Tree) (r : Record) (bytes : List ℕ) (place : ℕ) (high : Option Key) (before after : List Record)
     → place < length (records_of bytes) → slice_get (records_of bytes) place ≡ Some r
-    → StandsIn told t (record { bytes = bytes; place = place; high = high }) before after
-    → GoesOver told t r (record { bytes = bytes; place = place + 1; high = high }) before after
+    → StandsAt told t bytes place high before after
+    → GoesOverTo told t r bytes (place + 1) high before after
 goes_over told t r bytes place high before after lt at s =
     let here = records_of bytes in
     record {

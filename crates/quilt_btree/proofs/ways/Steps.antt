@@ -16,9 +16,10 @@ use Rattle.quilt_node.proofs.Places.{leaf_records}
 use Rattle.quilt_btree.specs.declared.reading.Found.{Found}
 use Rattle.quilt_btree.specs.Searches.{AreOf, IsStep}
 use Rattle.quilt_store.specs.Stops.{IsSound}
+use Rattle.quilt_btree.specs.Arrivals.{Arrives}
 use Rattle.quilt_btree.specs.Trees.{Spells, LeadsTo, IsCut}
 use Rattle.quilt_btree.proofs.subtrees.Descending.{leads_below, along_told, leads_up, leaf_leads}
-use Rattle.quilt_btree.proofs.subtrees.Dividing.{cut_up}
+use Rattle.quilt_btree.proofs.subtrees.Dividing.{cut_up, leaf_cut}
 use Rattle.quilt_btree.proofs.ways.Forks.{IsRead, page_here, leaf_here}
 use Rattle.quilt_btree.proofs.subtrees.Trees.{inner_list, leaf_list}
 use Rattle.quilt_btree.proofs.subtrees.Walks.{and_parts}
@@ -31,63 +32,76 @@ StepsTo size bytes k start child next = (inner : Inner) → inner_of size bytes 
 pub told_before : (old new : Option (List (List ℕ))) (page : ℕ) (last : List ℕ) → new ≡ old → AreOf old page last → AreOf new page last
 told_before old new page last same are = λ pages is. are pages (sym same ∙ is)
 
-pub step_led : (r : Result Found Stop) (old new : Option (List (List ℕ))) (page height size : ℕ) (bytes : List ℕ) (k : Key)
-    (child : ℕ) (start next : Option Key) → IsRead old new page height size bytes → StepsTo size bytes k start child next
-    → IfOk r (λ f. (last : List ℕ) → AreOf new f.page last → (rs : List Record) (s : Spells new child (height - 1) rs) → s.bounds.high ≡ next
-    → LeadsTo k rs (records_of last) next f.high)
-    → IfOk r (λ f. (last : List ℕ) → AreOf old f.page last → (rs : List Record) (s : Spells old page height rs) → s.bounds.high ≡ start
-    → LeadsTo k rs (records_of last) start f.high)
-step_led (Err e) old new page height size bytes k child start next is step f = f
-step_led (Ok v) old new page height size bytes k child start next is step f = λ last are rs s top.
-    let h = page_here old new page height size bytes rs is s in
-    let st = step h.inner h.is in
-    leads_up (Ok v) (records_of last) old new page height child st.place k h.inner start next is.told is.some is.above h.reads st.is_place st.child_is st.next_is
-    (f last (told_before old new v.page last is.told are)) rs s top
+-- a step down from an inner page that was read, to the child where a key belongs
+pub record Down : Type 0 where
+  pub old : Option (List (List ℕ))
+  pub new : Option (List (List ℕ))
+  pub page : ℕ
+  pub height : ℕ
+  pub size : ℕ
+  pub bytes : List ℕ
+  pub key : Key
+  pub child : ℕ
+  pub start : Option Key
+  pub next : Option Key
+  pub is_read : IsRead old new page height size bytes
+  pub steps : StepsTo size bytes key start child next
 
-pub step_cut : (r : Result Found Stop) (old new : Option (List (List ℕ))) (page height size : ℕ) (bytes : List ℕ) (k : Key)
-    (child : ℕ) (start next : Option Key) → IsRead old new page height size bytes → StepsTo size bytes k start child next
-    → IfOk r (λ f. (last : List ℕ) → AreOf new f.page last → (rs : List Record) (s : Spells new child (height - 1) rs) → s.bounds.high ≡ next
-    → LeadsTo k rs (records_of last) next f.high)
-    → IfOk r (λ f. (last : List ℕ) → AreOf new f.page last → IsCut new child (height - 1) k next (records_of last) f.high)
-    → IfOk r (λ f. (last : List ℕ) → AreOf old f.page last → IsCut old page height k start (records_of last) f.high)
-step_cut (Err e) old new page height size bytes k child start next is step f g = g
-step_cut (Ok v) old new page height size bytes k child start next is step f g = λ last are.
-    let leaf = records_of last in
-    let then_are = told_before old new v.page last is.told are in
-    let up : (rs : List Record) → Spells old page height rs → IsCut old page height k start leaf v.high = λ rs s.
-    let h = page_here old new page height size bytes rs is s in
-    let st = step h.inner h.is in
-    cut_up old new page height child st.place k h.inner start next leaf v.high
-    (record { told = is.told; some = is.some; above = is.above; reads = h.reads; place = st.is_place; is_child = st.child_is }) st.next_is (f last then_are)
-    (g last then_are) in
+-- the child spells a part of the records
+step_spells : (d : Down) (rs : List Record) → Spells d.old d.page d.height rs → (here : List Record) × Spells d.new d.child (d.height - 1) here
+step_spells d rs s =
+    let is = d.is_read in
+    let h = page_here d.old d.new d.page d.height d.size d.bytes rs is s in
+    let st = d.steps h.inner h.is in
+    let low = leads_below d.old d.page d.height rs h.inner st.place d.key is.some is.above s h.reads st.is_place in (
+      low.here,
+      subst (λ c. Spells d.new c (d.height - 1) low.here) (sym st.child_is)
+          (along_told d.old d.new (slice_index h.inner.children st.place) (d.height - 1) low.here is.told low.spells),
+    )
+
+step_led : (d : Down) (v : Found) (leaf : List Record)
+    → ((rs : List Record) (s : Spells d.new d.child (d.height - 1) rs) → s.bounds.high ≡ d.next → LeadsTo d.key rs leaf d.next v.high)
+    → (rs : List Record) (s : Spells d.old d.page d.height rs) → s.bounds.high ≡ d.start → LeadsTo d.key rs leaf d.start v.high
+step_led d v leaf f rs s top =
+    let is = d.is_read in
+    let h = page_here d.old d.new d.page d.height d.size d.bytes rs is s in
+    let st = d.steps h.inner h.is in
+    leads_up (Ok v) leaf d.old d.new d.page d.height d.child st.place d.key h.inner d.start d.next is.told is.some is.above h.reads st.is_place
+    st.child_is st.next_is f rs s top
+
+step_cut : (d : Down) (leaf : List Record) (high : Option Key)
+    → ((rs : List Record) (s : Spells d.new d.child (d.height - 1) rs) → s.bounds.high ≡ d.next → LeadsTo d.key rs leaf d.next high)
+    → IsCut d.new d.child (d.height - 1) d.key d.next leaf high → IsCut d.old d.page d.height d.key d.start leaf high
+step_cut d leaf high f g =
+    let is = d.is_read in
+    let up : (rs : List Record) → Spells d.old d.page d.height rs → IsCut d.old d.page d.height d.key d.start leaf high = λ rs s.
+    let h = page_here d.old d.new d.page d.height d.size d.bytes rs is s in
+    let st = d.steps h.inner h.is in
+    cut_up d.old d.new d.page d.height d.child st.place d.key h.inner d.start d.next leaf high
+    (record { told = is.told; some = is.some; above = is.above; reads = h.reads; place = st.is_place; is_child = st.child_is }) st.next_is f g in
     record {
-      starts = λ pages rs t s top d. (up rs s).starts pages rs t s top d;
+      starts = λ pages rs t s top e. (up rs s).starts pages rs t s top e;
       ends = λ pages rs s t top b. (up rs s).ends pages rs s t top b;
     }
 
-pub step_sound : {T : Type 0} (r : Result T Stop) (old new : Option (List (List ℕ))) (page height size : ℕ) (bytes : List ℕ) (k : Key) (child : ℕ)
-    (start next : Option Key) → IsRead old new page height size bytes → StepsTo size bytes k start child next
-    → IfErr r (λ e. (rs : List Record) → Spells new child (height - 1) rs → IsSound e)
-    → IfErr r (λ e. (rs : List Record) → Spells old page height rs → IsSound e)
-step_sound (Ok v) old new page height size bytes k child start next is step f = f
-step_sound {T} (Err e) old new page height size bytes k child start next is step f = λ rs s.
-    let h = page_here old new page height size bytes rs is s in
-    let st = step h.inner h.is in
-    let low = leads_below old page height rs h.inner st.place k is.some is.above s h.reads st.is_place in
-    f low.here (subst (λ c. Spells new c (height - 1) low.here) (sym st.child_is)
-    (along_told old new (slice_index h.inner.children st.place) (height - 1) low.here is.told low.spells))
+-- where the key leads below the child, it leads from the page
+pub step_arrives : (d : Down) (r : Result Found Stop)
+    → IfOk r (λ f. (last : List ℕ) → AreOf d.new f.page last → Arrives d.new d.child (d.height - 1) d.key d.next last f.high)
+    → IfOk r (λ f. (last : List ℕ) → AreOf d.old f.page last → Arrives d.old d.page d.height d.key d.start last f.high)
+step_arrives d (Err e) f = f
+step_arrives d (Ok v) f = λ last are.
+    let low = f last (told_before d.old d.new v.page last d.is_read.told are) in
+    record {
+      leaf = λ rs s. let here = step_spells d rs s in low.leaf here.0 here.1;
+      least = λ rs s. let here = step_spells d rs s in low.least here.0 here.1;
+      leads = step_led d v (records_of last) low.leads;
+      cut = step_cut d (records_of last) v.high low.leads low.cut;
+    }
 
-pub step_holds : (r : Result Found Stop) (old new : Option (List (List ℕ))) (page height size : ℕ) (bytes : List ℕ) (P : List ℕ → Type 0) (k : Key)
-    (child : ℕ) (start next : Option Key) → IsRead old new page height size bytes → StepsTo size bytes k start child next
-    → IfOk r (λ f. (last : List ℕ) → AreOf new f.page last → (rs : List Record) → Spells new child (height - 1) rs → P last)
-    → IfOk r (λ f. (last : List ℕ) → AreOf old f.page last → (rs : List Record) → Spells old page height rs → P last)
-step_holds (Err e) old new page height size bytes P k child start next is step f = f
-step_holds (Ok v) old new page height size bytes P k child start next is step f = λ last are rs s.
-    let h = page_here old new page height size bytes rs is s in
-    let st = step h.inner h.is in
-    let low = leads_below old page height rs h.inner st.place k is.some is.above s h.reads st.is_place in
-    f last (told_before old new v.page last is.told are) low.here (subst (λ c. Spells new c (height - 1) low.here) (sym st.child_is)
-    (along_told old new (slice_index h.inner.children st.place) (height - 1) low.here is.told low.spells))
+pub step_sound : {T : Type 0} (d : Down) (r : Result T Stop) → IfErr r (λ e. (rs : List Record) → Spells d.new d.child (d.height - 1) rs → IsSound e)
+    → IfErr r (λ e. (rs : List Record) → Spells d.old d.page d.height rs → IsSound e)
+step_sound d (Ok v) f = f
+step_sound {T} d (Err e) f = λ rs s. let here = step_spells d rs s in f here.0 here.1
 
 pub step_above : (r : Result Found Stop) (k : Key) (start next : Option Key) → (is_below start k ≡ true → is_below next k ≡ true)
     → IfOk r (λ f. is_below next k ≡ true → is_below f.high k ≡ true) → IfOk r (λ f. is_below start k ≡ true → is_below f.high k ≡ true)
@@ -95,24 +109,33 @@ step_above (Err e) k start next g f = f
 step_above (Ok v) k start next g f = λ h. f (g h)
 
 -- the leaf itself
-pub here_led : (told : Option (List (List ℕ))) (page height : ℕ) (bytes : List ℕ) (k : Key) (high : Option Key) → height ≡ 1 → AreOf told page bytes
+here_led : (told : Option (List (List ℕ))) (page height : ℕ) (bytes : List ℕ) (k : Key) (high : Option Key) → height ≡ 1 → AreOf told page bytes
     → (rs : List Record) (s : Spells told page height rs) → s.bounds.high ≡ high → LeadsTo k rs (records_of bytes) high high
 here_led told page height bytes k high one are rs s top =
     let is = leaf_here told page height bytes rs one are s in
     subst (λ l. LeadsTo k rs l high high) (sym (leaf_records bytes rs is))
     (leaf_leads told page height k rs high one (λ pages t. ap leaf_of (sym (are pages t)) ∙ is) rs s top)
 
-pub here_leaf : (told : Option (List (List ℕ))) (page height : ℕ) (bytes : List ℕ) → height ≡ 1 → AreOf told page bytes → (rs : List Record)
+here_leaf : (told : Option (List (List ℕ))) (page height : ℕ) (bytes : List ℕ) → height ≡ 1 → AreOf told page bytes → (rs : List Record)
     → Spells told page height rs → leaf_of bytes ≡ Some (records_of bytes)
 here_leaf told page height bytes one are rs s =
     let is = leaf_here told page height bytes rs one are s in
     is ∙ ap Some (sym (leaf_records bytes rs is))
 
-pub here_least : (told : Option (List (List ℕ))) (page height : ℕ) (bytes : List ℕ) → height ≡ 1 → AreOf told page bytes → (rs : List Record)
+here_least : (told : Option (List (List ℕ))) (page height : ℕ) (bytes : List ℕ) → height ≡ 1 → AreOf told page bytes → (rs : List Record)
     → Spells told page height rs → 1 ≤ length (records_of bytes)
 here_least told page height bytes one are rs s =
     let is = leaf_here told page height bytes rs one are s in
     subst (λ (l : List Record). 1 ≤ length l) (sym (leaf_records bytes rs is)) (leaf_list bytes rs is).least
+
+pub here_arrives : (told : Option (List (List ℕ))) (page height : ℕ) (bytes : List ℕ) (k : Key) (high : Option Key) → height ≡ 1
+    → AreOf told page bytes → Arrives told page height k high bytes high
+here_arrives told page height bytes k high one are = record {
+  leaf = here_leaf told page height bytes one are;
+  least = here_least told page height bytes one are;
+  leads = here_led told page height bytes k high one are;
+  cut = leaf_cut told page height k (records_of bytes) high one;
+}
 
 -- the step in the bytes of a well formed page
 key_missing : (ks : List Key) (i : ℕ) → length ks ≤ i → slice_get ks i ≡ None

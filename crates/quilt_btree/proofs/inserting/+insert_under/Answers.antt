@@ -234,7 +234,7 @@ returns-in-Some-clause-bad g t c = zero_named c.put_child.result (g.S.PageStore.
 
 pub returns-in-Some-clause-later : goal.returns-in-Some-clause-later
 returns-in-Some-clause-later g t c =
-    g.met.S.PageStore.goes_on _ _ _ (g.met.S.PageStore.goes_on _ _ _ c.in-Ok.ensures.left.later c.in-Ok-Split.ensures.later) c.put_child.ensures.later
+    g.met.S.PageStore.goes_on _ _ _ (g.met.S.PageStore.goes_on _ _ _ c.in-Ok.ensures.left.later c.in-Ok-Split.ensures.later) c.put_child.ensures.left.later
 
 pub returns-in-Err-insert_under-clause-later : goal.returns-in-Err-insert_under-clause-later
 returns-in-Err-insert_under-clause-later g t c = g.met.S.PageStore.goes_on _ _ _ c.in-Ok.ensures.left.later c.in-Err-insert_under.ensures.later

@@ -1,28 +1,12 @@
-use Rattle.std.proofs.Common.{◌≡◌, ◌≤◌, Some, List, ℕ, length}
-use Rattle.quilt_node.specs.Pages.{leaf_of}
-use Rattle.quilt_node.specs.Nodes.{records_of}
 use Rattle.quilt_store.proofs.Reading.{only_reads_then}
-use Rattle.quilt_btree.proofs.subtrees.Dividing.{leaf_cut}
 use Rattle.quilt_btree.proofs.ways.Looked.{read_of}
-use Rattle.quilt_btree.proofs.ways.Steps.{step_led, step_cut, step_sound, step_holds, step_above, here_led, here_least, here_leaf}
+use Rattle.quilt_btree.proofs.ways.Steps.{step_arrives, step_sound, step_above, here_arrives}
 use Rattle.quilt_btree.proofs.ways.Damage.{bad_leaf, names_below, spoilt_below}
 use Rattle.quilt_btree.proofs.reading.+leaf_at.Goals as goal
 
-pub returns-then-height-eq1-clause-leads : goal.returns-then-height-eq1-clause-leads
-returns-then-height-eq1-clause-leads g t c = λ bytes are. here_led (g.S.PageStore.told c.args.store.now) c.args.page c.args.height bytes c.args.k.now
-    c.args.high.now c.if-height-eq1.true are
-
-pub returns-then-height-eq1-clause-cut : goal.returns-then-height-eq1-clause-cut
-returns-then-height-eq1-clause-cut g t c = λ bytes are. leaf_cut (g.S.PageStore.told c.args.store.now) c.args.page c.args.height c.args.k.now
-    (records_of bytes) c.args.high.now c.if-height-eq1.true
-
-pub returns-then-height-eq1-clause-least : goal.returns-then-height-eq1-clause-least
-returns-then-height-eq1-clause-least g t c = λ bytes are.
-    here_least (g.S.PageStore.told c.args.store.now) c.args.page c.args.height bytes c.if-height-eq1.true are
-
-pub returns-then-height-eq1-clause-leaf : goal.returns-then-height-eq1-clause-leaf
-returns-then-height-eq1-clause-leaf g t c = λ bytes are.
-    here_leaf (g.S.PageStore.told c.args.store.now) c.args.page c.args.height bytes c.if-height-eq1.true are
+pub returns-then-height-eq1-clause-arrives : goal.returns-then-height-eq1-clause-arrives
+returns-then-height-eq1-clause-arrives g t c = λ bytes are. here_arrives (g.S.PageStore.told c.args.store.now) c.args.page c.args.height bytes
+    c.args.k.now c.args.high.now c.if-height-eq1.true are
 
 pub returns-then-height-eq1-clause-spoilt : goal.returns-then-height-eq1-clause-spoilt
 returns-then-height-eq1-clause-spoilt g t c = λ bytes are.
@@ -34,60 +18,47 @@ returns-in-Err-clause-sound g t c = λ rs s. c.in-Err.ensures.sound c.args.heigh
 pub returns-in-Err-clause-bad : goal.returns-in-Err-clause-bad
 returns-in-Err-clause-bad g t c = c.in-Err.ensures.bad c.args.height c.requires.height c.if-height-eq1.false
 
-pub returns-in-Ok-clause-leads : goal.returns-in-Ok-clause-leads
-returns-in-Ok-clause-leads g t c = step_led c.leaf_at.result (g.S.PageStore.told c.args.store.now)
-    (g.S.PageStore.told c.step_at.new.store)
-    c.args.page c.args.height (g.S.PageStore.size c.args.store.now) c.in-Ok.ensures.shows.bytes c.args.k.now c.in-Ok.step.child c.args.high.now c.in-Ok.step.high
-    (read_of _ _ _ _ _ _ (record {
-      some = c.requires.height;
-      above = c.if-height-eq1.false;
-      told = c.in-Ok.ensures.looks.left.told;
-      many = g.met.S.PageStore.as_many c.args.store.now;
-    }) c.in-Ok.ensures.shows.are) c.in-Ok.ensures.shows.step c.leaf_at.ensures.leads
-
-pub returns-in-Ok-clause-cut : goal.returns-in-Ok-clause-cut
-returns-in-Ok-clause-cut g t c = step_cut c.leaf_at.result (g.S.PageStore.told c.args.store.now)
-    (g.S.PageStore.told c.step_at.new.store)
-    c.args.page c.args.height (g.S.PageStore.size c.args.store.now) c.in-Ok.ensures.shows.bytes c.args.k.now c.in-Ok.step.child c.args.high.now c.in-Ok.step.high
-    (read_of _ _ _ _ _ _ (record {
-      some = c.requires.height;
-      above = c.if-height-eq1.false;
-      told = c.in-Ok.ensures.looks.left.told;
-      many = g.met.S.PageStore.as_many c.args.store.now;
-    }) c.in-Ok.ensures.shows.are) c.in-Ok.ensures.shows.step c.leaf_at.ensures.leads c.leaf_at.ensures.cut
-
-pub returns-in-Ok-clause-least : goal.returns-in-Ok-clause-least
-returns-in-Ok-clause-least g t c = step_holds c.leaf_at.result (g.S.PageStore.told c.args.store.now)
-    (g.S.PageStore.told c.step_at.new.store)
-    c.args.page c.args.height (g.S.PageStore.size c.args.store.now) c.in-Ok.ensures.shows.bytes (λ (last : List ℕ). 1 ≤ length (records_of last)) c.args.k.now c.in-Ok.step.child c.args.high.now c.in-Ok.step.high
-    (read_of _ _ _ _ _ _ (record {
-      some = c.requires.height;
-      above = c.if-height-eq1.false;
-      told = c.in-Ok.ensures.looks.left.told;
-      many = g.met.S.PageStore.as_many c.args.store.now;
-    }) c.in-Ok.ensures.shows.are) c.in-Ok.ensures.shows.step c.leaf_at.ensures.least
-
-pub returns-in-Ok-clause-leaf : goal.returns-in-Ok-clause-leaf
-returns-in-Ok-clause-leaf g t c = step_holds c.leaf_at.result (g.S.PageStore.told c.args.store.now)
-    (g.S.PageStore.told c.step_at.new.store)
-    c.args.page c.args.height (g.S.PageStore.size c.args.store.now) c.in-Ok.ensures.shows.bytes (λ (last : List ℕ). leaf_of last ≡ Some (records_of last)) c.args.k.now c.in-Ok.step.child c.args.high.now c.in-Ok.step.high
-    (read_of _ _ _ _ _ _ (record {
-      some = c.requires.height;
-      above = c.if-height-eq1.false;
-      told = c.in-Ok.ensures.looks.left.told;
-      many = g.met.S.PageStore.as_many c.args.store.now;
-    }) c.in-Ok.ensures.shows.are) c.in-Ok.ensures.shows.step c.leaf_at.ensures.leaf
+pub returns-in-Ok-clause-arrives : goal.returns-in-Ok-clause-arrives
+returns-in-Ok-clause-arrives g t c = step_arrives (record {
+  old = g.S.PageStore.told c.args.store.now;
+  new = g.S.PageStore.told c.step_at.new.store;
+  page = c.args.page;
+  height = c.args.height;
+  size = g.S.PageStore.size c.args.store.now;
+  bytes = c.in-Ok.ensures.shows.bytes;
+  key = c.args.k.now;
+  child = c.in-Ok.step.child;
+  start = c.args.high.now;
+  next = c.in-Ok.step.high;
+  is_read = read_of _ _ _ _ _ _ (record {
+    some = c.requires.height;
+    above = c.if-height-eq1.false;
+    told = c.in-Ok.ensures.looks.left.told;
+    many = g.met.S.PageStore.as_many c.args.store.now;
+  }) c.in-Ok.ensures.shows.are;
+  steps = c.in-Ok.ensures.shows.step;
+}) c.leaf_at.result c.leaf_at.ensures.arrives
 
 pub returns-in-Ok-clause-sound : goal.returns-in-Ok-clause-sound
-returns-in-Ok-clause-sound g t c = step_sound c.leaf_at.result (g.S.PageStore.told c.args.store.now)
-    (g.S.PageStore.told c.step_at.new.store)
-    c.args.page c.args.height (g.S.PageStore.size c.args.store.now) c.in-Ok.ensures.shows.bytes c.args.k.now c.in-Ok.step.child c.args.high.now c.in-Ok.step.high
-    (read_of _ _ _ _ _ _ (record {
-      some = c.requires.height;
-      above = c.if-height-eq1.false;
-      told = c.in-Ok.ensures.looks.left.told;
-      many = g.met.S.PageStore.as_many c.args.store.now;
-    }) c.in-Ok.ensures.shows.are) c.in-Ok.ensures.shows.step c.leaf_at.ensures.sound
+returns-in-Ok-clause-sound g t c = step_sound (record {
+  old = g.S.PageStore.told c.args.store.now;
+  new = g.S.PageStore.told c.step_at.new.store;
+  page = c.args.page;
+  height = c.args.height;
+  size = g.S.PageStore.size c.args.store.now;
+  bytes = c.in-Ok.ensures.shows.bytes;
+  key = c.args.k.now;
+  child = c.in-Ok.step.child;
+  start = c.args.high.now;
+  next = c.in-Ok.step.high;
+  is_read = read_of _ _ _ _ _ _ (record {
+    some = c.requires.height;
+    above = c.if-height-eq1.false;
+    told = c.in-Ok.ensures.looks.left.told;
+    many = g.met.S.PageStore.as_many c.args.store.now;
+  }) c.in-Ok.ensures.shows.are;
+  steps = c.in-Ok.ensures.shows.step;
+}) c.leaf_at.result c.leaf_at.ensures.sound
 
 pub returns-in-Ok-clause-above : goal.returns-in-Ok-clause-above
 returns-in-Ok-clause-above g t c =

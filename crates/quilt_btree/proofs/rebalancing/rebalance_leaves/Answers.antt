@@ -85,19 +85,19 @@ returns-then-not-leaves_ascend-clause-later g c = g.met.S.PageStore.goes_on _ _ 
 
 pub returns-in-Err-clause-later : goal.returns-in-Err-clause-later
 returns-in-Err-clause-later g c = g.met.S.PageStore.goes_on _ _ _ c.in_ok-first.ensures.left.later
-    (g.met.S.PageStore.goes_on _ _ _ c.in_ok-rest.ensures.left.later c.in-Err.ensures.later)
+    (g.met.S.PageStore.goes_on _ _ _ c.in_ok-rest.ensures.left.later c.in-Err.ensures.left.later)
 
 pub returns-in-Ok-clause-later : goal.returns-in-Ok-clause-later
 returns-in-Ok-clause-later g c = g.met.S.PageStore.goes_on _ _ _ c.in_ok-first.ensures.left.later
-    (g.met.S.PageStore.goes_on _ _ _ c.in_ok-rest.ensures.left.later c.in-Ok.ensures.later)
+    (g.met.S.PageStore.goes_on _ _ _ c.in_ok-rest.ensures.left.later c.in-Ok.ensures.left.later)
 
 pub returns-in-Err-write_both-clause-later : goal.returns-in-Err-write_both-clause-later
 returns-in-Err-write_both-clause-later g c = g.met.S.PageStore.goes_on _ _ _ c.in_ok-first.ensures.left.later
-    (g.met.S.PageStore.goes_on _ _ _ c.in_ok-rest.ensures.left.later c.in-Err-write_both.ensures.later)
+    (g.met.S.PageStore.goes_on _ _ _ c.in_ok-rest.ensures.left.later c.in-Err-write_both.ensures.left.later)
 
 pub returns-in-Ok-write_both-clause-later : goal.returns-in-Ok-write_both-clause-later
 returns-in-Ok-write_both-clause-later g c = g.met.S.PageStore.goes_on _ _ _ c.in_ok-first.ensures.left.later
-    (g.met.S.PageStore.goes_on _ _ _ c.in_ok-rest.ensures.left.later c.in-Ok-write_both.ensures.later)
+    (g.met.S.PageStore.goes_on _ _ _ c.in_ok-rest.ensures.left.later c.in-Ok-write_both.ensures.left.later)
 
 pub returns-in_err-first-clause-names : goal.returns-in_err-first-clause-names
 returns-in_err-first-clause-names g c =

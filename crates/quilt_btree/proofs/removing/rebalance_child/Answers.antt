@@ -93,13 +93,13 @@ returns-in-Ok-clause-left g c =
     }) found.rebalanced c.in-Ok.ensures.free c.in-Ok.ensures.renewed
 
 pub returns-in-Ok-Joined-clause-later : goal.returns-in-Ok-Joined-clause-later
-returns-in-Ok-Joined-clause-later g c = g.met.S.PageStore.goes_on _ _ _ c.in-Ok-Joined.ensures.later c.drop_child.ensures.later
+returns-in-Ok-Joined-clause-later g c = g.met.S.PageStore.goes_on _ _ _ c.in-Ok-Joined.ensures.later c.drop_child.ensures.left.later
 
 pub returns-in-Err-renew_key-clause-later : goal.returns-in-Err-renew_key-clause-later
-returns-in-Err-renew_key-clause-later g c = g.met.S.PageStore.goes_on _ _ _ c.in-Ok-Redistributed.ensures.later c.in-Err-renew_key.ensures.later
+returns-in-Err-renew_key-clause-later g c = g.met.S.PageStore.goes_on _ _ _ c.in-Ok-Redistributed.ensures.later c.in-Err-renew_key.ensures.left.later
 
 pub returns-in-Ok-clause-later : goal.returns-in-Ok-clause-later
-returns-in-Ok-clause-later g c = g.met.S.PageStore.goes_on _ _ _ c.in-Ok-Redistributed.ensures.later c.in-Ok.ensures.later
+returns-in-Ok-clause-later g c = g.met.S.PageStore.goes_on _ _ _ c.in-Ok-Redistributed.ensures.later c.in-Ok.ensures.left.later
 
 pub returns-in-Err-clause-bad : goal.returns-in-Err-clause-bad
 returns-in-Err-clause-bad g c =

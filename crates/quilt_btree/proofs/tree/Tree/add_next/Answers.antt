@@ -18,12 +18,12 @@ returns-then-now-most-clause-ends g c = λ none low rs is b.
     rest_fills (g.S.PageStore.told c.args.store.now) c.args.self.now low c.args.from.now c.args.high.now c.args.most
     (records_of c.in-Ok-add_at.ensures.adds.bytes) c.args.records.now.items c.add_at.new.records.items rs c.in-Ok.found.high (record {
       some = let h = c.requires.height in omega arith;
-      leads = c.in-Ok.ensures.leads c.in-Ok-add_at.ensures.adds.bytes (told_before _ _ _ _ (sym c.in-Ok.ensures.left.told) c.in-Ok-add_at.ensures.adds.are);
-      cut = c.in-Ok.ensures.cut c.in-Ok-add_at.ensures.adds.bytes (told_before _ _ _ _ (sym c.in-Ok.ensures.left.told) c.in-Ok-add_at.ensures.adds.are);
+      leads = (c.in-Ok.ensures.arrives c.in-Ok-add_at.ensures.adds.bytes (told_before _ _ _ _ (sym c.in-Ok.ensures.left.told) c.in-Ok-add_at.ensures.adds.are)).leads;
+      cut = (c.in-Ok.ensures.arrives c.in-Ok-add_at.ensures.adds.bytes (told_before _ _ _ _ (sym c.in-Ok.ensures.left.told) c.in-Ok-add_at.ensures.adds.are)).cut;
       seen = c.in-Ok-add_at.ensures.adds.some;
       added = c.in-Ok-add_at.ensures.adds.added;
       same = λ rs s. c.in-Ok-add_at.ensures.adds.same
-          (records_of c.in-Ok-add_at.ensures.adds.bytes) (c.in-Ok.ensures.leaf c.in-Ok-add_at.ensures.adds.bytes (told_before _ _ _ _ (sym c.in-Ok.ensures.left.told) c.in-Ok-add_at.ensures.adds.are) rs s);
+          (records_of c.in-Ok-add_at.ensures.adds.bytes) ((c.in-Ok.ensures.arrives c.in-Ok-add_at.ensures.adds.bytes (told_before _ _ _ _ (sym c.in-Ok.ensures.left.told) c.in-Ok-add_at.ensures.adds.are)).leaf rs s);
     }) is b
     (let e = c.in-Ok-add_at.ensures.number in let t = c.if-now-most.true in omega arith)
 
@@ -32,15 +32,15 @@ returns-in-Ok-fault_at-clause-sound g c = λ low rs is b page e. rest_adds (g.S.
     c.args.high.now c.in-Some.field-0 c.args.most (records_of c.in-Ok-add_at.ensures.adds.bytes) c.args.records.now.items c.add_at.new.records.items rs
     c.in-Ok.found.high (record {
       some = let h = c.requires.height in omega arith;
-      leads = c.in-Ok.ensures.leads c.in-Ok-add_at.ensures.adds.bytes (told_before _ _ _ _ (sym c.in-Ok.ensures.left.told) c.in-Ok-add_at.ensures.adds.are);
-      cut = c.in-Ok.ensures.cut c.in-Ok-add_at.ensures.adds.bytes (told_before _ _ _ _ (sym c.in-Ok.ensures.left.told) c.in-Ok-add_at.ensures.adds.are);
+      leads = (c.in-Ok.ensures.arrives c.in-Ok-add_at.ensures.adds.bytes (told_before _ _ _ _ (sym c.in-Ok.ensures.left.told) c.in-Ok-add_at.ensures.adds.are)).leads;
+      cut = (c.in-Ok.ensures.arrives c.in-Ok-add_at.ensures.adds.bytes (told_before _ _ _ _ (sym c.in-Ok.ensures.left.told) c.in-Ok-add_at.ensures.adds.are)).cut;
       seen = c.in-Ok-add_at.ensures.adds.some;
       added = c.in-Ok-add_at.ensures.adds.added;
       same = λ rs s. c.in-Ok-add_at.ensures.adds.same
-          (records_of c.in-Ok-add_at.ensures.adds.bytes) (c.in-Ok.ensures.leaf c.in-Ok-add_at.ensures.adds.bytes (told_before _ _ _ _ (sym c.in-Ok.ensures.left.told) c.in-Ok-add_at.ensures.adds.are) rs s);
+          (records_of c.in-Ok-add_at.ensures.adds.bytes) ((c.in-Ok.ensures.arrives c.in-Ok-add_at.ensures.adds.bytes (told_before _ _ _ _ (sym c.in-Ok.ensures.left.told) c.in-Ok-add_at.ensures.adds.are)).leaf rs s);
     }) is
     b.0 b.1 b.2 c.in-Some.ensures.0 c.in-Some.ensures.1
-    (c.in-Ok.ensures.least c.in-Ok-add_at.ensures.adds.bytes (told_before _ _ _ _ (sym c.in-Ok.ensures.left.told) c.in-Ok-add_at.ensures.adds.are) rs (tree_spells (g.S.PageStore.told c.args.store.now) c.args.self.now rs (let h = c.requires.height in omega arith) is).0)
+    ((c.in-Ok.ensures.arrives c.in-Ok-add_at.ensures.adds.bytes (told_before _ _ _ _ (sym c.in-Ok.ensures.left.told) c.in-Ok-add_at.ensures.adds.are)).least rs (tree_spells (g.S.PageStore.told c.args.store.now) c.args.self.now rs (let h = c.requires.height in omega arith) is).0)
     (let r = c.requires.room in omega (arith, c.args.records.now.ok.0))
     (λ same. c.if-now-most.false (let e = c.in-Ok-add_at.ensures.number in omega arith))
     (let e = c.in-Ok-add_at.ensures.number in let f = c.len-had.ensures in let t = c.if-now-had.true in omega (arith, c.args.records.now.ok.0))
@@ -50,12 +50,12 @@ returns-in_default-clause-goes_on g c = rw c.in-Some.is (λ low rs is b.
     rest_next (g.S.PageStore.told c.args.store.now) c.args.self.now low c.args.from.now c.args.high.now c.in-Some.field-0 c.args.most
     (records_of c.in-Ok-add_at.ensures.adds.bytes) c.args.records.now.items c.add_at.new.records.items rs c.in-Ok.found.high (record {
       some = let h = c.requires.height in omega arith;
-      leads = c.in-Ok.ensures.leads c.in-Ok-add_at.ensures.adds.bytes (told_before _ _ _ _ (sym c.in-Ok.ensures.left.told) c.in-Ok-add_at.ensures.adds.are);
-      cut = c.in-Ok.ensures.cut c.in-Ok-add_at.ensures.adds.bytes (told_before _ _ _ _ (sym c.in-Ok.ensures.left.told) c.in-Ok-add_at.ensures.adds.are);
+      leads = (c.in-Ok.ensures.arrives c.in-Ok-add_at.ensures.adds.bytes (told_before _ _ _ _ (sym c.in-Ok.ensures.left.told) c.in-Ok-add_at.ensures.adds.are)).leads;
+      cut = (c.in-Ok.ensures.arrives c.in-Ok-add_at.ensures.adds.bytes (told_before _ _ _ _ (sym c.in-Ok.ensures.left.told) c.in-Ok-add_at.ensures.adds.are)).cut;
       seen = c.in-Ok-add_at.ensures.adds.some;
       added = c.in-Ok-add_at.ensures.adds.added;
       same = λ rs s. c.in-Ok-add_at.ensures.adds.same
-          (records_of c.in-Ok-add_at.ensures.adds.bytes) (c.in-Ok.ensures.leaf c.in-Ok-add_at.ensures.adds.bytes (told_before _ _ _ _ (sym c.in-Ok.ensures.left.told) c.in-Ok-add_at.ensures.adds.are) rs s);
+          (records_of c.in-Ok-add_at.ensures.adds.bytes) ((c.in-Ok.ensures.arrives c.in-Ok-add_at.ensures.adds.bytes (told_before _ _ _ _ (sym c.in-Ok.ensures.left.told) c.in-Ok-add_at.ensures.adds.are)).leaf rs s);
     }) is b c.in-Some.ensures.0)
 
 pub returns-in_default-2-clause-ends : goal.returns-in_default-2-clause-ends
@@ -63,12 +63,12 @@ returns-in_default-2-clause-ends g c = λ none low rs is b.
     rest_ends (g.S.PageStore.told c.args.store.now) c.args.self.now low c.args.from.now c.args.high.now c.args.most
     (records_of c.in-Ok-add_at.ensures.adds.bytes) c.args.records.now.items c.add_at.new.records.items rs c.in-Ok.found.high (record {
       some = let h = c.requires.height in omega arith;
-      leads = c.in-Ok.ensures.leads c.in-Ok-add_at.ensures.adds.bytes (told_before _ _ _ _ (sym c.in-Ok.ensures.left.told) c.in-Ok-add_at.ensures.adds.are);
-      cut = c.in-Ok.ensures.cut c.in-Ok-add_at.ensures.adds.bytes (told_before _ _ _ _ (sym c.in-Ok.ensures.left.told) c.in-Ok-add_at.ensures.adds.are);
+      leads = (c.in-Ok.ensures.arrives c.in-Ok-add_at.ensures.adds.bytes (told_before _ _ _ _ (sym c.in-Ok.ensures.left.told) c.in-Ok-add_at.ensures.adds.are)).leads;
+      cut = (c.in-Ok.ensures.arrives c.in-Ok-add_at.ensures.adds.bytes (told_before _ _ _ _ (sym c.in-Ok.ensures.left.told) c.in-Ok-add_at.ensures.adds.are)).cut;
       seen = c.in-Ok-add_at.ensures.adds.some;
       added = c.in-Ok-add_at.ensures.adds.added;
       same = λ rs s. c.in-Ok-add_at.ensures.adds.same
-          (records_of c.in-Ok-add_at.ensures.adds.bytes) (c.in-Ok.ensures.leaf c.in-Ok-add_at.ensures.adds.bytes (told_before _ _ _ _ (sym c.in-Ok.ensures.left.told) c.in-Ok-add_at.ensures.adds.are) rs s);
+          (records_of c.in-Ok-add_at.ensures.adds.bytes) ((c.in-Ok.ensures.arrives c.in-Ok-add_at.ensures.adds.bytes (told_before _ _ _ _ (sym c.in-Ok.ensures.left.told) c.in-Ok-add_at.ensures.adds.are)).leaf rs s);
     }) is b
     (none_over c.key_up_to.result c.in-Ok.found.high c.args.high.now c.key_up_to.ensures none)
 

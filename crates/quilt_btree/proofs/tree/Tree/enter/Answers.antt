@@ -1,29 +1,29 @@
-use Rattle.std.proofs.Common.{◌≢◌, ◌++◌, arith, subst}
-use Rattle.quilt_btree.specs.Searches.{AreOf}
-use Rattle.quilt_btree.proofs.ways.Forks.{are_of}
+use Rattle.std.proofs.Common.{rules, ◌≢◌, ◌∙◌, arith}
+use Rattle.quilt_btree.proofs.cursors.Stands.{entered, are_before}
 use Rattle.quilt_btree.proofs.subtrees.Whole.{tree_spells}
-use Rattle.quilt_btree.proofs.cursors.Stands.{entered}
 use Rattle.quilt_btree.proofs.tree.Tree.enter.Goals as goal
-
-pub returns-in-Err-clause-sound : goal.returns-in-Err-clause-sound
-returns-in-Err-clause-sound g c =
-    let ne : c.args.self.now.height ≢ 0 = let h = c.requires.some in omega arith in
-    λ rs is. c.in-Err.ensures.sound rs (tree_spells (g.S.PageStore.told c.args.store.now) c.args.self.now rs ne is).0
 
 pub returns-in-Ok-page-clause-stands : goal.returns-in-Ok-page-clause-stands
 returns-in-Ok-page-clause-stands g c before after is p =
-    let bytes = c.in-Ok-page.bytes.now in
-    let are = subst (λ o. AreOf o c.in-Ok.found.page bytes) c.in-Ok.ensures.left.told
-    (are_of (g.S.PageStore.told c.leaf_at.new.store) c.in-Ok.found.page bytes c.in-Ok-page.ensures.bytes) in
-    entered (g.S.PageStore.told c.args.store.now) c.args.self.now c.args.k.now before after bytes c.in-Ok.found.high
-    (c.in-Ok.ensures.leads bytes are) (c.in-Ok.ensures.cut bytes are) c.requires.some is
-    (let ne : c.args.self.now.height ≢ 0 = let h = c.requires.some in omega arith in
-    c.in-Ok.ensures.least bytes are (before ++ after) (tree_spells (g.S.PageStore.told c.args.store.now) c.args.self.now (before ++ after) ne is).0) p
+    entered (g.S.PageStore.told c.args.store.now) c.args.self.now c.args.k.now before after c.in-Ok-page.bytes.now c.in-Ok.found.high
+    (c.in-Ok.ensures.arrives c.in-Ok-page.bytes.now (are_before _ _ _ _ c.in-Ok.ensures.left.told c.in-Ok-page.ensures.bytes)) c.requires.some is p
 
 pub returns-in-Ok-page-clause-least : goal.returns-in-Ok-page-clause-least
 returns-in-Ok-page-clause-least g c rs is =
-    let bytes = c.in-Ok-page.bytes.now in
-    let are = subst (λ o. AreOf o c.in-Ok.found.page bytes) c.in-Ok.ensures.left.told
-    (are_of (g.S.PageStore.told c.leaf_at.new.store) c.in-Ok.found.page bytes c.in-Ok-page.ensures.bytes) in
     let ne : c.args.self.now.height ≢ 0 = let h = c.requires.some in omega arith in
-    c.in-Ok.ensures.least bytes are rs (tree_spells (g.S.PageStore.told c.args.store.now) c.args.self.now rs ne is).0
+    (c.in-Ok.ensures.arrives c.in-Ok-page.bytes.now (are_before _ _ _ _ c.in-Ok.ensures.left.told c.in-Ok-page.ensures.bytes)).least rs
+    (tree_spells (g.S.PageStore.told c.args.store.now) c.args.self.now rs ne is).0
+
+pub returns-in-Err-page-clause-left : goal.returns-in-Err-page-clause-left
+returns-in-Err-page-clause-left g c =
+    let a = c.in-Ok.ensures.left in
+    let b = c.page.follows.holds-at-none in
+    record {
+      size = b.2 ∙ a.size;
+      told = b.4 ∙ a.told;
+      free = b.3 ∙ a.free;
+      later = g.met.S.PageStore.goes_on _ _ _ a.later b.1;
+      changed = let x = a.changed in let y = b.8 in omega arith;
+      faults = let x = a.faults in let y = b.0.later in omega arith;
+      device = search rules;
+    }

@@ -251,7 +251,7 @@ pub returns-in-Err-insert_under-clause-bad : goal.returns-in-Err-insert_under-cl
 returns-in-Err-insert_under-clause-bad g c = c.in-Err-insert_under.ensures.bad
 
 pub returns-in-Err-write_new-clause-later : goal.returns-in-Err-write_new-clause-later
-returns-in-Err-write_new-clause-later g c = g.met.S.PageStore.goes_on _ _ _ c.in-Ok-Split.ensures.later c.in-Err-write_new.ensures.later
+returns-in-Err-write_new-clause-later g c = g.met.S.PageStore.goes_on _ _ _ c.in-Ok-Split.ensures.later c.in-Err-write_new.ensures.left.later
 
 pub returns-in-Ok-write_new-clause-later : goal.returns-in-Ok-write_new-clause-later
-returns-in-Ok-write_new-clause-later g c = g.met.S.PageStore.goes_on _ _ _ c.in-Ok-Split.ensures.later c.in-Ok-write_new.ensures.later
+returns-in-Ok-write_new-clause-later g c = g.met.S.PageStore.goes_on _ _ _ c.in-Ok-Split.ensures.later c.in-Ok-write_new.ensures.left.later

@@ -6,10 +6,10 @@ use Rattle.quilt_btree.proofs.tree.Tree.next.Goals as goal
 pub returns-in-Err-clause-sound : goal.returns-in-Err-clause-sound
 returns-in-Err-clause-sound g c before after is s = c.in-Err.ensures.sound (before ++ after) is
 
-pub returns-then-c-records_in-2-clause-next : goal.returns-then-c-records_in-2-clause-next
-returns-then-c-records_in-2-clause-next g c before after is s =
+pub returns-then-c-2-clause-next : goal.returns-then-c-2-clause-next
+returns-then-c-2-clause-next g c before after is s =
     let le : length (records_of c.args.c.now.bytes) ≤ c.args.c.now.place =
-    let e = c.records_in.ensures.all in let h = c.if-c-records_in.false in omega (arith, e, h) in
-    c.over-then-c-records_in-2.ensures (g.S.PageStore.told c.args.store.now) c.args.self.now before after
+    let e = c.args.c.now.counted in let h = c.if-c.false in omega (arith, e, h) in
+    c.over-then-c-2.ensures (g.S.PageStore.told c.args.store.now) c.args.self.now before after
     (c.in-Ok.ensures.stands before after is (stands_further (g.S.PageStore.told c.args.store.now) c.args.self.now c.args.c.now c.in-Some.k before after le
     c.in-Some.is s))

@@ -23,15 +23,15 @@ pub returns-then-now-most-clause-range : goal.returns-then-now-most-clause-range
 returns-then-now-most-clause-range g c = λ rs is. first_fills (g.S.PageStore.told c.args.store.now) c.args.self.now c.args.low.now c.args.high.now
     c.args.most (records_of c.in-Ok-add_at.ensures.adds.bytes) c.add_at.new.records.items rs c.in-Ok.found.high (record {
       some = c.if-self-eq0.false;
-      leads = c.in-Ok.ensures.leads c.in-Ok-add_at.ensures.adds.bytes (told_before _ _ _ _ (sym c.in-Ok.ensures.left.told) c.in-Ok-add_at.ensures.adds.are);
-      cut = c.in-Ok.ensures.cut c.in-Ok-add_at.ensures.adds.bytes (told_before _ _ _ _ (sym c.in-Ok.ensures.left.told) c.in-Ok-add_at.ensures.adds.are);
+      leads = (c.in-Ok.ensures.arrives c.in-Ok-add_at.ensures.adds.bytes (told_before _ _ _ _ (sym c.in-Ok.ensures.left.told) c.in-Ok-add_at.ensures.adds.are)).leads;
+      cut = (c.in-Ok.ensures.arrives c.in-Ok-add_at.ensures.adds.bytes (told_before _ _ _ _ (sym c.in-Ok.ensures.left.told) c.in-Ok-add_at.ensures.adds.are)).cut;
       seen = c.in-Ok-add_at.ensures.adds.some;
       added = c.in-Ok-add_at.ensures.adds.added
           ∙ ap (λ (l : List Record).
           take c.args.most (l ++ filter (is_from_to c.args.low.now c.args.high.now)
           c.in-Ok-add_at.ensures.adds.some)) c.new-records.ensures.items;
       same = λ rs s. c.in-Ok-add_at.ensures.adds.same
-          (records_of c.in-Ok-add_at.ensures.adds.bytes) (c.in-Ok.ensures.leaf c.in-Ok-add_at.ensures.adds.bytes (told_before _ _ _ _ (sym c.in-Ok.ensures.left.told) c.in-Ok-add_at.ensures.adds.are) rs s);
+          (records_of c.in-Ok-add_at.ensures.adds.bytes) ((c.in-Ok.ensures.arrives c.in-Ok-add_at.ensures.adds.bytes (told_before _ _ _ _ (sym c.in-Ok.ensures.left.told) c.in-Ok-add_at.ensures.adds.are)).leaf rs s);
     }) is
     (let e = c.in-Ok-add_at.ensures.number in let t = c.if-now-most.true in omega arith)
 
@@ -39,15 +39,15 @@ pub returns-in-None-clause-range : goal.returns-in-None-clause-range
 returns-in-None-clause-range g c = λ rs is. first_ends (g.S.PageStore.told c.args.store.now) c.args.self.now c.args.low.now c.args.high.now
     c.args.most (records_of c.in-Ok-add_at.ensures.adds.bytes) c.add_at.new.records.items rs c.in-Ok.found.high (record {
       some = c.if-self-eq0.false;
-      leads = c.in-Ok.ensures.leads c.in-Ok-add_at.ensures.adds.bytes (told_before _ _ _ _ (sym c.in-Ok.ensures.left.told) c.in-Ok-add_at.ensures.adds.are);
-      cut = c.in-Ok.ensures.cut c.in-Ok-add_at.ensures.adds.bytes (told_before _ _ _ _ (sym c.in-Ok.ensures.left.told) c.in-Ok-add_at.ensures.adds.are);
+      leads = (c.in-Ok.ensures.arrives c.in-Ok-add_at.ensures.adds.bytes (told_before _ _ _ _ (sym c.in-Ok.ensures.left.told) c.in-Ok-add_at.ensures.adds.are)).leads;
+      cut = (c.in-Ok.ensures.arrives c.in-Ok-add_at.ensures.adds.bytes (told_before _ _ _ _ (sym c.in-Ok.ensures.left.told) c.in-Ok-add_at.ensures.adds.are)).cut;
       seen = c.in-Ok-add_at.ensures.adds.some;
       added = c.in-Ok-add_at.ensures.adds.added
           ∙ ap (λ (l : List Record).
           take c.args.most (l ++ filter (is_from_to c.args.low.now c.args.high.now)
           c.in-Ok-add_at.ensures.adds.some)) c.new-records.ensures.items;
       same = λ rs s. c.in-Ok-add_at.ensures.adds.same
-          (records_of c.in-Ok-add_at.ensures.adds.bytes) (c.in-Ok.ensures.leaf c.in-Ok-add_at.ensures.adds.bytes (told_before _ _ _ _ (sym c.in-Ok.ensures.left.told) c.in-Ok-add_at.ensures.adds.are) rs s);
+          (records_of c.in-Ok-add_at.ensures.adds.bytes) ((c.in-Ok.ensures.arrives c.in-Ok-add_at.ensures.adds.bytes (told_before _ _ _ _ (sym c.in-Ok.ensures.left.told) c.in-Ok-add_at.ensures.adds.are)).leaf rs s);
     }) is c.in-None.ensures
 
 pub returns-in-Err-add_rest-clause-sound : goal.returns-in-Err-add_rest-clause-sound
@@ -56,15 +56,15 @@ returns-in-Err-add_rest-clause-sound g c =
     c.in-Some.next c.args.most (records_of c.in-Ok-add_at.ensures.adds.bytes) c.add_at.new.records.items c.in-Ok.found.high c.in-Err-add_rest.e
     (c.in-Ok-add_at.ensures.looks.left.told ∙ c.in-Ok.ensures.left.told) (record {
       some = c.if-self-eq0.false;
-      leads = c.in-Ok.ensures.leads c.in-Ok-add_at.ensures.adds.bytes (told_before _ _ _ _ (sym c.in-Ok.ensures.left.told) c.in-Ok-add_at.ensures.adds.are);
-      cut = c.in-Ok.ensures.cut c.in-Ok-add_at.ensures.adds.bytes (told_before _ _ _ _ (sym c.in-Ok.ensures.left.told) c.in-Ok-add_at.ensures.adds.are);
+      leads = (c.in-Ok.ensures.arrives c.in-Ok-add_at.ensures.adds.bytes (told_before _ _ _ _ (sym c.in-Ok.ensures.left.told) c.in-Ok-add_at.ensures.adds.are)).leads;
+      cut = (c.in-Ok.ensures.arrives c.in-Ok-add_at.ensures.adds.bytes (told_before _ _ _ _ (sym c.in-Ok.ensures.left.told) c.in-Ok-add_at.ensures.adds.are)).cut;
       seen = c.in-Ok-add_at.ensures.adds.some;
       added = c.in-Ok-add_at.ensures.adds.added
           ∙ ap (λ (l : List Record).
           take c.args.most (l ++ filter (is_from_to c.args.low.now c.args.high.now)
           c.in-Ok-add_at.ensures.adds.some)) c.new-records.ensures.items;
       same = λ rs s. c.in-Ok-add_at.ensures.adds.same
-          (records_of c.in-Ok-add_at.ensures.adds.bytes) (c.in-Ok.ensures.leaf c.in-Ok-add_at.ensures.adds.bytes (told_before _ _ _ _ (sym c.in-Ok.ensures.left.told) c.in-Ok-add_at.ensures.adds.are) rs s);
+          (records_of c.in-Ok-add_at.ensures.adds.bytes) ((c.in-Ok.ensures.arrives c.in-Ok-add_at.ensures.adds.bytes (told_before _ _ _ _ (sym c.in-Ok.ensures.left.told) c.in-Ok-add_at.ensures.adds.are)).leaf rs s);
     }) c.in-Some.ensures.0 c.in-Err-add_rest.ensures.sound
 
 pub returns-in-Ok-add_rest-clause-range : goal.returns-in-Ok-add_rest-clause-range
@@ -73,15 +73,15 @@ returns-in-Ok-add_rest-clause-range g c =
     c.in-Some.next c.args.most (records_of c.in-Ok-add_at.ensures.adds.bytes) c.add_at.new.records.items c.add_rest.new.records.items c.in-Ok.found.high
     (c.in-Ok-add_at.ensures.looks.left.told ∙ c.in-Ok.ensures.left.told) (record {
       some = c.if-self-eq0.false;
-      leads = c.in-Ok.ensures.leads c.in-Ok-add_at.ensures.adds.bytes (told_before _ _ _ _ (sym c.in-Ok.ensures.left.told) c.in-Ok-add_at.ensures.adds.are);
-      cut = c.in-Ok.ensures.cut c.in-Ok-add_at.ensures.adds.bytes (told_before _ _ _ _ (sym c.in-Ok.ensures.left.told) c.in-Ok-add_at.ensures.adds.are);
+      leads = (c.in-Ok.ensures.arrives c.in-Ok-add_at.ensures.adds.bytes (told_before _ _ _ _ (sym c.in-Ok.ensures.left.told) c.in-Ok-add_at.ensures.adds.are)).leads;
+      cut = (c.in-Ok.ensures.arrives c.in-Ok-add_at.ensures.adds.bytes (told_before _ _ _ _ (sym c.in-Ok.ensures.left.told) c.in-Ok-add_at.ensures.adds.are)).cut;
       seen = c.in-Ok-add_at.ensures.adds.some;
       added = c.in-Ok-add_at.ensures.adds.added
           ∙ ap (λ (l : List Record).
           take c.args.most (l ++ filter (is_from_to c.args.low.now c.args.high.now)
           c.in-Ok-add_at.ensures.adds.some)) c.new-records.ensures.items;
       same = λ rs s. c.in-Ok-add_at.ensures.adds.same
-          (records_of c.in-Ok-add_at.ensures.adds.bytes) (c.in-Ok.ensures.leaf c.in-Ok-add_at.ensures.adds.bytes (told_before _ _ _ _ (sym c.in-Ok.ensures.left.told) c.in-Ok-add_at.ensures.adds.are) rs s);
+          (records_of c.in-Ok-add_at.ensures.adds.bytes) ((c.in-Ok.ensures.arrives c.in-Ok-add_at.ensures.adds.bytes (told_before _ _ _ _ (sym c.in-Ok.ensures.left.told) c.in-Ok-add_at.ensures.adds.are)).leaf rs s);
     }) c.in-Some.ensures.0 c.in-Ok-add_rest.ensures.rest
 
 pub returns-then-self-eq0-clause-within : goal.returns-then-self-eq0-clause-within

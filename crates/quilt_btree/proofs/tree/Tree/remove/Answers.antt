@@ -406,13 +406,13 @@ returns-in-Ok-give_back-clause-bad g c =
     (c.shrink-in-Ok-give_back.ensures.names 1 (omega arith))
 
 pub returns-in-Err-give_back-clause-later : goal.returns-in-Err-give_back-clause-later
-returns-in-Err-give_back-clause-later g c = g.met.S.PageStore.goes_on _ _ _ c.in-Ok-Emptied.ensures.later c.in-Err-give_back.ensures.later
+returns-in-Err-give_back-clause-later g c = g.met.S.PageStore.goes_on _ _ _ c.in-Ok-Emptied.ensures.later c.in-Err-give_back.ensures.left.later
 
 pub returns-in-Ok-clause-later : goal.returns-in-Ok-clause-later
-returns-in-Ok-clause-later g c = g.met.S.PageStore.goes_on _ _ _ c.in-Ok-Emptied.ensures.later c.in-Ok.ensures.later
+returns-in-Ok-clause-later g c = g.met.S.PageStore.goes_on _ _ _ c.in-Ok-Emptied.ensures.later c.in-Ok.ensures.left.later
 
 pub returns-in-Err-give_back-2-clause-later : goal.returns-in-Err-give_back-2-clause-later
-returns-in-Err-give_back-2-clause-later g c = g.met.S.PageStore.goes_on _ _ _ c.in-Ok-Only.ensures.later c.in-Err-give_back-2.ensures.later
+returns-in-Err-give_back-2-clause-later g c = g.met.S.PageStore.goes_on _ _ _ c.in-Ok-Only.ensures.later c.in-Err-give_back-2.ensures.left.later
 
 pub returns-in-Ok-give_back-clause-later : goal.returns-in-Ok-give_back-clause-later
-returns-in-Ok-give_back-clause-later g c = g.met.S.PageStore.goes_on _ _ _ c.in-Ok-Only.ensures.later c.in-Ok-give_back.ensures.later
+returns-in-Ok-give_back-clause-later g c = g.met.S.PageStore.goes_on _ _ _ c.in-Ok-Only.ensures.later c.in-Ok-give_back.ensures.left.later

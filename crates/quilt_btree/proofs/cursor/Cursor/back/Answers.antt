@@ -1,12 +1,12 @@
 use Rattle.std.proofs.Common.{◌-◌, ◌<◌, length, arith}
 use Rattle.quilt_node.specs.Nodes.{records_of}
 use Rattle.quilt_btree.proofs.cursors.Lowers.{goes_back}
-use Rattle.quilt_btree.proofs.cursor.back.Goals as goal
+use Rattle.quilt_btree.proofs.cursor.Cursor.back.Goals as goal
 
 pub returns : goal.returns
 returns c told t before after s =
     let some = c.requires.here in
     let most = c.requires.place.1 in
-    let lt : c.args.c.now.place - 1 < length (records_of c.args.c.now.bytes) = omega arith in
-    goes_back told t c.rec_in.result c.args.c.now.bytes c.args.c.now.place (c.args.c.now.place - 1) c.args.c.now.high before after (omega arith)
+    let lt : c.args.self.now.place - 1 < length (records_of c.args.self.now.bytes) = omega arith in
+    goes_back told t c.rec_in.result c.args.self.now.bytes c.args.self.now.place (c.args.self.now.place - 1) c.args.self.now.high before after (omega arith)
     (c.rec_in.ensures.stands lt) s

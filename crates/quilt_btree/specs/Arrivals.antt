@@ -1,0 +1,14 @@
+-- What a search tells of the leaf that it came to.
+use Rattle.std.specs.Prelude.{◌≡◌, ℕ, ◌≤◌, List, Option, Some, length}
+use Rattle.quilt_record.specs.declared.key.Key.{Key}
+use Rattle.quilt_record.specs.declared.record.Record.{Record}
+use Rattle.quilt_node.specs.Pages.{leaf_of}
+use Rattle.quilt_node.specs.Nodes.{records_of}
+use Rattle.quilt_btree.specs.Trees.{Spells, LeadsTo, IsCut}
+
+-- The bytes are the leaf to which a key leads in the subtree at a page, whose keys stay below the bound at the start. The leaf's own keys stay below `high`.
+pub record Arrives (told : Option (List (List ℕ))) (page height : ℕ) (k : Key) (start : Option Key) (bytes : List ℕ) (high : Option Key) : Type 0 where
+  pub leaf : (rs : List Record) → Spells told page height rs → leaf_of bytes ≡ Some (records_of bytes)
+  pub least : (rs : List Record) → Spells told page height rs → 1 ≤ length (records_of bytes)
+  pub leads : (rs : List Record) (s : Spells told page height rs) → s.bounds.high ≡ start → LeadsTo k rs (records_of bytes) start high
+  pub cut : IsCut told page height k start (records_of bytes) high
