@@ -299,6 +299,11 @@ impl Layer {
         regions::read_list(alloc, &mut self.store, &self.tree, self.number, self.level)
     }
 
+    /// How many leaves of each side a region layer has.
+    pub fn leaf_counts(&mut self) -> Result<[u32; 13], Stop> {
+        regions::leaf_counts(&mut self.store, &self.tree, self.number, self.level)
+    }
+
     /// Leaves with the colours of a region layer at the pixels of the window.
     pub fn leaves_in(
         &mut self,

@@ -68,6 +68,17 @@ fn has_leaves(alloc: Global, layer: &mut Layer, expected: Result<usize, Stop>) -
     }
 }
 
+/// Whether this is the answer about how many leaves the layer has of the sides 1, 2, 4 and 8, and that it has no larger ones.
+fn has_counts(layer: &mut Layer, expected: Result<[u32; 4], Stop>) -> bool {
+    match (layer.leaf_counts(), expected) {
+        (Err(stop), Err(other)) => stop == other,
+        (Ok(counts), Ok([one, two, four, eight])) => {
+            counts == [one, two, four, eight, 0, 0, 0, 0, 0, 0, 0, 0, 0]
+        }
+        _ => false,
+    }
+}
+
 /// Whether this is the answer about the colour of the pixel.
 fn has_colour(
     rt: &impl Abort,
@@ -103,6 +114,7 @@ fn a_layer_in_a_store(rt: HostRuntime) -> Result<(), Fail> {
     let plan = fresh_plan(rt.alloc(), &map)?;
     let mut layer = planted(rt.alloc(), 3, added(&plan))?;
     assert!(rt; has_leaves(rt.alloc(), &mut layer, Ok(10)));
+    assert!(rt; has_counts(&mut layer, Ok([4, 3, 3, 0])));
     let one = Pixel { x: 5, y: 2 };
     assert!(rt; has_colour(&rt, &mut layer, one, Ok(Colour(7))));
     let above = Pixel { x: 5, y: 1 };
@@ -245,6 +257,43 @@ fn keys_around_a_layer(rt: HostRuntime) -> Result<(), Fail> {
     Ok(())
 }
 
+/// A map of level 6 in which no two neighbours have one colour, whose records take many leaves of a tree.
+fn chequered(alloc: Global) -> Result<LeafList, AllocError> {
+    let mut bytes = [0; 8192];
+    for y in 0..64_usize {
+        for x in 0..64_usize {
+            if (x + y) % 2 == 1 {
+                bytes[2 * (64 * y + x) + 1] = 1;
+            }
+        }
+    }
+    leaves_of(alloc, &bytes, 6)
+}
+
+#[test]
+fn leaves_of_each_side(rt: HostRuntime) -> Result<(), Fail> {
+    let plan = fresh_plan(rt.alloc(), &uniform(rt.alloc(), Colour(0))?)?;
+    let mut layer = planted(rt.alloc(), 3, added(&plan))?;
+    assert!(rt; has_counts(&mut layer, Ok([0, 0, 0, 1])));
+    let plan = fresh_plan(rt.alloc(), &chequered(rt.alloc())?)?;
+    let mut layer = planted(rt.alloc(), 6, added(&plan))?;
+    assert!(rt; has_counts(&mut layer, Ok([4096, 0, 0, 0])));
+    Ok(())
+}
+
+/// A leaf that covers the square, and behind it one that lies in it.
+#[test]
+fn a_leaf_behind_the_last(rt: HostRuntime) -> Result<(), Fail> {
+    let whole = fresh_plan(rt.alloc(), &uniform(rt.alloc(), Colour(0))?)?;
+    let parts = fresh_plan(rt.alloc(), &dotted(rt.alloc())?)?;
+    let first = added(&whole).first().ok_or("records")?;
+    let last = added(&parts).last().ok_or("records")?;
+    let mut layer = planted(rt.alloc(), 3, &[*first, *last])?;
+    assert!(rt; has_leaves(rt.alloc(), &mut layer, Err(DAMAGED)));
+    assert!(rt; has_counts(&mut layer, Err(DAMAGED)));
+    Ok(())
+}
+
 #[test]
 fn damaged_layers(rt: HostRuntime) -> Result<(), Fail> {
     let map = dotted(rt.alloc())?;
@@ -256,6 +305,9 @@ fn damaged_layers(rt: HostRuntime) -> Result<(), Fail> {
     assert!(rt; has_leaves(rt.alloc(), &mut layer, Err(DAMAGED)));
     assert!(rt; has_leaves(rt.alloc(), &mut higher, Err(DAMAGED)));
     assert!(rt; has_leaves(rt.alloc(), &mut other, Err(DAMAGED)));
+    assert!(rt; has_counts(&mut layer, Err(DAMAGED)));
+    assert!(rt; has_counts(&mut higher, Err(DAMAGED)));
+    assert!(rt; has_counts(&mut other, Err(DAMAGED)));
     let corner = Pixel { x: 0, y: 0 };
     assert!(rt; has_colour(&rt, &mut layer, corner, Err(DAMAGED)));
     Ok(())

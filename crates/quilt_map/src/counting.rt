@@ -17,22 +17,15 @@ ghost use Rattle.quilt_map.specs.Sessions.{IsAtState};
 use crate::asking::told;
 use crate::lines::{LineLayer, line_counts};
 use crate::points::{PointLayer, point_counts};
-use crate::regions::{layer_under, read_region};
+use crate::regions::{layer_under, region_counts};
 use crate::session::Session;
 use quilt_edition::Book;
-use quilt_measure::histogram;
 use quilt_replies::{Reply, blocks_text};
 use quilt_types::{Code, Kind, Name, Stop};
 use quilt_world::{Disk, World};
-use std::alloc::Global;
 
 /// How many blocks of each side the work's layer with this number has, which is of this kind: those of side 2 ^ k at place k.
-fn count_blocks<W: Disk>(
-    alloc: Global,
-    book: &mut Book<W>,
-    number: u8,
-    kind: Kind,
-) -> Result<[u32; 13], Stop>
+fn count_blocks<W: Disk>(book: &mut Book<W>, number: u8, kind: Kind) -> Result<[u32; 13], Stop>
     ensures counts { IfOk result (λ counts. (layer : Layer) → kind ≡ kind_of layer → HoldsLayer book.old number layer →
         HasCounts counts (sides_of (books.work_of book.old).level layer)) }
     ensures sound { IfErr result (λ e. (layer : Layer) → kind ≡ kind_of layer → 1 ≤ number → HoldsLayer book.old number layer → IsSound e) }
@@ -42,17 +35,14 @@ fn count_blocks<W: Disk>(
         Goes (λ old new. new ≤ old + block_pages (books.work_of book.old).level layer) (reads_in book.old) (reads_in book.new)) }
 {
     match kind {
-        Kind::Region => match read_region(alloc, book, number) {
-            Err(e) => Err(e),
-            Ok(list) => Ok(histogram(&list)),
-        },
+        Kind::Region => region_counts(book, number),
         Kind::Points { bucket } => point_counts(book, PointLayer { number, bucket }),
         Kind::Lines { threshold } => line_counts(book, LineLayer { number, threshold }),
     }
 }
 
 impl<W: World> Session<W> {
-    /// How many blocks the layer has of each side, whatever its kind. It reads all leaves of a region once, and looks for each other block.
+    /// How many blocks the layer has of each side, whatever its kind. It goes over the leaves of a region once, and looks for each other block.
     pub(crate) fn blocks(&mut self, name: &Name) -> Result<Reply, Stop>
         ensures answer { IfOk result (λ reply. (s : State) → IsAtState self.old s → Answered s (commands.Blocks name.now) self.old self.new reply) }
         ensures sound { IfErr result (λ stop. (s : State) → IsAtState self.old s → IsSound stop) }
@@ -66,7 +56,7 @@ impl<W: World> Session<W> {
             None => Ok(Reply::No(Code::Unknown)),
             Some((number, kind)) => {
                 let level = self.book.head().level;
-                match count_blocks(self.alloc, &mut self.book, number, kind) {
+                match count_blocks(&mut self.book, number, kind) {
                     Err(stop) => Err(stop),
                     Ok(counts) => told(blocks_text(self.alloc, level, &counts)),
                 }

@@ -1,8 +1,9 @@
-ghost use Rattle.std.specs.Prelude.{◌≡◌, true, ℕ, ◌+◌, ◌<◌, ◌≤◌, List, None, IsNone, IfSome, IfOk, IfErr, OnOk};
+ghost use Rattle.std.specs.Prelude.{◌≡◌, ◌==◌, true, ℕ, ◌+◌, ◌<◌, ◌≤◌, List, None, IsNone, IfSome, IfOk, IfErr, OnOk, slice_index, count_by};
 ghost use Rattle.std.specs.FinMap as finmap;
 ghost use Rattle.quilt_types.specs.Layers.{Map, Region, Grid, colour_at as colour_in};
 ghost use Rattle.quilt_types.specs.Plane.{side, is_window};
 ghost use Rattle.quilt_types.specs.Algebra.{painted};
+ghost use Rattle.quilt_types.specs.Quadtrees.{leaves};
 ghost use Rattle.quilt_record.specs.declared.record.Record.{Record as AnyRecord};
 ghost use Rattle.quilt_record.specs.Records.{Numbering};
 ghost use Rattle.quilt_world.specs.Tale.{Goes};
@@ -26,7 +27,7 @@ use quilt_btree::Tree;
 use quilt_edition::Book;
 use quilt_node::Head;
 use quilt_record::{Edits, Entry};
-use quilt_region::{colour_at, plan_rect, plan_replace, read_list, read_window};
+use quilt_region::{colour_at, leaf_counts, plan_rect, plan_replace, read_list, read_window};
 use quilt_types::{Code, Colour, Kind, Name, Pixel, Stop, Window};
 use quilt_world::Disk;
 use std::alloc::Global;
@@ -87,6 +88,24 @@ pub(crate) fn read_region<W: Disk>(
     }
     let head = book.head();
     read_list(alloc, book, &tree_of(&head), number, head.level)
+}
+
+/// How many leaves of each side the work's region layer with this number has: those of side 2 ^ k at place k.
+pub(crate) fn region_counts<W: Disk>(book: &mut Book<W>, number: u8) -> Result<[u32; 13], Stop>
+    ensures counts { IfOk result (λ counts. (g : Grid) → HasRegion (told_of book.old) (tree_in (work_of book.old)) number (work_of book.old).level g
+        → (k : ℕ) → k ≤ 12 → slice_index counts k ≡ count_by (λ e. e.0.side == side k) (leaves (work_of book.old).level g)) }
+    ensures sound { IfErr result (λ e. (g : Grid) → 1 ≤ number
+        → HasRegion (told_of book.old) (tree_in (work_of book.old)) number (work_of book.old).level g → IsSound e) }
+    ensures still { IsStill book.old book.new }
+    ensures cause { HasStopCause (W.faults (world_of book.old)) (W.faults (world_of book.new)) result }
+    ensures reads { IfOk result (λ counts. (g : Grid) → HasRegion (told_of book.old) (tree_in (work_of book.old)) number (work_of book.old).level g
+        → Goes (λ old new. new ≤ old + block_pages (work_of book.old).level (Region g)) (reads_in book.old) (reads_in book.new)) }
+{
+    if number == 0 {
+        return Err(DAMAGED);
+    }
+    let head = book.head();
+    leaf_counts(book, &tree_of(&head), number, head.level)
 }
 
 /// Leaves with the colours of the work's region layer with this number at the pixels of a window. It reads the blocks that

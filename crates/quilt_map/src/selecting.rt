@@ -17,7 +17,7 @@ use crate::asking::{has_pixel, has_window};
 use crate::lines::{LineLayer, line_number};
 use crate::regions::{layer_under, read_region};
 use crate::session::Session;
-use crate::views::{crossed, read_segments, select_in, select_over};
+use crate::views::{crossed, crossed_with, read_segments, select_in, select_over};
 use quilt_record::Entry;
 use quilt_replies::Reply;
 use quilt_types::{Code, Kind, Name, Stop};
@@ -143,27 +143,8 @@ impl<W: World> Session<W> {
         }
     }
 
-    /// The pairs of segments of one line layer that share a point, by their ids: the layer is read once.
-    fn crossings_within<R: Threads + Sync>(&mut self, rt: &R, l: &Name) -> Result<Reply, Stop>
-        ensures answer { IfOk result (λ reply. (s : State) → IsAtState self.old s → Answered s (commands.Crossings l.now l.now) self.old self.new reply) }
-        ensures sound { IfErr result (λ e. (s : State) → IsAtState self.old s → IsSound e) }
-        ensures cause { HasStopCause (W.faults (books.world_of self.old.book)) (W.faults (books.world_of self.new.book)) result }
-        ensures keeps { KeepsAll self.old self.new }
-        ensures warm { self.new.warm ≡ self.old.warm }
-    {
-        match both_lines(self.catalog.entries(), l, l) {
-            Err(code) => Ok(Reply::No(code)),
-            Ok((layer, _)) => match read_segments(self.alloc, &mut self.book, layer) {
-                Err(stop) => Err(stop),
-                Ok(list) => {
-                    let level = self.book.head().level;
-                    crossed(rt, self.alloc, level, list.items(), list.items())
-                }
-            },
-        }
-    }
-
-    /// The pairs of a segment of the first line layer and one of the second that share a point, by their ids.
+    /// The pairs of a segment of the first line layer and one of the second that share a point, by their ids. Where they are one layer
+    /// it is read once.
     pub(crate) fn crossings<R: Threads + Sync>(
         &mut self,
         rt: &R,
@@ -176,20 +157,17 @@ impl<W: World> Session<W> {
         ensures keeps { KeepsAll self.old self.new }
         ensures warm { self.new.warm ≡ self.old.warm }
     {
-        if *l == *m {
-            return self.crossings_within(rt, l);
-        }
         match both_lines(self.catalog.entries(), l, m) {
             Err(code) => Ok(Reply::No(code)),
             Ok((first, second)) => match read_segments(self.alloc, &mut self.book, first) {
                 Err(stop) => Err(stop),
-                Ok(a) => match read_segments(self.alloc, &mut self.book, second) {
-                    Err(stop) => Err(stop),
-                    Ok(b) => {
+                Ok(a) => {
+                    if *l == *m {
                         let level = self.book.head().level;
-                        crossed(rt, self.alloc, level, a.items(), b.items())
+                        return crossed(rt, self.alloc, level, a.items(), a.items());
                     }
-                },
+                    crossed_with(rt, self.alloc, &mut self.book, &a, second)
+                }
             },
         }
     }

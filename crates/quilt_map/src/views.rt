@@ -180,3 +180,26 @@ pub(crate) fn crossed<R: Threads + Sync>(
         Ok(Some(pairs)) => told(pairs_text(alloc, pairs.items())),
     }
 }
+
+/// The reply that lists the pairs of a segment of a list and one of the work's line layer that share a point, by their ids. The list has
+/// segments of the work's square, under ids that rise.
+pub(crate) fn crossed_with<W: Disk, R: Threads + Sync>(
+    rt: &R,
+    alloc: Global,
+    book: &mut Book<W>,
+    a: &SegList,
+    layer: LineLayer,
+) -> Result<Reply, Stop>
+    requires ids { IsStrictlyIncreasing (map (λ e. e.0) a.now) }
+    requires ends { All (λ e. is_in_square (work_of book.old).level e.1 ≡ true) a.now }
+    ensures reply { IfOk result (λ reply. (first second : SegMap) (cover : BlockSet) → finmap.entries first ≡ a.now → HoldsLines book.old layer second cover →
+        Tells reply (crossed_of first second)) }
+    ensures sound { IfErr result (λ e. (segs : SegMap) (cover : BlockSet) → 1 ≤ layer.number → HoldsLines book.old layer segs cover → IsSound e) }
+    ensures still { IsStill book.old book.new }
+    ensures cause { HasStopCause (W.faults (world_of book.old)) (W.faults (world_of book.new)) result }
+{
+    match read_segments(alloc, book, layer) {
+        Err(e) => Err(e),
+        Ok(b) => crossed(rt, alloc, book.head().level, a.items(), b.items()),
+    }
+}

@@ -13,6 +13,7 @@ pub mod Apart
 pub mod Within
 pub mod Beside
 pub mod Counting
+pub mod Walking
 pub mod Nearby
 pub mod Pixels
 pub mod WithinKeys

@@ -104,7 +104,7 @@ module _ (rs : List Record) (layer n : ℕ) (g : Grid) (le : n ≤ 12) (up : Ris
   spelled_leaf r c is = Contains-map_from (leaf_record n layer) (leaves n g) r (spells.only r c is)
 
   module _ (low high : Key) (low_layer : low.layer ≡ layer) (low_part : low.part ≡ 0) (high_layer : high.layer ≡ layer) (high_part : high.part ≡ 255) where
-    in_range : (e : Block × ℕ) → is_from_to low high (leaf_record n layer e) ≡ true
+    pub in_range : (e : Block × ℕ) → is_from_to low high (leaf_record n layer e) ≡ true
     in_range e =
         let k = (leaf_record n layer e).key in
         and_from (is_le (key_cmp low k)) (is_le (key_cmp k high)) (ap is_le (less_part low k low_layer (omega arith)))

@@ -6,3 +6,4 @@ pub mod Quarters
 pub mod Regions
 pub mod Windows
 pub mod Answered
+pub mod Walks

@@ -45,6 +45,7 @@ use Rattle.quilt_map.proofs.answers.Answered.{format_is, keeps_at, warm_at}
 use Rattle.quilt_map.proofs.answers.Asked.{if_ok, if_err}
 use Rattle.quilt_map.proofs.states.Keeping.{book_idle, book_leaves, book_stands}
 use Rattle.quilt_map.proofs.answers.Orderly.{quiet_none, refused_after}
+use Rattle.quilt_map.proofs.states.Going.{goes_of}
 use Rattle.quilt_map.proofs.states.Moving.{IsLawful}
 
 goes_map : (R S : Tale → Tale → Type 0) (a b : Option Tale) → ((t u : Tale) → a ≡ Some t → R t u → S t u) → Goes R a b → Goes S a b
@@ -96,6 +97,13 @@ gives_else c gives = absurd (never_both (gives_edition c) refl gives)
 
 pub asks_else : (c : Command) → c ≡ commands.Revert → asks c ≡ false
 asks_else c is = ap asks is
+
+-- a command that only asks gives no edition and does not go back
+asks_only : (c : Command) → asks c ≡ true → (gives_edition c ≡ false) × (goes_back c ≡ false)
+asks_only commands.Publish is = absurd (never_both false refl is)
+asks_only commands.Upgrade is = absurd (never_both false refl is)
+asks_only commands.Revert is = absurd (never_both false refl is)
+asks_only c is = (refl, refl)
 
 -- what a command has that is spelled is of the format and the level of the work, and so of the last edition
 module _ {W : Type 0} {D : disk.Ghosts W} where
@@ -328,6 +336,22 @@ module _ {W : Type 0} {D : disk.Ghosts W} (old new : Session W D) (command other
     quiet = quiet_giving old new command r whole;
     back = λ is. absurd (never_both (goes_back command) (gives_else command gives).0 (ap goes_back is));
   }
+
+-- a command that only asks: all of the session stays but the last pixel, and the pages that its answer reads are few
+module _ {W : Type 0} {D : disk.Ghosts W} (old new : Session W D) (command other : Command) (is : command ≡ other) (r : Result Reply Stop) where
+  pub answered_as : IfOk r (λ reply. (s : State) → IsAtState old s → Answered s other old new reply)
+      → IfOk r (λ reply. (s : State) → IsAtState old s → Answered s command old new reply)
+  answered_as = if_ok _ _ r (λ reply p s at. subst (λ (x : Command). Answered s x old new reply) (sym is) (p s at))
+
+  pub applied_asking : asks other ≡ true → books.IsReady old.book → IsLawful (D.size new.book.world) (D.told new.book.world)
+      → IfOk r (λ reply. (s : State) → IsAtState old s → Answered s other old new reply) → IfErr r (λ e. (s : State) → IsAtState old s → IsSound e)
+      → HasStopCause (D.faults old.book.world) (D.faults new.book.world) r → KeepsAll old new
+      → ((s : State) → IsAtState old s → IsPromised s command r → ReadsFew s command (reads_in old.book) (reads_in new.book))
+      → IsAppliedBy IsAtState command old new r
+  applied_asking asking ready law answers sound cause keeps reads =
+      let only = asks_only command (ap asks is ∙ asking) in
+      applied_going old new command other (sym is) r answers sound cause reads (refused_still old new r keeps) ready
+      (goes_of old.book new.book keeps.book.later) only.0 (λ back. absurd (never_both (goes_back command) only.1 back)) (λ is. keeps_state old new law keeps)
 
 -- another last pixel leaves what was promised
 module _ {W : Type 0} {D : disk.Ghosts W} (old new : Session W D) where

@@ -3,9 +3,10 @@ use Rattle.std.proofs.lemmas.Result.{IfErr-weaker}
 use Rattle.quilt_types.specs.declared.stop.Stop.{Stop}
 use Rattle.quilt_types.specs.declared.plane.Kind.{Kind}
 use Rattle.quilt_types.specs.declared.plane.Kind.TheVariants as kinds
-use Rattle.quilt_types.specs.Layers.{Layer, Region, Points, Lines, PointMap, SegMap, BlockSet}
+use Rattle.quilt_types.specs.Layers.{Layer, Region, Points, Lines, Grid, PointMap, SegMap, BlockSet}
 use Rattle.quilt_world.specs.Disk.{Pages}
 use Rattle.quilt_btree.specs.declared.tree.Tree.{Tree}
+use Rattle.quilt_region.specs.Regions.{HasRegion}
 use Rattle.quilt_points.specs.Layers.{HasPoints}
 use Rattle.quilt_lines.specs.Layers.{HasLines}
 use Rattle.quilt_store.specs.Stops.{IsSound}
@@ -16,7 +17,14 @@ use Rattle.quilt_map.specs.LineLayers.{HoldsLines}
 use Rattle.quilt_map.specs.Sessions.{told_of, tree_in}
 use Rattle.quilt_map.proofs.counting.count_blocks.Goals as goal
 
--- what is held under a number is a point layer of this capacity
+-- what is held under a number is a region layer
+region_held : (told : Option Pages) (tree : Tree) (number n : ℕ) (layer : Layer) (T : Type 0) → kinds.Region ≡ kind_of layer
+    → HoldsIn told tree number n layer → ((grid : Grid) → HasRegion told tree number n grid → T) → T
+region_held told tree number n (Region grid) T is held f = f grid held
+region_held told tree number n (Points capacity points) T is held f = cc
+region_held told tree number n (Lines threshold segs cover) T is held f = cc
+
+-- a point layer of this capacity
 points_held : (told : Option Pages) (tree : Tree) (number n bucket : ℕ) (layer : Layer) (T : Type 0) → kinds.Points bucket ≡ kind_of layer
     → HoldsIn told tree number n layer → ((points : PointMap) → HasPoints told tree number n bucket points → T) → T
 points_held told tree number n bucket (Region grid) T is held f = cc
@@ -31,6 +39,16 @@ lines_held told tree number n most (Region grid) T is held f = cc
 lines_held told tree number n most (Points capacity points) T is held f = cc
 lines_held told tree number n most (Lines threshold segs cover) T is held f =
     let same : threshold ≡ most = cc in f segs cover (subst (λ t. HasLines told tree number n t segs cover) same held)
+
+pub returns-in-Region-clause-sound : goal.returns-in-Region-clause-sound
+returns-in-Region-clause-sound g c =
+    let b = c.args.book.now in
+    IfErr-weaker c.region_counts.result
+    (λ (e : Stop). (grid : Grid) → 1 ≤ c.args.number → HasRegion (told_of b) (tree_in b.work) c.args.number b.work.level grid → IsSound e)
+    (λ (e : Stop). (layer : Layer) → c.args.kind ≡ kind_of layer → 1 ≤ c.args.number → HoldsLayer {D = g.W.Disk} b c.args.number layer → IsSound e)
+    (λ e sound layer is some held.
+    region_held (told_of b) (tree_in b.work) c.args.number b.work.level layer (IsSound e) (sym c.in-Region.is ∙ is) held (λ grid has. sound grid some has))
+    c.region_counts.ensures.sound
 
 pub returns-in-Points-clause-sound : goal.returns-in-Points-clause-sound
 returns-in-Points-clause-sound g c =

@@ -6,7 +6,7 @@ use Rattle.quilt_map.specs.Selecting.{layer_asked}
 use Rattle.quilt_map.specs.Sessions.{IsAtState}
 use Rattle.quilt_map.specs.Steps.{asks, gives_edition, goes_back}
 use Rattle.quilt_map.proofs.questions.Bounded.{unbounded_else, unbounded_reads, find_reads, ask_reads, show_reads, within_reads, blocks_reads, window_reads}
-use Rattle.quilt_map.proofs.answers.Commanded.{applied_going, applied_giving, asks_else, fitting_here, fitting_of, keeps_state, never_both}
+use Rattle.quilt_map.proofs.answers.Commanded.{applied_asking, applied_going, applied_giving, asks_else, fitting_here, fitting_of, keeps_state, never_both}
 use Rattle.quilt_map.proofs.answers.Commanded.{sound_at, refused_still, quiet_else, forward_else, quiet_revert}
 use Rattle.quilt_map.proofs.answers.Asked.{if_ok, if_err}
 use Rattle.quilt_map.proofs.states.Going.{goes_of}
@@ -69,115 +69,59 @@ returns-in-Revert g c =
 
 pub returns-in-Find : goal.returns-in-Find
 returns-in-Find g c =
-    let old = c.args.self.now in
-    let new = c.find_point.new.self in
-    let command = c.args.command.now in
     let e = c.find_point.ensures in
-    applied_going {D = g.W.Disk} old new command (commands.Find c.in-Find.p c.in-Find.at) (sym c.in-Find.is) c.find_point.result e.answer e.sound e.cause
-    (find_reads (IsAtState {D = g.W.Disk} old) (reads_in {D = g.W.Disk} old.book)
-    (reads_in {D = g.W.Disk} new.book) command c.in-Find.p c.in-Find.at c.find_point.result c.in-Find.is e.reads)
-    (refused_still {D = g.W.Disk} old new c.find_point.result e.keeps) c.requires.ready
-    (goes_of {D = g.W.Disk} old.book new.book e.keeps.book.later) (ap gives_edition c.in-Find.is)
-    (λ is. absurd (never_both (goes_back command) (ap goes_back c.in-Find.is) is))
-    (λ is. keeps_state {D = g.W.Disk} old new (g.met.W.Disk.is_consistent new.book.world) e.keeps)
+    applied_asking {D = g.W.Disk} c.args.self.now c.find_point.new.self c.args.command.now _ c.in-Find.is c.find_point.result
+    refl c.requires.ready (g.met.W.Disk.is_consistent c.find_point.new.self.book.world) e.answer e.sound e.cause e.keeps
+    (find_reads _ _ _ c.args.command.now c.in-Find.p c.in-Find.at c.find_point.result c.in-Find.is e.reads)
 
 pub returns-in-Cross : goal.returns-in-Cross
 returns-in-Cross g c =
-    let old = c.args.self.now in
-    let new = c.ask_lines.new.self in
-    let command = c.args.command.now in
     let e = c.ask_lines.ensures in
-    applied_going {D = g.W.Disk} old new command command refl c.ask_lines.result e.answer e.sound e.cause
-    (ask_reads (IsAtState {D = g.W.Disk} old) (reads_in {D = g.W.Disk} old.book) (reads_in {D = g.W.Disk} new.book) command c.in-Cross.l c.ask_lines.result
-    (ap layer_asked c.in-Cross.is) e.reads)
-    (refused_still {D = g.W.Disk} old new c.ask_lines.result e.keeps) c.requires.ready
-    (goes_of {D = g.W.Disk} old.book new.book e.keeps.book.later) (ap gives_edition c.in-Cross.is)
-    (λ is. absurd (never_both (goes_back command) (ap goes_back c.in-Cross.is) is))
-    (λ is. keeps_state {D = g.W.Disk} old new (g.met.W.Disk.is_consistent new.book.world) e.keeps)
+    applied_asking {D = g.W.Disk} c.args.self.now c.ask_lines.new.self c.args.command.now c.args.command.now refl c.ask_lines.result
+    (ap asks c.in-Cross.is) c.requires.ready (g.met.W.Disk.is_consistent c.ask_lines.new.self.book.world) e.answer e.sound e.cause e.keeps
+    (ask_reads _ _ _ c.args.command.now c.in-Cross.l c.ask_lines.result (ap layer_asked c.in-Cross.is) e.reads)
 
 pub returns-in-Clip : goal.returns-in-Clip
 returns-in-Clip g c =
-    let old = c.args.self.now in
-    let new = c.ask_lines-in-Clip.new.self in
-    let command = c.args.command.now in
     let e = c.ask_lines-in-Clip.ensures in
-    applied_going {D = g.W.Disk} old new command command refl c.ask_lines-in-Clip.result e.answer e.sound e.cause
-    (ask_reads (IsAtState {D = g.W.Disk} old) (reads_in {D = g.W.Disk} old.book)
-    (reads_in {D = g.W.Disk} new.book) command c.in-Clip.l c.ask_lines-in-Clip.result (ap layer_asked c.in-Clip.is) e.reads)
-    (refused_still {D = g.W.Disk} old new c.ask_lines-in-Clip.result e.keeps) c.requires.ready
-    (goes_of {D = g.W.Disk} old.book new.book e.keeps.book.later) (ap gives_edition c.in-Clip.is)
-    (λ is. absurd (never_both (goes_back command) (ap goes_back c.in-Clip.is) is))
-    (λ is. keeps_state {D = g.W.Disk} old new (g.met.W.Disk.is_consistent new.book.world) e.keeps)
+    applied_asking {D = g.W.Disk} c.args.self.now c.ask_lines-in-Clip.new.self c.args.command.now c.args.command.now refl c.ask_lines-in-Clip.result
+    (ap asks c.in-Clip.is) c.requires.ready (g.met.W.Disk.is_consistent c.ask_lines-in-Clip.new.self.book.world) e.answer e.sound e.cause e.keeps
+    (ask_reads _ _ _ c.args.command.now c.in-Clip.l c.ask_lines-in-Clip.result (ap layer_asked c.in-Clip.is) e.reads)
 
 pub returns-in-Nearest : goal.returns-in-Nearest
 returns-in-Nearest g c =
-    let old = c.args.self.now in
-    let new = c.ask_lines-in-Nearest.new.self in
-    let command = c.args.command.now in
     let e = c.ask_lines-in-Nearest.ensures in
-    applied_going {D = g.W.Disk} old new command command refl c.ask_lines-in-Nearest.result e.answer e.sound e.cause
-    (ask_reads (IsAtState {D = g.W.Disk} old) (reads_in {D = g.W.Disk} old.book)
-    (reads_in {D = g.W.Disk} new.book) command c.in-Nearest.l c.ask_lines-in-Nearest.result (ap layer_asked c.in-Nearest.is) e.reads)
-    (refused_still {D = g.W.Disk} old new c.ask_lines-in-Nearest.result e.keeps) c.requires.ready
-    (goes_of {D = g.W.Disk} old.book new.book e.keeps.book.later) (ap gives_edition c.in-Nearest.is)
-    (λ is. absurd (never_both (goes_back command) (ap goes_back c.in-Nearest.is) is))
-    (λ is. keeps_state {D = g.W.Disk} old new (g.met.W.Disk.is_consistent new.book.world) e.keeps)
+    applied_asking {D = g.W.Disk} c.args.self.now c.ask_lines-in-Nearest.new.self c.args.command.now c.args.command.now refl c.ask_lines-in-Nearest.result
+    (ap asks c.in-Nearest.is) c.requires.ready (g.met.W.Disk.is_consistent c.ask_lines-in-Nearest.new.self.book.world) e.answer e.sound e.cause e.keeps
+    (ask_reads _ _ _ c.args.command.now c.in-Nearest.l c.ask_lines-in-Nearest.result (ap layer_asked c.in-Nearest.is) e.reads)
 
 pub returns-in-Rank : goal.returns-in-Rank
 returns-in-Rank g c =
-    let old = c.args.self.now in
-    let new = c.ask_lines-in-Rank.new.self in
-    let command = c.args.command.now in
     let e = c.ask_lines-in-Rank.ensures in
-    applied_going {D = g.W.Disk} old new command command refl c.ask_lines-in-Rank.result e.answer e.sound e.cause
-    (ask_reads (IsAtState {D = g.W.Disk} old) (reads_in {D = g.W.Disk} old.book)
-    (reads_in {D = g.W.Disk} new.book) command c.in-Rank.l c.ask_lines-in-Rank.result (ap layer_asked c.in-Rank.is) e.reads)
-    (refused_still {D = g.W.Disk} old new c.ask_lines-in-Rank.result e.keeps) c.requires.ready
-    (goes_of {D = g.W.Disk} old.book new.book e.keeps.book.later) (ap gives_edition c.in-Rank.is)
-    (λ is. absurd (never_both (goes_back command) (ap goes_back c.in-Rank.is) is))
-    (λ is. keeps_state {D = g.W.Disk} old new (g.met.W.Disk.is_consistent new.book.world) e.keeps)
+    applied_asking {D = g.W.Disk} c.args.self.now c.ask_lines-in-Rank.new.self c.args.command.now c.args.command.now refl c.ask_lines-in-Rank.result
+    (ap asks c.in-Rank.is) c.requires.ready (g.met.W.Disk.is_consistent c.ask_lines-in-Rank.new.self.book.world) e.answer e.sound e.cause e.keeps
+    (ask_reads _ _ _ c.args.command.now c.in-Rank.l c.ask_lines-in-Rank.result (ap layer_asked c.in-Rank.is) e.reads)
 
 pub returns-in-Show : goal.returns-in-Show
 returns-in-Show g c =
-    let old = c.args.self.now in
-    let new = c.show.new.self in
-    let command = c.args.command.now in
     let e = c.show.ensures in
-    applied_going {D = g.W.Disk} old new command (commands.Show c.in-Show.a c.in-Show.w) (sym c.in-Show.is) c.show.result e.answer e.sound e.cause
-    (show_reads (IsAtState {D = g.W.Disk} old) (reads_in {D = g.W.Disk} old.book) (reads_in {D = g.W.Disk} new.book) command c.in-Show.a c.in-Show.w c.show.result
-    c.in-Show.is e.reads)
-    (refused_still {D = g.W.Disk} old new c.show.result e.keeps) c.requires.ready
-    (goes_of {D = g.W.Disk} old.book new.book e.keeps.book.later) (ap gives_edition c.in-Show.is)
-    (λ is. absurd (never_both (goes_back command) (ap goes_back c.in-Show.is) is))
-    (λ is. keeps_state {D = g.W.Disk} old new (g.met.W.Disk.is_consistent new.book.world) e.keeps)
+    applied_asking {D = g.W.Disk} c.args.self.now c.show.new.self c.args.command.now _ c.in-Show.is c.show.result
+    refl c.requires.ready (g.met.W.Disk.is_consistent c.show.new.self.book.world) e.answer e.sound e.cause e.keeps
+    (show_reads _ _ _ c.args.command.now c.in-Show.a c.in-Show.w c.show.result c.in-Show.is e.reads)
 
 pub returns-in-Within : goal.returns-in-Within
 returns-in-Within g c =
-    let old = c.args.self.now in
-    let new = c.points_within.new.self in
-    let command = c.args.command.now in
     let e = c.points_within.ensures in
-    applied_going {D = g.W.Disk} old new command (commands.Within c.in-Within.p c.in-Within.w) (sym c.in-Within.is) c.points_within.result e.answer e.sound e.cause
-    (within_reads (IsAtState {D = g.W.Disk} old) (reads_in {D = g.W.Disk} old.book) (reads_in {D = g.W.Disk} new.book) command c.in-Within.p c.in-Within.w c.points_within.result
-    c.in-Within.is e.reads)
-    (refused_still {D = g.W.Disk} old new c.points_within.result e.keeps) c.requires.ready
-    (goes_of {D = g.W.Disk} old.book new.book e.keeps.book.later) (ap gives_edition c.in-Within.is)
-    (λ is. absurd (never_both (goes_back command) (ap goes_back c.in-Within.is) is))
-    (λ is. keeps_state {D = g.W.Disk} old new (g.met.W.Disk.is_consistent new.book.world) e.keeps)
+    applied_asking {D = g.W.Disk} c.args.self.now c.points_within.new.self c.args.command.now _ c.in-Within.is c.points_within.result
+    refl c.requires.ready (g.met.W.Disk.is_consistent c.points_within.new.self.book.world) e.answer e.sound e.cause e.keeps
+    (within_reads _ _ _ c.args.command.now c.in-Within.p c.in-Within.w c.points_within.result c.in-Within.is e.reads)
 
 pub returns-in-Blocks : goal.returns-in-Blocks
 returns-in-Blocks g c =
-    let old = c.args.self.now in
-    let new = c.blocks-in-Blocks.new.self in
-    let command = c.args.command.now in
     let e = c.blocks-in-Blocks.ensures in
-    applied_going {D = g.W.Disk} old new command (commands.Blocks c.in-Blocks.a) (sym c.in-Blocks.is) c.blocks-in-Blocks.result e.answer e.sound e.cause
-    (blocks_reads (IsAtState {D = g.W.Disk} old) (reads_in {D = g.W.Disk} old.book) (reads_in {D = g.W.Disk} new.book) command c.in-Blocks.a c.blocks-in-Blocks.result
-    c.in-Blocks.is e.reads)
-    (refused_still {D = g.W.Disk} old new c.blocks-in-Blocks.result e.keeps) c.requires.ready
-    (goes_of {D = g.W.Disk} old.book new.book e.keeps.book.later) (ap gives_edition c.in-Blocks.is)
-    (λ is. absurd (never_both (goes_back command) (ap goes_back c.in-Blocks.is) is))
-    (λ is. keeps_state {D = g.W.Disk} old new (g.met.W.Disk.is_consistent new.book.world) e.keeps)
+    applied_asking {D = g.W.Disk} c.args.self.now c.blocks-in-Blocks.new.self c.args.command.now _ c.in-Blocks.is c.blocks-in-Blocks.result
+    refl c.requires.ready (g.met.W.Disk.is_consistent c.blocks-in-Blocks.new.self.book.world) e.answer e.sound e.cause e.keeps
+    (blocks_reads _ _ _ c.args.command.now c.in-Blocks.a c.blocks-in-Blocks.result c.in-Blocks.is e.reads)
 
 pub returns-in-Window : goal.returns-in-Window
 returns-in-Window g c =

@@ -6,7 +6,7 @@ use Rattle.quilt_map.proofs.answers.Asked.{if_ok, if_err}
 use Rattle.quilt_map.proofs.states.ChangeSteps.{goes_here}
 use Rattle.quilt_map.specs.Steps.{asks}
 use Rattle.quilt_map.proofs.answers.Answered.{keeps_here}
-use Rattle.quilt_map.proofs.answers.Commanded.{fitting_here, fitting_of, never_both, refused_still}
+use Rattle.quilt_map.proofs.answers.Commanded.{answered_as, fitting_here, fitting_of, never_both, refused_still}
 use Rattle.quilt_map.proofs.session.Session.serve.Goals as goal
 
 pub returns-in-Region-clause-answer : goal.returns-in-Region-clause-answer
@@ -65,30 +65,23 @@ returns-in-Edition-clause-goes_on g c = goes_here {D = g.W.Disk} c.args.self.now
 
 pub returns-in-Drop-clause-answer : goal.returns-in-Drop-clause-answer
 returns-in-Drop-clause-answer g c =
-    if_ok _ _ c.drop_layer.result (λ reply p s at.
-    subst (λ (x : Command). Answered {D = g.W.Disk} s x c.args.self.now c.drop_layer.new.self reply) (sym c.in-Drop.is) (p s at)) c.drop_layer.ensures.answer
+    answered_as {D = g.W.Disk} c.args.self.now c.drop_layer.new.self c.args.command.now _ c.in-Drop.is c.drop_layer.result c.drop_layer.ensures.answer
 
 pub returns-in-Copy-clause-answer : goal.returns-in-Copy-clause-answer
 returns-in-Copy-clause-answer g c =
-    if_ok _ _ c.copy_layer.result (λ reply p s at.
-    subst (λ (x : Command). Answered {D = g.W.Disk} s x c.args.self.now c.copy_layer.new.self reply) (sym c.in-Copy.is) (p s at)) c.copy_layer.ensures.answer
+    answered_as {D = g.W.Disk} c.args.self.now c.copy_layer.new.self c.args.command.now _ c.in-Copy.is c.copy_layer.result c.copy_layer.ensures.answer
 
 pub returns-in-Union-clause-answer : goal.returns-in-Union-clause-answer
 returns-in-Union-clause-answer g c =
-    if_ok _ _ c.overlay.result (λ reply p s at.
-    subst (λ (x : Command). Answered {D = g.W.Disk} s x c.args.self.now c.overlay.new.self reply) (sym c.in-Union.is) (p s at)) c.overlay.ensures.answer
+    answered_as {D = g.W.Disk} c.args.self.now c.overlay.new.self c.args.command.now _ c.in-Union.is c.overlay.result c.overlay.ensures.answer
 
 pub returns-in-Inter-clause-answer : goal.returns-in-Inter-clause-answer
 returns-in-Inter-clause-answer g c =
-    if_ok _ _ c.overlay-in-Inter.result (λ reply p s at.
-    subst (λ (x : Command). Answered {D = g.W.Disk} s x c.args.self.now c.overlay-in-Inter.new.self reply) (sym c.in-Inter.is)
-    (p s at)) c.overlay-in-Inter.ensures.answer
+    answered_as {D = g.W.Disk} c.args.self.now c.overlay-in-Inter.new.self c.args.command.now _ c.in-Inter.is c.overlay-in-Inter.result c.overlay-in-Inter.ensures.answer
 
 pub returns-in-Diff-clause-answer : goal.returns-in-Diff-clause-answer
 returns-in-Diff-clause-answer g c =
-    if_ok _ _ c.overlay-in-Diff.result (λ reply p s at.
-    subst (λ (x : Command). Answered {D = g.W.Disk} s x c.args.self.now c.overlay-in-Diff.new.self reply) (sym c.in-Diff.is)
-    (p s at)) c.overlay-in-Diff.ensures.answer
+    answered_as {D = g.W.Disk} c.args.self.now c.overlay-in-Diff.new.self c.args.command.now _ c.in-Diff.is c.overlay-in-Diff.result c.overlay-in-Diff.ensures.answer
 
 pub returns-in-Recolour-clause-answer : goal.returns-in-Recolour-clause-answer
 returns-in-Recolour-clause-answer g c =
@@ -132,8 +125,7 @@ raster-requires-clause-rows g c κs within =
 
 pub returns-in-Raster-clause-answer : goal.returns-in-Raster-clause-answer
 returns-in-Raster-clause-answer g c =
-    if_ok _ _ c.raster.result (λ reply p s at.
-    subst (λ (x : Command). Answered {D = g.W.Disk} s x c.args.self.now c.raster.new.self reply) (sym c.in-Raster.is) (p s at)) c.raster.ensures.answer
+    answered_as {D = g.W.Disk} c.args.self.now c.raster.new.self c.args.command.now _ c.in-Raster.is c.raster.result c.raster.ensures.answer
 
 pub returns-in-Polygon-clause-answer : goal.returns-in-Polygon-clause-answer
 returns-in-Polygon-clause-answer g c =
@@ -169,18 +161,15 @@ returns-in-Points-clause-sound g c =
 
 pub returns-in-Put-clause-answer : goal.returns-in-Put-clause-answer
 returns-in-Put-clause-answer g c =
-    if_ok _ _ c.put_point.result (λ reply p s at.
-    subst (λ (x : Command). Answered {D = g.W.Disk} s x c.args.self.now c.put_point.new.self reply) (sym c.in-Put.is) (p s at)) c.put_point.ensures.answer
+    answered_as {D = g.W.Disk} c.args.self.now c.put_point.new.self c.args.command.now _ c.in-Put.is c.put_point.result c.put_point.ensures.answer
 
 pub returns-in-Del-clause-answer : goal.returns-in-Del-clause-answer
 returns-in-Del-clause-answer g c =
-    if_ok _ _ c.del_point.result (λ reply p s at.
-    subst (λ (x : Command). Answered {D = g.W.Disk} s x c.args.self.now c.del_point.new.self reply) (sym c.in-Del.is) (p s at)) c.del_point.ensures.answer
+    answered_as {D = g.W.Disk} c.args.self.now c.del_point.new.self c.args.command.now _ c.in-Del.is c.del_point.result c.del_point.ensures.answer
 
 pub returns-in-Scatter-clause-answer : goal.returns-in-Scatter-clause-answer
 returns-in-Scatter-clause-answer g c =
-    if_ok _ _ c.scatter.result (λ reply p s at.
-    subst (λ (x : Command). Answered {D = g.W.Disk} s x c.args.self.now c.scatter.new.self reply) (sym c.in-Scatter.is) (p s at)) c.scatter.ensures.answer
+    answered_as {D = g.W.Disk} c.args.self.now c.scatter.new.self c.args.command.now _ c.in-Scatter.is c.scatter.result c.scatter.ensures.answer
 
 pub make_lines-requires : goal.make_lines-requires
 make_lines-requires g c =
@@ -189,34 +178,27 @@ make_lines-requires g c =
 
 pub returns-in-Lines-clause-answer : goal.returns-in-Lines-clause-answer
 returns-in-Lines-clause-answer g c =
-    if_ok _ _ c.make_lines.result (λ reply p s at.
-    subst (λ (x : Command). Answered {D = g.W.Disk} s x c.args.self.now c.make_lines.new.self reply) (sym c.in-Lines.is) (p s at)) c.make_lines.ensures.answer
+    answered_as {D = g.W.Disk} c.args.self.now c.make_lines.new.self c.args.command.now _ c.in-Lines.is c.make_lines.result c.make_lines.ensures.answer
 
 pub returns-in-Line-clause-answer : goal.returns-in-Line-clause-answer
 returns-in-Line-clause-answer g c =
-    if_ok _ _ c.line.result (λ reply p s at.
-    subst (λ (x : Command). Answered {D = g.W.Disk} s x c.args.self.now c.line.new.self reply) (sym c.in-Line.is) (p s at)) c.line.ensures.answer
+    answered_as {D = g.W.Disk} c.args.self.now c.line.new.self c.args.command.now _ c.in-Line.is c.line.result c.line.ensures.answer
 
 pub returns-in-Unline-clause-answer : goal.returns-in-Unline-clause-answer
 returns-in-Unline-clause-answer g c =
-    if_ok _ _ c.unline.result (λ reply p s at.
-    subst (λ (x : Command). Answered {D = g.W.Disk} s x c.args.self.now c.unline.new.self reply) (sym c.in-Unline.is) (p s at)) c.unline.ensures.answer
+    answered_as {D = g.W.Disk} c.args.self.now c.unline.new.self c.args.command.now _ c.in-Unline.is c.unline.result c.unline.ensures.answer
 
 pub returns-in-Over-clause-answer : goal.returns-in-Over-clause-answer
 returns-in-Over-clause-answer g c =
-    if_ok _ _ c.over.result (λ reply p s at.
-    subst (λ (x : Command). Answered {D = g.W.Disk} s x c.args.self.now c.over.new.self reply) (sym c.in-Over.is) (p s at)) c.over.ensures.answer
+    answered_as {D = g.W.Disk} c.args.self.now c.over.new.self c.args.command.now _ c.in-Over.is c.over.result c.over.ensures.answer
 
 pub returns-in-Crossings-clause-answer : goal.returns-in-Crossings-clause-answer
 returns-in-Crossings-clause-answer g c =
-    if_ok _ _ c.crossings.result (λ reply p s at.
-    subst (λ (x : Command). Answered {D = g.W.Disk} s x c.args.self.now c.crossings.new.self reply) (sym c.in-Crossings.is) (p s at)) c.crossings.ensures.answer
+    answered_as {D = g.W.Disk} c.args.self.now c.crossings.new.self c.args.command.now _ c.in-Crossings.is c.crossings.result c.crossings.ensures.answer
 
 pub returns-in-Leaves-clause-answer : goal.returns-in-Leaves-clause-answer
 returns-in-Leaves-clause-answer g c =
-    if_ok _ _ c.leaves.result (λ reply p s at.
-    subst (λ (x : Command). Answered {D = g.W.Disk} s x c.args.self.now c.leaves.new.self reply) (sym c.in-Leaves.is)
-    (p s at)) c.leaves.ensures.answer
+    answered_as {D = g.W.Disk} c.args.self.now c.leaves.new.self c.args.command.now _ c.in-Leaves.is c.leaves.result c.leaves.ensures.answer
 
 -- ---- what asks, and what does not
 
