@@ -43,6 +43,20 @@ fn texts_of<'a>(alloc: Global, words: &'a [String]) -> Result<Vec<&'a str>, Allo
     Ok(texts)
 }
 
+/// Does once what these texts ask for.
+fn run_texts<'a, R: Threads + Sync, S: System>(
+    rt: &R,
+    alloc: Global,
+    texts: &'a [&'a str],
+    system: S,
+) -> (End, S)
+    requires { IfSome (S.told system) IsFresh }
+    ensures { IfTold (Does (asked_for (map (λ t. t.now) texts.entry.now)) result.0) (S.told system) (S.told result.1) }
+{
+    let (end, world) = run_quilt(rt, alloc, texts, HostWorld::new(system));
+    (end, world.into_system())
+}
+
 /// Does what the words behind the first ask for.
 fn run_words<R: Threads + Sync, S: System>(
     rt: &R,
@@ -59,8 +73,14 @@ fn run_words<R: Threads + Sync, S: System>(
     if !has_room(words.len(), texts.len()) {
         return (End::Memory, system);
     }
-    let (end, world) = run_quilt(rt, alloc, &texts, HostWorld::new(system));
-    (end, world.into_system())
+    run_texts(rt, alloc, &texts, system)
+}
+
+/// The exit status of an end.
+fn code_of(end: End) -> ExitCode
+    ensures { exit_status result ≡ status_of end }
+{
+    ExitCode::from(end.status())
 }
 
 /// Does what the words of the call ask for.
@@ -88,7 +108,7 @@ pub(crate) fn run<R: Threads + Sync, S: System>(rt: &R, alloc: Global, system: S
     let said = report(&mut system, end);
     Ran {
         end,
-        code: ExitCode::from(end.status()),
+        code: code_of(end),
         said,
         system,
     }
