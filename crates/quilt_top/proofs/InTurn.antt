@@ -9,7 +9,6 @@ use Rattle.quilt_world.specs.Disk.{Pages, Log, CanLeave}
 use Rattle.quilt_world.specs.Doors.{OpensAt, MakesAt, attached}
 use Rattle.quilt_world.specs.Home.{IsMapFile}
 use Rattle.quilt_world.specs.Tale.{Tale, Goes, Begins, put_bytes, taken_bytes}
-use Rattle.quilt_world.specs.declared.disk.Disk as disk
 use Rattle.quilt_world.specs.declared.disk.Fault.{Fault}
 use Rattle.quilt_world.specs.declared.world.Attached.{Attached}
 use Rattle.quilt_world.specs.declared.disk.Door.{Door}
@@ -18,9 +17,7 @@ use Rattle.quilt_edition.specs.Stands.{Stands}
 use Rattle.quilt_edition.proofs.OneEdition.{stands_once}
 use Rattle.quilt_replies.specs.Answers.{State}
 use Rattle.quilt_replies.specs.Runs.{run}
-use Rattle.quilt_map.specs.Sessions.{IsAt, level_of, first_state}
-use Rattle.quilt_map.specs.declared.session.Session.{Session}
-use Rattle.quilt_map.proofs.Laws.{at_level}
+use Rattle.quilt_map.specs.Sessions.{first_state}
 use Rattle.quilt_top.specs.declared.orders.Source.{Source}
 use Rattle.quilt_top.specs.declared.orders.Source.TheVariants as sources
 use Rattle.quilt_top.specs.declared.run.End.{End}
@@ -179,29 +176,29 @@ module _ (path : List ℕ) (door : Door) where
       ap put_bytes pages.log ∙ put_bytes-append v.log pages.events
       ∙ ap (λ (l : List ℕ). l ++ put_bytes pages.events) (pages_unput v.log (opened_untold u v new keeps)) ∙ pages_unput pages.events pages.only
 
-  module _ (pool : ℕ) (now : Door) {W : Type 0} {D : disk.Ghosts W} (session : Session W D) where
+  module _ (pool : ℕ) (now : Door) (At : State → Type 0) (level : ℕ) (leveled : (s : State) → At s → s.last.level ≡ level) where
     -- what opening found
     abbrev pub Found : Option Tale → Type 0
-    Found m = IfSome m (λ t. (k : ℕ) × IsMapFile t.start k × (e : Edition) × Stands t.start e × IsAt session (first_state k e))
+    Found m = IfSome m (λ t. (k : ℕ) × IsMapFile t.start k × (e : Edition) × Stands t.start e × At (first_state k e))
 
     pub ran_more : (end : End) (o m n p : Option Tale) → Goes (OpensAt path door) o m → Goes Keeps m n → Found m
-        → ((s : State) → IsAt session s → Goes (RunsTo (level_of session) s end) n p) → WhereTold (More sources.Input path pool now end) o p
+        → ((s : State) → At s → Goes (RunsTo level s end) n p) → WhereTold (More sources.Input path pool now end) o p
     ran_more end None m n p opens keeps found runs = tt
     ran_more end (Some t) None n p opens keeps found runs = absurd opens
     ran_more end (Some t) (Some u) None p opens keeps found runs = absurd keeps
     ran_more end (Some t) (Some u) (Some v) None opens keeps found runs = absurd (runs (first_state found.0 found.2) found.4)
     ran_more end (Some t) (Some u) (Some v) (Some w) opens keeps found runs =
         let s = first_state found.0 found.2 in
-        let so : RunsTo found.2.level s end v w = subst (λ n. RunsTo n s end v w) (sym (at_level session s found.4)) (runs s found.4) in
+        let so : RunsTo found.2.level s end v w = subst (λ n. RunsTo n s end v w) (sym (leveled s found.4)) (runs s found.4) in
         λ ready. ran_turn found.0 found.2 end t u v w opens keeps found.1 found.3 so
 
     pub tried_more : (seed count : ℕ) (end : End) (o m n p : Option Tale) → Goes (OpensAt path door) o m → Goes Keeps m n → Found m
-        → ((s : State) → IsAt session s → Goes (TriesTo (level_of session) (trial_run (level_of session) s seed count) end) n p)
+        → ((s : State) → At s → Goes (TriesTo level (trial_run level s seed count) end) n p)
         → WhereTold (More (sources.Trial seed count) path pool now end) o p
     tried_more seed count end None m n p opens keeps found tries = tt
     tried_more seed count end (Some t) None n p opens keeps found tries = absurd opens
     tried_more seed count end (Some t) (Some u) None p opens keeps found tries = absurd keeps
     tried_more seed count end (Some t) (Some u) (Some v) None opens keeps found tries = absurd (tries (first_state found.0 found.2) found.4)
     tried_more seed count end (Some t) (Some u) (Some v) (Some w) opens keeps found tries =
-        λ ready. tried_turn u v w end (level_of session) (trial_run (level_of session) (first_state found.0 found.2) seed count) opens.fresh.log keeps
+        λ ready. tried_turn u v w end level (trial_run level (first_state found.0 found.2) seed count) opens.fresh.log keeps
         (tries (first_state found.0 found.2) found.4)

@@ -9,7 +9,6 @@ use Rattle.quilt_world.specs.Disk.{Pages, Log, CanLeave}
 use Rattle.quilt_world.specs.Doors.{OpensAt, attached}
 use Rattle.quilt_world.specs.Home.{IsMapFile, home}
 use Rattle.quilt_world.specs.Tale.{Tale, Goes, Begins}
-use Rattle.quilt_world.specs.declared.disk.Disk as disk
 use Rattle.quilt_world.specs.declared.disk.Fault.{Fault}
 use Rattle.quilt_world.specs.declared.world.Attached.{Attached}
 use Rattle.quilt_world.specs.declared.disk.Door.{Door}
@@ -17,9 +16,7 @@ use Rattle.quilt_world.specs.declared.disk.Door.TheVariants as doors
 use Rattle.quilt_edition.specs.Stands.{Stands, IsDamagePage}
 use Rattle.quilt_edition.proofs.OneEdition.{stands_once, home_length}
 use Rattle.quilt_replies.specs.Answers.{State}
-use Rattle.quilt_map.specs.Sessions.{IsAt, level_of, first_state}
-use Rattle.quilt_map.specs.declared.session.Session.{Session}
-use Rattle.quilt_map.proofs.Laws.{at_level}
+use Rattle.quilt_map.specs.Sessions.{first_state}
 use Rattle.quilt_top.specs.declared.orders.Source.{Source}
 use Rattle.quilt_top.specs.declared.orders.Source.TheVariants as sources
 use Rattle.quilt_top.specs.declared.run.End.{End}
@@ -278,26 +275,26 @@ module _ (path : List ℕ) (pool : ℕ) (rose : Type 0) (door now : Door) (ready
       (subst (λ (f : Edition). Runs source n f rose end t w) (stands_once w.start E first stands_w stands_too)
       (runs_by source n E end rose t v w so untold early input one device)))
 
-  module _ {W : Type 0} {D : disk.Ghosts W} (session : Session W D) where
+  module _ (At : State → Type 0) (level : ℕ) (leveled : (s : State) → At s → s.last.level ≡ level) where
     -- what opening found
     abbrev Found : Option Tale → Type 0
-    Found m = IfSome m (λ t. (k : ℕ) × IsMapFile t.start k × (e : Edition) × Stands t.start e × IsAt session (first_state k e))
+    Found m = IfSome m (λ t. (k : ℕ) × IsMapFile t.start k × (e : Edition) × Stands t.start e × At (first_state k e))
 
-    pub ran : (end : End) (o m n p : Option Tale) → (end ≡ ends.Device → rose) → ((s : State) → IsAt session s → IsOneOf end run_ends)
+    pub ran : (end : End) (o m n p : Option Tale) → (end ≡ ends.Device → rose) → ((s : State) → At s → IsOneOf end run_ends)
         → Goes (OpensAt path door) o m → Goes Keeps m n → Found m
-        → ((s : State) → IsAt session s → Goes (RunsTo (level_of session) s end) n p) → WhereTold (Promise sources.Input path pool rose now end) o p
+        → ((s : State) → At s → Goes (RunsTo level s end) n p) → WhereTold (Promise sources.Input path pool rose now end) o p
     ran end None m n p device one opens keeps found runs = tt
     ran end (Some t) None n p device one opens keeps found runs = absurd opens
     ran end (Some t) (Some u) None p device one opens keeps found runs = absurd keeps
     ran end (Some t) (Some u) (Some v) None device one opens keeps found runs = absurd (runs (first_state found.0 found.2) found.4)
     ran end (Some t) (Some u) (Some v) (Some w) device one opens keeps found runs =
         let s = first_state found.0 found.2 in
-        let so : RunsTo found.2.level s end v w = subst (λ n. RunsTo n s end v w) (sym (at_level session s found.4)) (runs s found.4) in
+        let so : RunsTo found.2.level s end v w = subst (λ n. RunsTo n s end v w) (sym (leveled s found.4)) (runs s found.4) in
         ran_over sources.Input end found.0 found.2 t u v w device (λ much. refl) (one s found.4) opens keeps found.1 found.3 so.runs.file.start so
 
     pub tried : (seed count : ℕ) (end : End) (o m n p : Option Tale) → (end ≡ ends.Device → rose) → (end ≡ ends.TooMuch → ⊥)
-        → ((s : State) → IsAt session s → IsOneOf end run_ends) → Goes (OpensAt path door) o m → Goes Keeps m n → Found m
-        → ((s : State) → IsAt session s → Goes (TriesTo (level_of session) (trial_run (level_of session) s seed count) end) n p)
+        → ((s : State) → At s → IsOneOf end run_ends) → Goes (OpensAt path door) o m → Goes Keeps m n → Found m
+        → ((s : State) → At s → Goes (TriesTo level (trial_run level s seed count) end) n p)
         → WhereTold (Promise (sources.Trial seed count) path pool rose now end) o p
     tried seed count end None m n p device short one opens keeps found tries = tt
     tried seed count end (Some t) None n p device short one opens keeps found tries = absurd opens
@@ -306,6 +303,6 @@ module _ (path : List ℕ) (pool : ℕ) (rose : Type 0) (door now : Door) (ready
     tried seed count end (Some t) (Some u) (Some v) (Some w) device short one opens keeps found tries =
         let s = first_state found.0 found.2 in
         let so : TriesTo found.2.level (trial_run found.2.level s seed count) end v w =
-        subst (λ n. TriesTo n (trial_run n s seed count) end v w) (sym (at_level session s found.4)) (tries s found.4) in
+        subst (λ n. TriesTo n (trial_run n s seed count) end v w) (sym (leveled s found.4)) (tries s found.4) in
         ran_over (sources.Trial seed count) end found.0 found.2 t u v w device (λ much. absurd (short much)) (one s found.4) opens keeps found.1 found.3
         (so.front.concludes.text.file.start ∙ so.front.concludes.tries.pages.file.start) so

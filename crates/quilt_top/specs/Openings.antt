@@ -16,11 +16,18 @@ use Rattle.quilt_edition.specs.Stands.{HoldsEdition, Stands, IsDamagePage}
 use Rattle.quilt_audit.specs.Surveys.{IsDamage}
 use Rattle.quilt_words.specs.Items.{items_of}
 use Rattle.quilt_replies.specs.Answers.{State}
-use Rattle.quilt_map.specs.Sessions.{IsAt, IsReady, world_of, changes_of, first_state}
+use Rattle.quilt_record.specs.declared.entry.Entry.{Entry}
+use Rattle.quilt_edition.specs.declared.book.Book.{Book}
+use Rattle.quilt_edition.specs.declared.start.Started.{Started}
+use Rattle.quilt_edition.specs.declared.start.Started.TheVariants as started
+use Rattle.quilt_edition.specs.Books as books
+use Rattle.quilt_map.specs.Sessions.{IsNumbered, IsOpened, changed_of, free_of, first_state}
 use Rattle.quilt_top.specs.declared.halt.Halt.{Halt}
 use Rattle.quilt_top.specs.declared.halt.Halt.TheVariants as halts
 use Rattle.quilt_top.specs.declared.opening.Opened.{Opened}
 use Rattle.quilt_top.specs.declared.opening.Opened.TheVariants as opened
+use Rattle.quilt_top.specs.declared.opening.Begun.{Begun}
+use Rattle.quilt_top.specs.declared.opening.Begun.TheVariants as begun
 use Rattle.quilt_top.specs.declared.run.End.{End}
 use Rattle.quilt_top.specs.declared.run.End.TheVariants as ends
 use Rattle.quilt_top.specs.Headline.{IsOneOf, IsNoMap, StandsForNothing}
@@ -38,35 +45,55 @@ pub record Keeps (old new : Tale) : Type 0 where
   pub other : IsNoMap old.start → new.log ≡ old.log
 
 module _ {W : Type 0} {D : disk.Ghosts W} where
+  -- what a book on the heap was opened as
+  abbrev pub started_of : Begun W D → Started W D
+  started_of (begun.Ready book) = started.Ready book.value
+  started_of (begun.NotMap world) = started.NotMap world
+  started_of (begun.Stopped world stop) = started.Stopped world stop
+
+  -- a book that was just opened, with the catalog that was found in it: nothing is changed yet
+  pub record IsBegun (book : Book W D) (catalog : List Entry) : Type 0 where
+    pub ready : books.IsReady book
+    pub numbered : IsNumbered catalog
+    pub unchanged : changed_of book ≡ 0
+    pub heads : books.work_of book ≡ books.last_of book
+    pub free : (page : ℕ) → free_of book page ≡ books.published_free book page
+
+  -- the state over the edition that the file of such a book stands for
+  pub record IsFirst (book : Book W D) (catalog : List Entry) (s : State) : Type 0 where
+    pub edition : Edition
+    pub opened : IsOpened book catalog edition
+    pub state : s ≡ first_state (books.pages_of book) edition
+
   -- the world that each answer holds
   abbrev pub world_in : Opened W D → W
-  world_in (opened.Map session) = world_of session
+  world_in (opened.Map book catalog) = books.world_of book.value
   world_in (opened.NotMap world) = world
   world_in (opened.Stopped world stop) = world
 
   -- nothing is changed yet
   abbrev pub IsUnchanged : Opened W D → Type 0
-  IsUnchanged (opened.Map session) = IsReady session × (changes_of session ≡ 0)
+  IsUnchanged (opened.Map book catalog) = IsBegun book.value catalog
   IsUnchanged (opened.NotMap world) = Unit {0}
   IsUnchanged (opened.Stopped world stop) = Unit {0}
 
   -- a device fault comes only where faults rose
   abbrev pub HasCauseOf : ℕ → ℕ → Opened W D → Type 0
-  HasCauseOf before now (opened.Map session) = Unit {0}
+  HasCauseOf before now (opened.Map book catalog) = Unit {0}
   HasCauseOf before now (opened.NotMap world) = Unit {0}
   HasCauseOf before now (opened.Stopped world stop) = stop ≡ stops.Device → Rose before now
 
   -- what the home pages of a book with this header are found to hold
   abbrev pub HoldsAs : ℕ → Head → Pages → Opened W D → Type 0
-  HoldsAs n last pages (opened.Map session) =
-      (e : Edition) × HoldsEdition pages e × IsAt session (first_state n e)
+  HoldsAs n last pages (opened.Map book catalog) =
+      (e : Edition) × HoldsEdition pages e × IsFirst book.value catalog (first_state n e)
   HoldsAs n last pages (opened.NotMap world) = ⊥
   HoldsAs n last pages (opened.Stopped world stop) = (page : ℕ) → stop ≡ stops.Damaged page → IsDamage pages last page
 
   -- what a file is found to be
   abbrev pub FindsAt : Pages → Opened W D → Type 0
-  FindsAt start (opened.Map session) =
-      (n : ℕ) × IsMapFile start n × (e : Edition) × Stands start e × IsAt session (first_state n e)
+  FindsAt start (opened.Map book catalog) =
+      (n : ℕ) × IsMapFile start n × (e : Edition) × Stands start e × IsFirst book.value catalog (first_state n e)
   FindsAt start (opened.NotMap world) = IsNoMap start
   FindsAt start (opened.Stopped world stop) =
       (page : ℕ) → stop ≡ stops.Damaged page → (n : ℕ) × IsMapFile start n × IsDamagePage (home start n) page × StandsForNothing start

@@ -142,6 +142,7 @@ fn order_of<'a>(matches: &ArgMatches<'a>) -> Option<Order<'a>>
 }
 
 /// What the words ask for, if they are `new FILE PAGES LEVEL`, or `run FILE` or `trial FILE SEED COUNT` with at most one `--pool P`.
+#[inline(never)]
 pub(crate) fn read_order<'a>(
     alloc: Global,
     words: &'a [&'a str],

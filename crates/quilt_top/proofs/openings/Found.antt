@@ -207,7 +207,7 @@ module _ (j : View) (es : Entries) (last : Head) (idle : j.state ≡ Idle) where
   module _ {W : Type 0} {D : disk.Ghosts W} where
     one_found : (result : Opened W D) (t u : Tale) → IsNew t → IsConsistent t → BookOpened j.pages last t u
         → HoldsAs j.pages last (published u j.pages) result → FindsAt t.start result
-    one_found (opened.Map session) t u new law found holds =
+    one_found (opened.Map book catalog) t u new law found holds =
         let seen = seen_first t new.log law in
         let file = subst (λ (p : Pages). IsMapFile p j.pages) seen found.file in
         let pages : published u j.pages ≡ home t.start j.pages = found.same ∙ ap (λ (p : Pages). home p j.pages) seen in (

@@ -47,9 +47,10 @@ use Rattle.quilt_world.specs.declared.disk.Disk as disk
 use Rattle.quilt_pool.specs.Views.{entries_of}
 use Rattle.quilt_edition.specs.declared.book.Book.{Book}
 use Rattle.quilt_edition.specs.Books as books
-use Rattle.quilt_map.specs.declared.session.Session.{Session}
-use Rattle.quilt_map.specs.Sessions.{IsNumbered, IsHeadOf, IsSpelled, IsOpened, IsAt, told_of, first_state, tree_in}
+use Rattle.quilt_map.specs.Sessions.{IsNumbered, IsHeadOf, IsSpelled, IsOpened, told_of, first_state, tree_in}
+use Rattle.quilt_replies.specs.Answers.{State}
 use Rattle.quilt_map.specs.Sessions as sessions
+use Rattle.quilt_top.specs.Openings.{IsFirst}
 
 -- ---- what a book with nothing in it tells
 
@@ -221,15 +222,14 @@ goes_from R t None goes = absurd goes
 law_at : (size : ℕ) (o : Option Tale) (t : Tale) → o ≡ Some t → IfSome o (λ t. IsConsistent t × (length t.start ≡ size)) → IsConsistent t
 law_at size o t is law = (subst (λ (x : Option Tale). IfSome x (λ t. IsConsistent t × (length t.start ≡ size))) is law).0
 
-module _ {W : Type 0} {D : disk.Ghosts W} (a b : Book W D) (session : Session W D) (catalog : List Entry) (used : List ℕ) (s1 s2 : ℕ)
+module _ {W : Type 0} {D : disk.Ghosts W} (a b : Book W D) (catalog : List Entry) (used : List ℕ) (s1 s2 : ℕ)
     (ready : books.IsReady a) (size : b.journal.pages ≡ a.journal.pages)
     (state : b.journal.state ≡ a.journal.state) (last : b.last ≡ a.last) (free : (q : ℕ)
     → books.published_free b q ≡ is_left_out a.journal.pages used q) (told : told_of b ≡ told_of a)
     (tale : Goes (IsLater a.journal.pages) (D.told a.world) (D.told b.world)) (law_a : IfSome (D.told a.world) (λ t. IsConsistent t × (length t.start ≡ s1)))
-    (law_b : IfSome (D.told b.world) (λ t. IsConsistent t × (length t.start ≡ s2)))
-    (at : (e : Edition) → IsOpened b catalog e → IsAt session (first_state b.journal.pages e)) where
+    (law_b : IfSome (D.told b.world) (λ t. IsConsistent t × (length t.start ≡ s2))) where
   map_found : (t : Tale) → D.told a.world ≡ Some t → told_of a ≡ Some (published t a.journal.pages) → IsSurvey (published t a.journal.pages) a.last catalog used
-      → (e : Edition) × HoldsEdition (published t a.journal.pages) e × IsAt session (first_state a.journal.pages e)
+      → (e : Edition) × HoldsEdition (published t a.journal.pages) e × IsFirst b catalog (first_state a.journal.pages e)
   map_found t is pages survey =
       let n = a.journal.pages in
       let es = entries_of a.pool in
@@ -263,7 +263,7 @@ module _ {W : Type 0} {D : disk.Ghosts W} (a b : Book W D) (session : Session W 
       } in (
         e,
         survey_holds (published t n) n a.last catalog used survey (length-published t n) (fresh_header a.journal es a.last t a.least ready kept),
-        subst (λ k. IsAt session (first_state k e)) size (at e opened),
+        record { edition = e; opened = opened; state = ap (λ k. first_state k e) (sym size) },
       )
 
 -- where it is told
@@ -271,15 +271,19 @@ pub when_told : (P : Tale → Type 0) (o : Option Tale) → ((t : Tale) → o �
 when_told P None so = tt
 when_told P (Some t) so = so t refl
 
-module _ {W : Type 0} {D : disk.Ghosts W} (a b : Book W D) (session : Session W D) (catalog : List Entry) (used : List ℕ) (s1 s2 : ℕ) where
+module _ {W : Type 0} {D : disk.Ghosts W} (a b : Book W D) (catalog : List Entry) (used : List ℕ) (s1 s2 : ℕ) where
   pub map_holds : books.IsReady a → b.journal.pages ≡ a.journal.pages → b.journal.state ≡ a.journal.state → b.last ≡ a.last
       → ((q : ℕ) → books.published_free b q ≡ is_left_out a.journal.pages used q) → told_of b ≡ told_of a
       → Goes (IsLater a.journal.pages) (D.told a.world) (D.told b.world) → IfSome (D.told a.world) (λ t. IsConsistent t × (length t.start ≡ s1))
       → IfSome (D.told b.world) (λ t. IsConsistent t × (length t.start ≡ s2))
-      → ((e : Edition) → IsOpened b catalog e → IsAt session (first_state b.journal.pages e))
       → ((t : Tale) → D.told a.world ≡ Some t → told_of a ≡ Some (published t a.journal.pages))
       → (h : Head) → h ≡ a.last → ((told : Pages) → told_of a ≡ Some told → IsSurvey told h catalog used)
-      → IfSome (D.told a.world) (λ t. (e : Edition) × HoldsEdition (published t a.journal.pages) e × IsAt session (first_state a.journal.pages e))
-  map_holds ready size state last free told tale law_a law_b at pages h is survey =
-      when_told _ (D.told a.world) (λ t now. map_found a b session catalog used s1 s2 ready size state last free told tale law_a law_b at t now (pages t now)
+      → IfSome (D.told a.world) (λ t. (e : Edition) × HoldsEdition (published t a.journal.pages) e × IsFirst b catalog (first_state a.journal.pages e))
+  map_holds ready size state last free told tale law_a law_b pages h is survey =
+      when_told _ (D.told a.world) (λ t now. map_found a b catalog used s1 s2 ready size state last free told tale law_a law_b t now (pages t now)
       (subst (λ (k : Head). IsSurvey (published t a.journal.pages) k catalog used) is (survey (published t a.journal.pages) (pages t now))))
+
+-- the level of the state over a book that was just opened is that of its last edition
+module _ {W : Type 0} {D : disk.Ghosts W} (book : Book W D) (catalog : List Entry) where
+  pub first_level : (s : State) → IsFirst book catalog s → s.last.level ≡ (books.last_of book).level
+  first_level s first = ap (λ (x : State). x.last.level) first.state ∙ first.opened.holds.head.level

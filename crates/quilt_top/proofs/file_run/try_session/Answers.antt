@@ -18,13 +18,16 @@ pub returns-clause-short : goal.returns-clause-short
 returns-clause-short g c = λ much. not_much c.run_trial.result c.run_trial.ensures.short (sym c.end_of-end.ensures ∙ much)
 
 pub returns-clause-sound : goal.returns-clause-sound
-returns-clause-sound g c = λ s at.
-    subst (λ (e : End). IsOneOf e run_ends) (sym c.end_of-end.ensures) (end_of_run (IsAt c.args.session) s at c.run_trial.result c.run_trial.ensures.damaged)
+returns-clause-sound g c = λ s first.
+    subst (λ (e : End). IsOneOf e run_ends) (sym c.end_of-end.ensures)
+    (end_of_run (IsAt c.begin_session-session.result) s (c.begin_session-session.ensures.at s first) c.run_trial.result c.run_trial.ensures.damaged)
 
 pub returns-clause-tries : goal.returns-clause-tries
-returns-clause-tries g c = λ s at.
-    rw (c.end_of-end.ensures, c.into_world.ensures)
-    (tries_goes (level_of c.args.session) (trial_run (level_of c.args.session) s c.args.seed c.args.count) c.run_trial.result _ _
+returns-clause-tries g c = λ s first.
+    let session = c.begin_session-session.result in
+    let at = c.begin_session-session.ensures.at s first in
+    rw (c.end_of-end.ensures, c.into_world.ensures, sym c.begin_session-session.ensures.world, sym c.begin_session-session.ensures.level)
+    (tries_goes (level_of session) (trial_run (level_of session) s c.args.seed c.args.count) c.run_trial.result _ _
     (c.run_trial.ensures.front s at)
-    (ok_at (IsAt c.args.session) s at c.run_trial.result _ c.run_trial.ensures.whole)
-    (err_first (IsAt c.args.session) s at c.run_trial.result (λ e. e ≡ halts.Stopped stops.Memory) _ c.run_trial.ensures.unsaid))
+    (ok_at (IsAt session) s at c.run_trial.result _ c.run_trial.ensures.whole)
+    (err_first (IsAt session) s at c.run_trial.result (λ e. e ≡ halts.Stopped stops.Memory) _ c.run_trial.ensures.unsaid))

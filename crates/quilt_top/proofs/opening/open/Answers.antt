@@ -11,18 +11,18 @@ use Rattle.quilt_top.proofs.openings.Surveys.{told_fresh}
 use Rattle.quilt_top.proofs.openings.Found.{none_free, goes_begun, stop_found, not_map_found, book_keeps, book_finds}
 use Rattle.quilt_top.proofs.opening.open.Goals as goal
 
-pub begin-requires-clause-whole : goal.begin-requires-clause-whole
-begin-requires-clause-whole g c = none_free _ c.requires.new
+pub begin_on_heap-requires-clause-whole : goal.begin_on_heap-requires-clause-whole
+begin_on_heap-requires-clause-whole g c = none_free _ c.requires.new
 
 pub survey_book-requires-clause-unchanged : goal.survey_book-requires-clause-unchanged
 survey_book-requires-clause-unchanged g c =
-    let book = c.in-Ready.book in
+    let book = c.in-Ready.book.value in
     none_marked book.journal.pages book.journal.pages (entries_of book.pool) book.journal.changed c.in-Ready.ensures.fresh.2
     (λ i. ap (λ (x : LruCache ℕ Frame). is_dirty x.entries i) c.in-Ready.ensures.fresh.4)
 
 pub survey_book-requires-clause-pages : goal.survey_book-requires-clause-pages
 survey_book-requires-clause-pages g c = λ t is.
-    let book = c.in-Ready.book in
+    let book = c.in-Ready.book.value in
     let kept = subst (λ (o : Option Tale). IsKeptBy book.journal (entries_of book.pool) book.last o) is book.kept in
     subst (λ (o : Option Tale). told_pages book.journal (entries_of book.pool) o ≡ Some (published t book.journal.pages)) (sym is)
     (told_fresh book.journal (entries_of book.pool) book.last t c.in-Ready.ensures.fresh.0
@@ -30,14 +30,14 @@ survey_book-requires-clause-pages g c = λ t is.
 
 pub returns-in-Ready-clause-keeps : goal.returns-in-Ready-clause-keeps
 returns-in-Ready-clause-keeps g c =
-    let book = c.in-Ready.book in
+    let book = c.in-Ready.book.value in
     book_keeps book.journal (entries_of book.pool) book.last c.in-Ready.ensures.fresh.0 _ _ _ _ _ c.requires.new
     (g.met.W.Disk.is_consistent c.args.world) (g.met.W.Disk.is_consistent book.world) book.kept
     c.in-Ready.ensures.crash c.in-Ready.ensures.cause c.survey_book.ensures.tale
 
 pub returns-in-Ready-clause-finds : goal.returns-in-Ready-clause-finds
 returns-in-Ready-clause-finds g c =
-    let book = c.in-Ready.book in
+    let book = c.in-Ready.book.value in
     book_finds book.journal (entries_of book.pool) book.last c.in-Ready.ensures.fresh.0 c.survey_book.result _ _ _ c.requires.new
     (g.met.W.Disk.is_consistent c.args.world) c.in-Ready.ensures.cause c.survey_book.ensures.holds
 
