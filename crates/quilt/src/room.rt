@@ -1,7 +1,7 @@
 ghost use Rattle.std.specs.Prelude.{◌≡◌, ◌<◌, true};
 
 /// How many bytes of stack the deepest way through the program takes, and some more.
-const ROOM: usize = 408 * 1024;
+const ROOM: usize = 240 * 1024;
 
 /// Touches so many bytes of the stack. The places that are written and read are not known beforehand, so that no compiler leaves the bytes out.
 #[inline(never)]
