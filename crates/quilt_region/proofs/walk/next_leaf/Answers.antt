@@ -9,7 +9,8 @@ returns-in-Err-clause-sound g c e rest block from h = c.in-Err.ensures.sound h.b
 
 pub returns-in-Ok-None-clause-sound : goal.returns-in-Ok-None-clause-sound
 returns-in-Ok-None-clause-sound g c e rest block from h page is =
-    let over = goes_over _ _ _ _ _ c.args.level e rest h c.in-Ok-None.field-0 (c.in-Ok-None.ensures.next h.before h.after h.tree h.stands) in
+    let over = goes_over (g.S.PageStore.told c.args.store.now) c.args.tree.now c.args.cursor.now c.next.new.c c.args.layer c.args.level e rest h
+    c.in-Ok-None.field-0 (c.in-Ok-None.ensures.next h.before h.after h.tree h.stands) in
     none_some _ (sym c.in-Ok-None.field-0-is ∙ over.0)
 
 pub returns-in-Some-clause-next : goal.returns-in-Some-clause-next
