@@ -70,12 +70,15 @@ fn has_leaves(alloc: Global, layer: &mut Layer, expected: Result<usize, Stop>) -
 
 /// Whether this is the answer about how many leaves the layer has of the sides 1, 2, 4 and 8, and that it has no larger ones.
 fn has_counts(layer: &mut Layer, expected: Result<[u32; 4], Stop>) -> bool {
-    match (layer.leaf_counts(), expected) {
-        (Err(stop), Err(other)) => stop == other,
-        (Ok(counts), Ok([one, two, four, eight])) => {
-            counts == [one, two, four, eight, 0, 0, 0, 0, 0, 0, 0, 0, 0]
-        }
-        _ => false,
+    match layer.leaf_counts() {
+        Err(stop) => match expected {
+            Err(other) => stop == other,
+            Ok(_) => false,
+        },
+        Ok(counts) => match expected {
+            Err(_) => false,
+            Ok(few) => { counts == [few[0], few[1], few[2], few[3], 0, 0, 0, 0, 0, 0, 0, 0, 0] }
+        },
     }
 }
 
