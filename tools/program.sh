@@ -3,7 +3,7 @@
 # checkout and have a function fail. A program is told by two digests, its own and that of its sources.
 
 # The kit that the program was last built with, as `rt version` calls it.
-tried='rattle-kit-13b logic dac8208d650f15bf'
+tried='rattle-kit-13f logic dac8208d650f15bf'
 
 out=$here/crates/quilt/out
 # Where a program is built, and one that came with the checkout, seen from there.
@@ -211,37 +211,60 @@ begin() {
 
 # The crates that nearly all others lie below, so that nothing is left to be built beside them.
 last='quilt_map quilt_top quilt'
-
-# write_below FOLDER: makes a crate there that stands on all that the program stands on but the last crates, since rt builds those side by side that lie
-# below one crate. It has nothing of its own.
-write_below() {
-    rm -rf "$1"
-    mkdir -p "$1/src" || return
-    printf '//! Stands on what is to be built side by side.\n#![tactic(auto)]\n' >"$1/src/lib.rt"
-    stands_on quilt | awk -v last="$last" '
-        BEGIN { count = split(last, names, " "); for (i = 1; i <= count; i++) is_last[names[i]]; print "rattle_crate(name = \"what_lies_below\", deps = [" }
-        !($1 in is_last) { print "    \"//crates/" $1 "\"," }
-        END { print "])" }' >"$1/BUILD.bazel"
-}
-
 # The crate that takes longest, which half of the others wait for: beside them it would have one process.
 first=quilt_btree
 
-# Proves and builds the program: the first crate and what it stands on, with as many processes as there are lanes; then all else that the program stands
-# on, crates that do not stand on each other side by side; and the last ones, each with as many processes again. Where memory does not last for that, each
-# after the other. The program runs at the end: it ends in status 6 for a map that is not there, in which rt itself never ends.
+# The crates below the last ones, one a line.
+below_last() {
+    stands_on quilt | awk -v last="$last" '
+        BEGIN { count = split(last, names, " "); for (i = 1; i <= count; i++) is_last[names[i]] }
+        !($1 in is_last)'
+}
+
+# Those of them that need not wait for the first crate.
+beside_first() {
+    for name in $(below_last); do
+        stands_on "$name" | grep -q -x "$first" || echo "$name"
+    done
+}
+
+# write_below FOLDER NAME..: makes a crate there that stands on these, since rt builds those side by side that lie below one crate. It has nothing of its own.
+write_below() {
+    below=$1
+    shift
+    rm -rf "$below"
+    mkdir -p "$below/src" || return
+    printf '//! Stands on what is to be built side by side.\n#![tactic(auto)]\n' >"$below/src/lib.rt"
+    {
+        echo 'rattle_crate(name = "what_lies_below", deps = ['
+        printf '    "//crates/%s",\n' "$@"
+        echo '])'
+    } >"$below/BUILD.bazel"
+}
+
+# side_by_side NAME..: proves these crates and what they stand on. A crate that waits for another keeps its place among those that are worked on, so there
+# are two for each processor.
+side_by_side() {
+    write_below "$out/below" "$@" || return
+    (cd "$out/below" && begin rt all check --jobs "$(lanes 2)")
+}
+
+# Proves and builds the program: what need not wait for the first crate, side by side; the first crate, with as many processes as there are lanes; then all
+# else that the program stands on, side by side again; and the last crates, each with as many processes as the first. Where memory does not last for that,
+# each after the other. The program runs at the end: it ends in status 6 for a map that is not there, in which rt itself never ends.
 prove() {
     jobs=$(lanes 1)
-    write_below "$out/below" || return
     (
         # (no gate runs over a folder that such a crate was left in)
         trap 'rm -rf "$out/below"' EXIT
         trap 'exit 130' INT HUP TERM
+        # shellcheck disable=SC2046 # the names of crates are plain words
         if [ -d "$here/crates/$first" ]; then
+            side_by_side $(beside_first) || exit
             (cd "$here/crates/$first" && begin rt lib --jobs "$jobs") || exit
         fi
-        # A crate that waits for another keeps its place among those that are worked on, so there are two for each processor.
-        cd "$out/below" && begin rt all check --jobs "$(lanes 2)"
+        # shellcheck disable=SC2046 # the names of crates are plain words
+        side_by_side $(below_last)
     )
     is_well=$?
     if [ "$is_well" -ne 0 ]; then
