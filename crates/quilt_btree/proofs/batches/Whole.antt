@@ -65,7 +65,7 @@ pub looks_take : (n : ℕ) (run : List Edit) → looks (take n run) + looks (dro
 looks_take n run = sym (looks-append (take n run) (drop n run)) ∙ ap looks (take-append-drop n run)
 
 -- an edit may look at 6 pages at least
-least_looks : (e : Edit) → 6 ≤ looks_of e
+pub least_looks : (e : Edit) → 6 ≤ looks_of e
 least_looks (edit.Remove k) = omega arith
 least_looks (edit.Put r) = omega arith
 least_looks (edit.Replace r) = omega arith
@@ -76,7 +76,7 @@ some_looks (e ∷ run) zero some le = absurd (omega arith)
 some_looks (e ∷ run) (suc n) some le = let l = least_looks e in omega arith
 
 -- a run of one edit costs 6 at least
-least_cost : (e : Edit) → 6 ≤ cost_of e
+pub least_cost : (e : Edit) → 6 ≤ cost_of e
 least_cost (edit.Remove k) = omega arith
 least_cost (edit.Put r) = omega arith
 least_cost (edit.Replace r) = omega arith

@@ -1,5 +1,5 @@
 -- The records of a range lie within its bounds, over every store.
-use Rattle.std.proofs.Common.{◌≡◌, ℕ, Bool, true, false, List, [], ◌∷◌, ◌++◌, take, filter, cond, Option, Some, None, IfSome, refl, ◌∙◌, ap, subst}
+use Rattle.std.proofs.Common.{◌≡◌, ℕ, zero, suc, ◌≤◌, Bool, true, false, List, [], ◌∷◌, ◌++◌, take, filter, cond, Option, Some, None, IfSome, length, refl, ◌∙◌, ap, subst, arith}
 use Rattle.std.specs.List.{list_all}
 use Rattle.std.specs.Ordering.{is_le, is_lt}
 use Rattle.quilt_record.specs.declared.key.Key.{Key}
@@ -28,6 +28,25 @@ wider low from high le xs h = all_follow (is_from_to from high) (is_from_to low 
     one r g =
         let t = and_parts (is_le (key_cmp from r.key)) (is_le (key_cmp r.key high)) g in
         and_both (is_le (key_cmp low r.key)) (is_le (key_cmp r.key high)) (le_le low from r.key le t.0) t.1
+
+take_most : {X : Type 0} (n : ℕ) (xs : List X) → length (take n xs) ≤ n
+take_most zero xs = omega arith
+take_most (suc n) [] = omega arith
+take_most (suc n) (x ∷ xs) = let h = take_most n xs in omega arith
+
+take_keeps : {X : Type 0} (n : ℕ) (xs ys : List X) → length xs ≤ n → length xs ≤ length (take n (xs ++ ys))
+take_keeps n [] ys h = omega arith
+take_keeps zero (x ∷ xs) ys h = absurd (omega arith)
+take_keeps (suc n) (x ∷ xs) ys h = let g = take_keeps n xs ys (omega arith) in omega arith
+
+-- no more records than there may be, and none fewer
+pub added_most : (most : ℕ) (old some new : List Record) → new ≡ take most (old ++ some) → length old ≤ most
+    → (length new ≤ most) × (length old ≤ length new)
+added_most most old some new is le =
+    let e = ap length is in
+    let m = take_most most (old ++ some) in
+    let k = take_keeps most old some le in
+    (omega arith, omega arith)
 
 -- records of one more leaf
 pub added_within : (low from high : Key) (most : ℕ) (leaf old new : List Record) → new ≡ take most (old ++ filter (is_from_to from high) leaf)

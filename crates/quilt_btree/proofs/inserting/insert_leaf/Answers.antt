@@ -33,7 +33,7 @@ returns-in-Ok-find-clause-finds g c height rs one s =
 
 pub returns-in-Err-find-clause-finds : goal.returns-in-Err-find-clause-finds
 returns-in-Err-find-clause-finds g c =
-    new_in_leaf c.put_record.result (g.S.PageStore.told c.args.store.now) c.args.page c.args.r.now.key c.put_record.ensures.new
+    new_in_leaf c.put_record.result (g.S.PageStore.told c.args.store.now) c.args.page c.args.r.now.key c.put_record.ensures.leaves.new
     (λ height one. finds_none (g.S.PageStore.told c.args.store.now) c.args.page height c.in-Err-find.i c.args.r.now.key c.in-Ok.leaf
     c.in-Ok.ensures.leaf c.in-Err-find.ensures.place one)
 

@@ -1,3 +1,5 @@
+use Rattle.std.proofs.Common.{◌-◌, arith}
+use Rattle.quilt_btree.proofs.stores.Leaves.{edits_behind}
 use Rattle.quilt_btree.proofs.batches.Below.{fails_leaf, step_edited, step_fails, least_first}
 use Rattle.quilt_btree.proofs.growth.Below.{edit_spells}
 use Rattle.quilt_btree.proofs.ways.Damage.{named_leaf, named_below}
@@ -63,5 +65,7 @@ returns-in-Ok-clause-bad g t c =
     }) c.in-Ok.ensures.shows.are)
     c.in-Ok.ensures.shows.stands c.edit_under.ensures.bad
 
-pub returns-in-Ok-clause-later : goal.returns-in-Ok-clause-later
-returns-in-Ok-clause-later g t c = g.met.S.PageStore.goes_on _ _ _ c.in-Ok.ensures.looks.left.later c.edit_under.ensures.later
+pub returns-in-Ok-clause-left : goal.returns-in-Ok-clause-left
+returns-in-Ok-clause-left g t c =
+    edits_behind _ g.met.S.PageStore.goes_on 1 1 (c.args.height - 1) c.args.height (let some = c.requires.height in omega arith) c.in-Ok.ensures.looks.left
+    c.in-Ok.ensures.looks.reads c.edit_under.ensures.left

@@ -60,9 +60,11 @@ returns-in-Ok-clause-sound g t c = step_sound (record {
   steps = c.in-Ok.ensures.shows.step;
 }) c.leaf_at.result c.leaf_at.ensures.sound
 
-pub returns-in-Ok-clause-above : goal.returns-in-Ok-clause-above
-returns-in-Ok-clause-above g t c =
-    step_above c.leaf_at.result c.args.k.now c.args.high.now c.in-Ok.step.high c.in-Ok.ensures.above c.leaf_at.ensures.above
+pub returns-in-Ok-clause-range : goal.returns-in-Ok-clause-range
+returns-in-Ok-clause-range g t c = record {
+  range = rw c.in-Ok.ensures.looks.left.size at c.leaf_at.ensures.range.range;
+  above = step_above c.leaf_at.result c.args.k.now c.args.high.now c.in-Ok.step.high c.in-Ok.ensures.above c.leaf_at.ensures.range.above;
+}
 
 pub returns-in-Ok-clause-spoilt : goal.returns-in-Ok-clause-spoilt
 returns-in-Ok-clause-spoilt g t c = spoilt_below c.leaf_at.result (g.S.PageStore.told c.args.store.now)

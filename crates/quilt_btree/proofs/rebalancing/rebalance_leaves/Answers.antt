@@ -77,28 +77,6 @@ returns-in-Ok-write_both-clause-rebalanced g c = λ height b rs used one m.
       frees = c.in-Ok-write_both.ensures.free ∙ c.in_ok-rest.ensures.left.free ∙ c.in_ok-first.ensures.left.free;
     }) m
 
-pub returns-in_err-rest-clause-later : goal.returns-in_err-rest-clause-later
-returns-in_err-rest-clause-later g c = g.met.S.PageStore.goes_on _ _ _ c.in_ok-first.ensures.left.later c.in_err-rest.ensures.left.later
-
-pub returns-then-not-leaves_ascend-clause-later : goal.returns-then-not-leaves_ascend-clause-later
-returns-then-not-leaves_ascend-clause-later g c = g.met.S.PageStore.goes_on _ _ _ c.in_ok-first.ensures.left.later c.in_ok-rest.ensures.left.later
-
-pub returns-in-Err-clause-later : goal.returns-in-Err-clause-later
-returns-in-Err-clause-later g c = g.met.S.PageStore.goes_on _ _ _ c.in_ok-first.ensures.left.later
-    (g.met.S.PageStore.goes_on _ _ _ c.in_ok-rest.ensures.left.later c.in-Err.ensures.left.later)
-
-pub returns-in-Ok-clause-later : goal.returns-in-Ok-clause-later
-returns-in-Ok-clause-later g c = g.met.S.PageStore.goes_on _ _ _ c.in_ok-first.ensures.left.later
-    (g.met.S.PageStore.goes_on _ _ _ c.in_ok-rest.ensures.left.later c.in-Ok.ensures.left.later)
-
-pub returns-in-Err-write_both-clause-later : goal.returns-in-Err-write_both-clause-later
-returns-in-Err-write_both-clause-later g c = g.met.S.PageStore.goes_on _ _ _ c.in_ok-first.ensures.left.later
-    (g.met.S.PageStore.goes_on _ _ _ c.in_ok-rest.ensures.left.later c.in-Err-write_both.ensures.left.later)
-
-pub returns-in-Ok-write_both-clause-later : goal.returns-in-Ok-write_both-clause-later
-returns-in-Ok-write_both-clause-later g c = g.met.S.PageStore.goes_on _ _ _ c.in_ok-first.ensures.left.later
-    (g.met.S.PageStore.goes_on _ _ _ c.in_ok-rest.ensures.left.later c.in-Ok-write_both.ensures.left.later)
-
 pub returns-in_err-first-clause-names : goal.returns-in_err-first-clause-names
 returns-in_err-first-clause-names g c =
     let p = err_from_is_err_and c.from_residual.result c.from_residual.ensures.1 in

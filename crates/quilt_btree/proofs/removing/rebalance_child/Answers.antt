@@ -19,8 +19,8 @@ returns-in-Err-clause-sound g c =
           (g.met.S.PageStore.as_many c.args.store.now) e c.requires.page.1;
     }) c.in-Err.ensures.sound
 
-pub returns-in-Ok-Joined-clause-left : goal.returns-in-Ok-Joined-clause-left
-returns-in-Ok-Joined-clause-left g c =
+pub returns-in-Ok-Joined-clause-leaves : goal.returns-in-Ok-Joined-clause-leaves
+returns-in-Ok-Joined-clause-leaves g c =
     let found = rw c.in-Ok-Joined.field-0-is at c.in-Ok-Joined.ensures in
     joined_left c.drop_child.result (g.S.PageStore.told c.args.store.now) (g.S.PageStore.told c.rebalance_pages.new.store)
     (g.S.PageStore.told c.drop_child.new.store) (g.S.PageStore.free c.args.store.now) (g.S.PageStore.free c.rebalance_pages.new.store)
@@ -74,8 +74,8 @@ returns-in-Err-renew_key-clause-sound g c =
           (g.met.S.PageStore.as_many c.args.store.now) e c.requires.page.1;
     }) found.rebalanced c.in-Err-renew_key.ensures.sound
 
-pub returns-in-Ok-clause-left : goal.returns-in-Ok-clause-left
-returns-in-Ok-clause-left g c =
+pub returns-in-Ok-clause-leaves : goal.returns-in-Ok-clause-leaves
+returns-in-Ok-clause-leaves g c =
     let found = rw c.in-Ok-Redistributed.field-0-is at c.in-Ok-Redistributed.ensures in
     separated_left (g.S.PageStore.told c.args.store.now) (g.S.PageStore.told c.rebalance_pages.new.store) (g.S.PageStore.told c.renew_key.new.store)
     (g.S.PageStore.free c.args.store.now) (g.S.PageStore.free c.rebalance_pages.new.store) (g.S.PageStore.free c.renew_key.new.store)
@@ -91,15 +91,6 @@ returns-in-Ok-clause-left g c =
       inside = λ pages e. has_many (g.S.PageStore.told c.args.store.now) pages (g.S.PageStore.size c.args.store.now) c.args.page
           (g.met.S.PageStore.as_many c.args.store.now) e c.requires.page.1;
     }) found.rebalanced c.in-Ok.ensures.free c.in-Ok.ensures.renewed
-
-pub returns-in-Ok-Joined-clause-later : goal.returns-in-Ok-Joined-clause-later
-returns-in-Ok-Joined-clause-later g c = g.met.S.PageStore.goes_on _ _ _ c.in-Ok-Joined.ensures.later c.drop_child.ensures.left.later
-
-pub returns-in-Err-renew_key-clause-later : goal.returns-in-Err-renew_key-clause-later
-returns-in-Err-renew_key-clause-later g c = g.met.S.PageStore.goes_on _ _ _ c.in-Ok-Redistributed.ensures.later c.in-Err-renew_key.ensures.left.later
-
-pub returns-in-Ok-clause-later : goal.returns-in-Ok-clause-later
-returns-in-Ok-clause-later g c = g.met.S.PageStore.goes_on _ _ _ c.in-Ok-Redistributed.ensures.later c.in-Ok.ensures.left.later
 
 pub returns-in-Err-clause-bad : goal.returns-in-Err-clause-bad
 returns-in-Err-clause-bad g c =

@@ -97,15 +97,6 @@ pub returns-in-Err-write_page-clause-bad : goal.returns-in-Err-write_page-clause
 returns-in-Err-write_page-clause-bad g c =
     zero_names (g.S.PageStore.told c.args.store.now) 1 c.args.page c.in-Err-write_page.e c.in-Err-write_page.ensures.names
 
-pub returns-in-Err-write_page-clause-later : goal.returns-in-Err-write_page-clause-later
-returns-in-Err-write_page-clause-later g c = g.met.S.PageStore.goes_on _ _ _ c.in_ok-leaf.ensures.left.later c.in-Err-write_page.ensures.left.later
-
-pub returns-then-left-lt-LEAST_RECORDS-clause-later : goal.returns-then-left-lt-LEAST_RECORDS-clause-later
-returns-then-left-lt-LEAST_RECORDS-clause-later g c = g.met.S.PageStore.goes_on _ _ _ c.in_ok-leaf.ensures.left.later c.in-Ok-write_page.ensures.left.later
-
-pub returns-else-left-lt-LEAST_RECORDS-clause-later : goal.returns-else-left-lt-LEAST_RECORDS-clause-later
-returns-else-left-lt-LEAST_RECORDS-clause-later g c = g.met.S.PageStore.goes_on _ _ _ c.in_ok-leaf.ensures.left.later c.in-Ok-write_page.ensures.left.later
-
 pub returns-in-Err-clause-others : goal.returns-in-Err-clause-others
 returns-in-Err-clause-others g c = same_others c.args.page _ _ c.in_ok-leaf.ensures.left.told
 

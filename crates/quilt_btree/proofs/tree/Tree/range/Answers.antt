@@ -107,9 +107,9 @@ returns-in-None-clause-within g c =
 
 pub returns-in-Ok-add_rest-clause-within : goal.returns-in-Ok-add_rest-clause-within
 returns-in-Ok-add_rest-clause-within g c =
-    c.in-Ok-add_rest.ensures.within c.args.low.now
+    c.in-Ok-add_rest.ensures.grows.within c.args.low.now
     (lt_to_le (key_cmp c.args.low.now c.in-Some.next)
-    (above_bound c.args.low.now c.in-Some.next c.in-Ok.found.high c.in-Ok.ensures.above c.in-Some.ensures.0))
+    (above_bound c.args.low.now c.in-Some.next c.in-Ok.found.high c.in-Ok.ensures.range.above c.in-Some.ensures.0))
     (first_within c.args.low.now c.args.high.now c.args.most
     c.in-Ok-add_at.ensures.adds.some c.add_at.new.records.items
     (c.in-Ok-add_at.ensures.adds.added
