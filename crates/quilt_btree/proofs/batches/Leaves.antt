@@ -82,29 +82,28 @@ pub record IsEdited (leaf now : List Record) (run : List Edit) : Type 0 where
   pub is : now ≡ edit_all run leaf
   pub due : are_due run leaf ≡ true
 
-pub edited_next : (leaf now new : List Record) (run : List Edit) (i : ℕ) → i < length run → IsEdited leaf now (take i run)
-    → is_due (edit_at run i) now ≡ true → new ≡ edited (edit_at run i) now → IsEdited leaf new (take (i + 1) run)
-edited_next leaf now new run i lt d due is =
-    let xs = take i run in
-    let e = edit_at run i in
-    subst (IsEdited leaf new) (sym (taken run i lt)) (record {
-      is = is ∙ ap (edited e) d.is ∙ sym (edit_all-append xs (e ∷ []) leaf);
-      due = are_due-append xs (e ∷ []) leaf ∙ and_both (are_due xs leaf) (is_due e (edit_all xs leaf) && true) d.due
-          (and_both (is_due e (edit_all xs leaf)) true (subst (λ l. is_due e l ≡ true) d.is due) refl);
-    })
+module _ (leaf now : List Record) where
+  pub edited_next : (new : List Record) (run : List Edit) (i : ℕ) → i < length run → IsEdited leaf now (take i run) → is_due (edit_at run i) now ≡ true → new ≡ edited (edit_at run i) now → IsEdited leaf new (take (i + 1) run)
+  edited_next new run i lt d due is =
+      let xs = take i run in
+      let e = edit_at run i in
+      subst (IsEdited leaf new) (sym (taken run i lt)) (record {
+        is = is ∙ ap (edited e) d.is ∙ sym (edit_all-append xs (e ∷ []) leaf);
+        due = are_due-append xs (e ∷ []) leaf ∙ and_both (are_due xs leaf) (is_due e (edit_all xs leaf) && true) d.due
+            (and_both (is_due e (edit_all xs leaf)) true (subst (λ l. is_due e l ≡ true) d.is due) refl);
+      })
 
-pub edited_fails : (leaf now : List Record) (run : List Edit) (i : ℕ) → i < length run → IsEdited leaf now (take i run)
-    → is_due (edit_at run i) now ≡ false → are_due run leaf ≡ false
-edited_fails leaf now run i lt d not_due =
-    let xs = take i run in
-    let ys = drop (i + 1) run in
-    let e = edit_at run i in
-    ap (λ l. are_due l leaf) (sym (take-append-drop (i + 1) run) ∙ ap (λ l. l ++ ys) (taken run i lt))
-    ∙ are_due-append (xs ++ e ∷ []) ys leaf ∙ ap (λ b. b && are_due ys (edit_all (xs ++ e ∷ []) leaf))
-    (are_due-append xs (e ∷ []) leaf ∙ late (are_due xs leaf) (is_due e (edit_all xs leaf)) (subst (λ l. is_due e l ≡ false) d.is not_due))
-  where
-    late : (a b : Bool) → b ≡ false → (a && (b && true)) ≡ false
-    late a b h = grind arith
+  pub edited_fails : (run : List Edit) (i : ℕ) → i < length run → IsEdited leaf now (take i run) → is_due (edit_at run i) now ≡ false → are_due run leaf ≡ false
+  edited_fails run i lt d not_due =
+      let xs = take i run in
+      let ys = drop (i + 1) run in
+      let e = edit_at run i in
+      ap (λ l. are_due l leaf) (sym (take-append-drop (i + 1) run) ∙ ap (λ l. l ++ ys) (taken run i lt))
+      ∙ are_due-append (xs ++ e ∷ []) ys leaf ∙ ap (λ b. b && are_due ys (edit_all (xs ++ e ∷ []) leaf))
+      (are_due-append xs (e ∷ []) leaf ∙ late (are_due xs leaf) (is_due e (edit_all xs leaf)) (subst (λ l. is_due e l ≡ false) d.is not_due))
+    where
+      late : (a b : Bool) → b ≡ false → (a && (b && true)) ≡ false
+      late a b h = grind arith
 
 -- edits among other records
 edited_between : (x : Edit) (first here last rs : List Record) → IsAmong (key_of x) first here last rs → edited x rs ≡ first ++ (edited x here ++ last)

@@ -31,20 +31,19 @@ leaf_taken told free page is_root b rs used can =
     first : (t : ℕ) → t ≡ 1 + 0 → 1 ≤ t
     first t e = omega arith
 
--- the leaf that the page lends
-lent_leaf : (told : Option (List (List ℕ))) (free : ℕ → Bool) (page : ℕ) (is_root : Bool) (b : Bounds) (rs : List Record) (used : List ℕ) (old : List ℕ)
-    → IfSome told (λ pages. old ≡ slice_index_or pages page []) → CanEdit told free page 1 is_root b rs used → leaf_of old ≡ Some rs
-lent_leaf told free page is_root b rs used old shown can =
-    let s : Subtree can.pages 1 is_root (page, b) rs used = can.subtree in
-    ap leaf_of (are_of told page old shown can.pages can.is_told) ∙ s.page
+module _ (told : Option (List (List ℕ))) (free : ℕ → Bool) (page : ℕ) (is_root : Bool) (b : Bounds) (rs : List Record) (used old : List ℕ) (shown : IfSome told (λ pages. old ≡ slice_index_or pages page [])) where
+  -- the leaf that the page lends
+  lent_leaf : CanEdit told free page 1 is_root b rs used → leaf_of old ≡ Some rs
+  lent_leaf can =
+      let s : Subtree can.pages 1 is_root (page, b) rs used = can.subtree in
+      ap leaf_of (are_of told page old shown can.pages can.is_told) ∙ s.page
 
-pub no_leaf : (told : Option (List (List ℕ))) (free : ℕ → Bool) (page : ℕ) (is_root : Bool) (b : Bounds) (rs : List Record) (used : List ℕ) (old : List ℕ)
-    → IfSome told (λ pages. old ≡ slice_index_or pages page []) → is_some (leaf_of old) ≡ false → CanEdit told free page 1 is_root b rs used → ⊥
-no_leaf told free page is_root b rs used old shown none can =
-    differ (ap is_some (sym (lent_leaf told free page is_root b rs used old shown can)) ∙ none)
-  where
-    differ : true ≡ false → ⊥
-    differ h = cc
+  pub no_leaf : is_some (leaf_of old) ≡ false → CanEdit told free page 1 is_root b rs used → ⊥
+  no_leaf none can =
+      differ (ap is_some (sym (lent_leaf can)) ∙ none)
+    where
+      differ : true ≡ false → ⊥
+      differ h = cc
 
 -- the first edits of the run were made where the leaf lies
 pub leaf_made : (told now_told : Option (List (List ℕ))) (free now : ℕ → Bool) (size page least : ℕ) (is_root : Bool) (b : Bounds) (rs : List Record)

@@ -81,38 +81,35 @@ count_next run n i count m lt c h r e =
       room = subst (λ l. HasRoomFor l n) t (room_on (take i run) (edit_at run i) n h (subst (HasRoom (edit_at run i)) c r));
     }
 
-pub planned_best : (high : Option Key) (run : List Edit) (n least i best count m : ℕ) → i < length run → IsPlanned high run n least i best count
-    → is_below high (key_of (edit_at run i)) ≡ true → HasRoom (edit_at run i) count → m ≡ size_behind (edit_at run i) count → m ≤ 144 → least ≤ m
-    → IsPlanned high run n least (i + 1) (i + 1) m
-planned_best high run n least i best count m lt p below r e h le =
-    let s = seen_next high run i lt p.seen below in
-    let x = count_next run n i count m lt p.count_is p.so_far r e in
-    record {
-      nearer = omega arith;
-      most = h;
-      seen = s;
-      under = s;
-      count_is = x.count_is;
-      so_far = x.room;
-      room = x.room;
-      enough = λ one. subst (λ k. least ≤ k) x.count_is le;
-    }
+module _ (high : Option Key) (run : List Edit) (n least i best count m : ℕ) (lt : i < length run) (p : IsPlanned high run n least i best count) (below : is_below high (key_of (edit_at run i)) ≡ true) (r : HasRoom (edit_at run i) count) (e : m ≡ size_behind (edit_at run i) count) (h : m ≤ 144) where
+  pub planned_best : least ≤ m → IsPlanned high run n least (i + 1) (i + 1) m
+  planned_best le =
+      let s = seen_next high run i lt p.seen below in
+      let x = count_next run n i count m lt p.count_is p.so_far r e in
+      record {
+        nearer = omega arith;
+        most = h;
+        seen = s;
+        under = s;
+        count_is = x.count_is;
+        so_far = x.room;
+        room = x.room;
+        enough = λ one. subst (λ k. least ≤ k) x.count_is le;
+      }
 
-pub planned_same : (high : Option Key) (run : List Edit) (n least i best count m : ℕ) → i < length run → IsPlanned high run n least i best count
-    → is_below high (key_of (edit_at run i)) ≡ true → HasRoom (edit_at run i) count → m ≡ size_behind (edit_at run i) count → m ≤ 144
-    → IsPlanned high run n least (i + 1) best m
-planned_same high run n least i best count m lt p below r e h =
-    let x = count_next run n i count m lt p.count_is p.so_far r e in
-    record {
-      nearer = let k = p.nearer in omega (arith, k);
-      most = h;
-      seen = seen_next high run i lt p.seen below;
-      under = p.under;
-      count_is = x.count_is;
-      so_far = x.room;
-      room = p.room;
-      enough = p.enough;
-    }
+  pub planned_same : IsPlanned high run n least (i + 1) best m
+  planned_same =
+      let x = count_next run n i count m lt p.count_is p.so_far r e in
+      record {
+        nearer = let k = p.nearer in omega (arith, k);
+        most = h;
+        seen = seen_next high run i lt p.seen below;
+        under = p.under;
+        count_is = x.count_is;
+        so_far = x.room;
+        room = p.room;
+        enough = p.enough;
+      }
 
 -- a record takes the place of one with its key
 set_insert : (rs : List Record) (i : ℕ) (r : Record) → i < length rs → set rs i r ≡ insert (remove rs i) i r

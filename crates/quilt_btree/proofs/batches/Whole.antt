@@ -166,38 +166,34 @@ all_over_none : (ks : List Key) → list_all (is_above None) ks ≡ true
 all_over_none [] = refl
 all_over_none (k ∷ ks) = all_over_none ks
 
-pub some_left : (told now_told : Option (List (List ℕ))) (free now : ℕ → Bool) (size : ℕ) (t : Tree) (rs : List Record) (run xs : List Edit)
-    → IsRemoving free size t → AtRootEdits run xs told now_told free now t → IsWhole told free size t rs
-    → fewer xs < t.records + more xs
-some_left told now_told free now size t rs run xs i f w =
-    let a = at_root told free size t rs i w in
-    let did = f everywhere rs a.used refl (all_over_none (edit_keys run)) a.can in
-    let rises = subtree_rises a.can.pages t.height true (t.root, everywhere) rs a.used a.can.subtree in
-    let left = subtree_some did.news t.height true (t.root, everywhere) (edit_all xs rs) did.becomes.uses did.becomes.subtree in
-    enough (length (edit_all xs rs)) (length left.more) (fewer xs) (more xs) (length rs) t.records (ap length left.is)
-    (length_all xs rs rises.ascends did.due) w.number
-  where
-    enough : (a m f p l r : ℕ) → a ≡ suc m → a + f ≡ l + p → l ≡ r → f < r + p
-    enough a m f p l r e g h = omega arith
+module _ (told now_told : Option (List (List ℕ))) (free now : ℕ → Bool) (size : ℕ) where
+  pub some_left : (t : Tree) (rs : List Record) (run xs : List Edit) → IsRemoving free size t → AtRootEdits run xs told now_told free now t → IsWhole told free size t rs → fewer xs < t.records + more xs
+  some_left t rs run xs i f w =
+      let a = at_root told free size t rs i w in
+      let did = f everywhere rs a.used refl (all_over_none (edit_keys run)) a.can in
+      let rises = subtree_rises a.can.pages t.height true (t.root, everywhere) rs a.used a.can.subtree in
+      let left = subtree_some did.news t.height true (t.root, everywhere) (edit_all xs rs) did.becomes.uses did.becomes.subtree in
+      enough (length (edit_all xs rs)) (length left.more) (fewer xs) (more xs) (length rs) t.records (ap length left.is)
+      (length_all xs rs rises.ascends did.due) w.number
+    where
+      enough : (a m f p l r : ℕ) → a ≡ suc m → a + f ≡ l + p → l ≡ r → f < r + p
+      enough a m f p l r e g h = omega arith
 
-pub whole_edited : (told now_told : Option (List (List ℕ))) (free now : ℕ → Bool) (size records : ℕ) (t : Tree) (rs : List Record) (run xs : List Edit)
-    → IsRemoving free size t → records + fewer xs ≡ t.records + more xs → AtRootEdits run xs told now_told free now t
-    → IsWhole told free size t rs
-    → (are_due xs rs ≡ true) × IsWhole now_told now size (record { root = t.root; height = t.height; records = records }) (edit_all xs rs)
-whole_edited told now_told free now size records t rs run xs i count f w =
-    let a = at_root told free size t rs i w in
-    let did = f everywhere rs a.used refl (all_over_none (edit_keys run)) a.can in
-    let rises = subtree_rises a.can.pages t.height true (t.root, everywhere) rs a.used a.can.subtree in
-    let tall : 1 ≤ t.height = let ne = i.above in omega arith in
-    let number : length (edit_all xs rs) ≡ records =
-    same (length (edit_all xs rs)) (fewer xs) (more xs) (length rs) t.records records (length_all xs rs rises.ascends did.due) w.number count in (
-      did.due,
-      whole_again did.pages did.news now_told free now size t.root t.height records a.used did.becomes.uses
-          (edit_all xs rs) did.is tall did.becomes.subtree did.becomes.moves a.can.apart a.balance number,
-    )
-  where
-    same : (a f p l r n : ℕ) → a + f ≡ l + p → l ≡ r → n + f ≡ r + p → a ≡ n
-    same a f p l r n g h c = omega arith
+  pub whole_edited : (records : ℕ) (t : Tree) (rs : List Record) (run xs : List Edit) → IsRemoving free size t → records + fewer xs ≡ t.records + more xs → AtRootEdits run xs told now_told free now t → IsWhole told free size t rs → (are_due xs rs ≡ true) × IsWhole now_told now size (record { root = t.root; height = t.height; records = records }) (edit_all xs rs)
+  whole_edited records t rs run xs i count f w =
+      let a = at_root told free size t rs i w in
+      let did = f everywhere rs a.used refl (all_over_none (edit_keys run)) a.can in
+      let rises = subtree_rises a.can.pages t.height true (t.root, everywhere) rs a.used a.can.subtree in
+      let tall : 1 ≤ t.height = let ne = i.above in omega arith in
+      let number : length (edit_all xs rs) ≡ records =
+      same (length (edit_all xs rs)) (fewer xs) (more xs) (length rs) t.records records (length_all xs rs rises.ascends did.due) w.number count in (
+        did.due,
+        whole_again did.pages did.news now_told free now size t.root t.height records a.used did.becomes.uses
+            (edit_all xs rs) did.is tall did.becomes.subtree did.becomes.moves a.can.apart a.balance number,
+      )
+    where
+      same : (a f p l r n : ℕ) → a + f ≡ l + p → l ≡ r → n + f ≡ r + p → a ≡ n
+      same a f p l r n g h c = omega arith
 
 fails_all : (run : List Edit) (high : Option Key) (rs : List Record) → Fails run high rs → are_due run rs ≡ false
 fails_all run high rs l =

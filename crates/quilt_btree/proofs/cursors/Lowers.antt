@@ -46,34 +46,31 @@ last_lower k rs n r ne is low high =
 pub own_records : (bytes : List ℕ) (rs : List Record) → leaf_of bytes ≡ Some rs → leaf_of bytes ≡ Some (records_of bytes)
 own_records bytes rs is = is ∙ ap Some (sym (leaf_records bytes rs is))
 
--- in a subtree
-pub lower_here : (old new : Option (List (List ℕ))) (page height child i : ℕ) (k : Key) (inner : Inner) (r : Record)
-    → AtFloor old new page height child i k inner
-    → ((rs : List Record) → Spells new child (height - 1) rs → IsLast k rs r) → (rs : List Record) → Spells old page height rs → IsLast k rs r
-lower_here old new page height child i k inner r a f rs s =
-    let at = leads_below old page height rs inner i k a.some a.above s a.reads a.place in
-    let h = f at.here (subst (λ c. Spells new c (height - 1) at.here) (sym a.is_child)
-    (along_told old new (slice_index inner.children i) (height - 1) at.here a.told at.spells)) in
-    record {
-      before = at.first ++ h.before;
-      behind = h.behind ++ at.last;
-      records = at.among.records ∙ ap (λ m. at.first ++ (m ++ at.last)) h.records
-          ∙ ap (λ m. at.first ++ m) (append_assoc h.before (r ∷ h.behind) at.last) ∙ sym (append_assoc at.first h.before (r ∷ (h.behind ++ at.last)));
-      lower = subst (λ m. list_all (λ (l : Record). is_lt (key_cmp l.key k)) m ≡ true) (sym (append_assoc at.first h.before (r ∷ [])))
-          (all_append (λ (l : Record). is_lt (key_cmp l.key k)) at.first (h.before ++ r ∷ []) at.among.lower h.lower);
-      higher = all_append (λ (l : Record). is_le (key_cmp k l.key)) h.behind at.last h.higher (over_le k at.last at.among.higher);
-    }
+module _ (old new : Option (List (List ℕ))) (page height child i : ℕ) (k : Key) (inner : Inner) where
+  -- in a subtree
+  pub lower_here : (r : Record) → AtFloor old new page height child i k inner → ((rs : List Record) → Spells new child (height - 1) rs → IsLast k rs r) → (rs : List Record) → Spells old page height rs → IsLast k rs r
+  lower_here r a f rs s =
+      let at = leads_below old page height rs inner i k a.some a.above s a.reads a.place in
+      let h = f at.here (subst (λ c. Spells new c (height - 1) at.here) (sym a.is_child)
+      (along_told old new (slice_index inner.children i) (height - 1) at.here a.told at.spells)) in
+      record {
+        before = at.first ++ h.before;
+        behind = h.behind ++ at.last;
+        records = at.among.records ∙ ap (λ m. at.first ++ (m ++ at.last)) h.records
+            ∙ ap (λ m. at.first ++ m) (append_assoc h.before (r ∷ h.behind) at.last) ∙ sym (append_assoc at.first h.before (r ∷ (h.behind ++ at.last)));
+        lower = subst (λ m. list_all (λ (l : Record). is_lt (key_cmp l.key k)) m ≡ true) (sym (append_assoc at.first h.before (r ∷ [])))
+            (all_append (λ (l : Record). is_lt (key_cmp l.key k)) at.first (h.before ++ r ∷ []) at.among.lower h.lower);
+        higher = all_append (λ (l : Record). is_le (key_cmp k l.key)) h.behind at.last h.higher (over_le k at.last at.among.higher);
+      }
 
-pub lower_none : (old new : Option (List (List ℕ))) (page height child i : ℕ) (k : Key) (inner : Inner) → AtFloor old new page height child i k inner → i ≡ 0
-    → ((rs : List Record) → Spells new child (height - 1) rs → list_all (λ (r : Record). is_le (key_cmp k r.key)) rs ≡ true)
-    → (rs : List Record) → Spells old page height rs → list_all (λ (r : Record). is_le (key_cmp k r.key)) rs ≡ true
-lower_none old new page height child i k inner a zero_place f rs s =
-    let at = leads_below old page height rs inner i k a.some a.above s a.reads a.place in
-    let h = f at.here (subst (λ c. Spells new c (height - 1) at.here) (sym a.is_child)
-    (along_told old new (slice_index inner.children i) (height - 1) at.here a.told at.spells)) in
-    subst (λ l. list_all (λ (r : Record). is_le (key_cmp k r.key)) l ≡ true)
-    (sym (at.among.records ∙ ap (λ l. l ++ (at.here ++ at.last)) (at.none_before zero_place)))
-    (all_append (λ (r : Record). is_le (key_cmp k r.key)) at.here at.last h (over_le k at.last at.among.higher))
+  pub lower_none : AtFloor old new page height child i k inner → i ≡ 0 → ((rs : List Record) → Spells new child (height - 1) rs → list_all (λ (r : Record). is_le (key_cmp k r.key)) rs ≡ true) → (rs : List Record) → Spells old page height rs → list_all (λ (r : Record). is_le (key_cmp k r.key)) rs ≡ true
+  lower_none a zero_place f rs s =
+      let at = leads_below old page height rs inner i k a.some a.above s a.reads a.place in
+      let h = f at.here (subst (λ c. Spells new c (height - 1) at.here) (sym a.is_child)
+      (along_told old new (slice_index inner.children i) (height - 1) at.here a.told at.spells)) in
+      subst (λ l. list_all (λ (r : Record). is_le (key_cmp k r.key)) l ≡ true)
+      (sym (at.among.records ∙ ap (λ l. l ++ (at.here ++ at.last)) (at.none_before zero_place)))
+      (all_append (λ (r : Record). is_le (key_cmp k r.key)) at.here at.last h (over_le k at.last at.among.higher))
 
 -- the last record of a list, and those before it
 last_cut : (xs : List Record) (r : Record) → last_or None xs ≡ Some r → (init : List Record) × (xs ≡ init ++ r ∷ [])
@@ -142,36 +139,31 @@ tree_ascends told t rs ne is =
     let s = (tree_spells told t rs ne is).0 in
     (subtree_rises s.pages t.height s.is_root (t.root, s.bounds) rs s.used s.subtree).ascends
 
--- what stands around the first record of a leaf
-first_parts : (told : Option (List (List ℕ))) (t : Tree) (c : Cursor) (first : Record) (before after : List Record) → t.height ≢ 0 → c.place ≡ 0
-    → (0 < length (records_of c.bytes) → slice_get (records_of c.bytes) 0 ≡ Some first)
-    → IsTree told t (before ++ after) → StandsIn told t c before after
-    → (list_all (λ (l : Record). is_lt (key_cmp l.key first.key)) before ≡ true) × (list_all (λ (l : Record). is_le (key_cmp first.key l.key)) after ≡ true)
-first_parts told t c first before after ne e at is s =
-    let here = records_of c.bytes in
-    let some = s.some in
-    let front = drop_at here 0 first (at (omega arith)) in
-    let behind : after ≡ first ∷ (drop 1 here ++ s.last) = s.is_after ∙ ap (λ n. drop n here ++ s.last) e ∙ ap (λ l. l ++ s.last) front in
-    let p = parted before first (drop 1 here ++ s.last)
-    (subst (λ l. is_ascending (keys_of (before ++ l)) ≡ true) behind (tree_ascends told t (before ++ after) ne is)) in
-    (p.0, subst (λ l. list_all (λ (l : Record). is_le (key_cmp first.key l.key)) l ≡ true) (sym behind) p.1)
+module _ (told : Option (List (List ℕ))) (t : Tree) (c : Cursor) (first : Record) (before after : List Record) where
+  -- what stands around the first record of a leaf
+  first_parts : t.height ≢ 0 → c.place ≡ 0 → (0 < length (records_of c.bytes) → slice_get (records_of c.bytes) 0 ≡ Some first) → IsTree told t (before ++ after) → StandsIn told t c before after → (list_all (λ (l : Record). is_lt (key_cmp l.key first.key)) before ≡ true) × (list_all (λ (l : Record). is_le (key_cmp first.key l.key)) after ≡ true)
+  first_parts ne e at is s =
+      let here = records_of c.bytes in
+      let some = s.some in
+      let front = drop_at here 0 first (at (omega arith)) in
+      let behind : after ≡ first ∷ (drop 1 here ++ s.last) = s.is_after ∙ ap (λ n. drop n here ++ s.last) e ∙ ap (λ l. l ++ s.last) front in
+      let p = parted before first (drop 1 here ++ s.last)
+      (subst (λ l. is_ascending (keys_of (before ++ l)) ≡ true) behind (tree_ascends told t (before ++ after) ne is)) in
+      (p.0, subst (λ l. list_all (λ (l : Record). is_le (key_cmp first.key l.key)) l ≡ true) (sym behind) p.1)
 
--- no record stands before the first leaf
-pub none_back : (told : Option (List (List ℕ))) (t : Tree) (c : Cursor) (first : Record) (before after : List Record) → 1 ≤ t.height → c.place ≡ 0
-    → (0 < length (records_of c.bytes) → slice_get (records_of c.bytes) 0 ≡ Some first)
-    → ((rs : List Record) → Spells told t.root t.height rs → IsLower first.key rs None)
-    → IsTree told t (before ++ after) → StandsIn told t c before after → before ≡ []
-none_back told t c first before after some e at lower is s =
-    let ne : t.height ≢ 0 = omega arith in
-    let p = first_parts told t c first before after ne e at is s in
-    empty before p.0 (lower (before ++ after) (tree_spells told t (before ++ after) ne is).0)
-  where
-    empty : (xs : List Record) → list_all (λ (l : Record). is_lt (key_cmp l.key first.key)) xs ≡ true
-        → list_all (λ (l : Record). is_le (key_cmp first.key l.key)) (xs ++ after) ≡ true → xs ≡ []
-    empty [] h g = refl
-    empty (x ∷ xs) h g =
-        absurd (no_both x.key first.key (and_parts (is_lt (key_cmp x.key first.key)) (list_all (λ (l : Record). is_lt (key_cmp l.key first.key)) xs) h).0
-        (and_parts (is_le (key_cmp first.key x.key)) (list_all (λ (l : Record). is_le (key_cmp first.key l.key)) (xs ++ after)) g).0)
+  -- no record stands before the first leaf
+  pub none_back : 1 ≤ t.height → c.place ≡ 0 → (0 < length (records_of c.bytes) → slice_get (records_of c.bytes) 0 ≡ Some first) → ((rs : List Record) → Spells told t.root t.height rs → IsLower first.key rs None) → IsTree told t (before ++ after) → StandsIn told t c before after → before ≡ []
+  none_back some e at lower is s =
+      let ne : t.height ≢ 0 = omega arith in
+      let p = first_parts ne e at is s in
+      empty before p.0 (lower (before ++ after) (tree_spells told t (before ++ after) ne is).0)
+    where
+      empty : (xs : List Record) → list_all (λ (l : Record). is_lt (key_cmp l.key first.key)) xs ≡ true
+          → list_all (λ (l : Record). is_le (key_cmp first.key l.key)) (xs ++ after) ≡ true → xs ≡ []
+      empty [] h g = refl
+      empty (x ∷ xs) h g =
+          absurd (no_both x.key first.key (and_parts (is_lt (key_cmp x.key first.key)) (list_all (λ (l : Record). is_lt (key_cmp l.key first.key)) xs) h).0
+          (and_parts (is_le (key_cmp first.key x.key)) (list_all (λ (l : Record). is_le (key_cmp first.key l.key)) (xs ++ after)) g).0)
 
 -- the cursor goes back into another leaf
 pub back_over : (told : Option (List (List ℕ))) (t : Tree) (c d : Cursor) (first r : Record) (before after : List Record) → 1 ≤ t.height → c.place ≡ 0

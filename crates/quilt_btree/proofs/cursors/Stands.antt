@@ -147,52 +147,47 @@ parts_same k (x ∷ xs) ys (u ∷ us) vs e a b c d =
     (and_parts (is_lt (key_cmp u.key k)) (list_all (λ (r : Record). is_lt (key_cmp r.key k)) us) c).1 d in
     (cc, h.1)
 
-pub entered : (told : Option (List (List ℕ))) (t : Tree) (k : Key) (before after : List Record) (bytes : List ℕ) (high : Option Key)
-    → Arrives told t.root t.height k None bytes high → 1 ≤ t.height → IsTree told t (before ++ after) → IsParted told t k before after
-    → StandsAt told t bytes 0 high before after
-entered told t k before after bytes high a some is p =
-    let ne : t.height ≢ 0 = omega arith in
-    let s = tree_spells told t (before ++ after) ne is in
-    let l = a.leads (before ++ after) s.0 s.1 in
-    let here = records_of bytes in
-    let from = a.cut.starts p.pages (before ++ after) p.is_told s.0 s.1 p.divides in
-    let same = parts_same k before after l.before (here ++ l.behind) l.records p.lower p.higher l.lower
-    (all_append (λ (r : Record). is_le (key_cmp k r.key)) here l.behind from (over_le k l.behind l.higher)) in
-    record {
-      first = l.before;
-      last = l.behind;
-      some = a.least (before ++ after) s.0;
-      in_range = omega arith;
-      is_before = same.0 ∙ sym (append-nil l.before);
-      is_after = same.1;
-      further = further_at told t k (before ++ after) here high l a.cut is ne;
-    }
-
-pub goes_over : (told : Option (List (List ℕ))) (t : Tree) (r : Record) (bytes : List ℕ) (place : ℕ) (high : Option Key) (before after : List Record)
-    → place < length (records_of bytes) → slice_get (records_of bytes) place ≡ Some r
-    → StandsAt told t bytes place high before after
-    → GoesOverTo told t r bytes (place + 1) high before after
-goes_over told t r bytes place high before after lt at s =
-    let here = records_of bytes in
-    record {
-      rest = drop (suc place) here ++ s.last;
-      records = s.is_after ∙ ap (λ l. l ++ s.last) (drop_at here place r at);
-      stands = record {
-        first = s.first;
-        last = s.last;
-        some = s.some;
+module _ (told : Option (List (List ℕ))) (t : Tree) where
+  pub entered : (k : Key) (before after : List Record) (bytes : List ℕ) (high : Option Key) → Arrives told t.root t.height k None bytes high → 1 ≤ t.height → IsTree told t (before ++ after) → IsParted told t k before after → StandsAt told t bytes 0 high before after
+  entered k before after bytes high a some is p =
+      let ne : t.height ≢ 0 = omega arith in
+      let s = tree_spells told t (before ++ after) ne is in
+      let l = a.leads (before ++ after) s.0 s.1 in
+      let here = records_of bytes in
+      let from = a.cut.starts p.pages (before ++ after) p.is_told s.0 s.1 p.divides in
+      let same = parts_same k before after l.before (here ++ l.behind) l.records p.lower p.higher l.lower
+      (all_append (λ (r : Record). is_le (key_cmp k r.key)) here l.behind from (over_le k l.behind l.higher)) in
+      record {
+        first = l.before;
+        last = l.behind;
+        some = a.least (before ++ after) s.0;
         in_range = omega arith;
-        is_before = ap (λ b. b ++ r ∷ []) s.is_before ∙ assoc s.first (take place here) (r ∷ [])
-            ∙ ap (λ l. s.first ++ l) (sym (ap (λ n. take n here) (add-one place) ∙ take_at here place r at));
-        is_after = ap (λ n. drop n here ++ s.last) (sym (add-one place));
-        further = s.further;
-      };
-    }
+        is_before = same.0 ∙ sym (append-nil l.before);
+        is_after = same.1;
+        further = further_at told t k (before ++ after) here high l a.cut is ne;
+      }
 
-pub stands_further : (told : Option (List (List ℕ))) (t : Tree) (c : Cursor) (k : Key) (before after : List Record) → length (records_of c.bytes) ≤ c.place
-    → c.high ≡ Some k → StandsIn told t c before after → IsParted told t k before after
-stands_further told t c k before after le is s =
-    let p : IsParted told t k (s.first ++ records_of c.bytes) s.last =
-    subst (λ o. MatchOption o (s.last ≡ []) (λ k. IsParted told t k (s.first ++ records_of c.bytes) s.last)) is s.further in
-    subst (λ l. IsParted told t k l after) (sym (s.is_before ∙ ap (λ l. s.first ++ l) (take_all c.place (records_of c.bytes) le)))
-    (subst (λ l. IsParted told t k (s.first ++ records_of c.bytes) l) (sym (s.is_after ∙ ap (λ l. l ++ s.last) (drop_past (records_of c.bytes) c.place le))) p)
+  pub goes_over : (r : Record) (bytes : List ℕ) (place : ℕ) (high : Option Key) (before after : List Record) → place < length (records_of bytes) → slice_get (records_of bytes) place ≡ Some r → StandsAt told t bytes place high before after → GoesOverTo told t r bytes (place + 1) high before after
+  goes_over r bytes place high before after lt at s =
+      let here = records_of bytes in
+      record {
+        rest = drop (suc place) here ++ s.last;
+        records = s.is_after ∙ ap (λ l. l ++ s.last) (drop_at here place r at);
+        stands = record {
+          first = s.first;
+          last = s.last;
+          some = s.some;
+          in_range = omega arith;
+          is_before = ap (λ b. b ++ r ∷ []) s.is_before ∙ assoc s.first (take place here) (r ∷ [])
+              ∙ ap (λ l. s.first ++ l) (sym (ap (λ n. take n here) (add-one place) ∙ take_at here place r at));
+          is_after = ap (λ n. drop n here ++ s.last) (sym (add-one place));
+          further = s.further;
+        };
+      }
+
+  pub stands_further : (c : Cursor) (k : Key) (before after : List Record) → length (records_of c.bytes) ≤ c.place → c.high ≡ Some k → StandsIn told t c before after → IsParted told t k before after
+  stands_further c k before after le is s =
+      let p : IsParted told t k (s.first ++ records_of c.bytes) s.last =
+      subst (λ o. MatchOption o (s.last ≡ []) (λ k. IsParted told t k (s.first ++ records_of c.bytes) s.last)) is s.further in
+      subst (λ l. IsParted told t k l after) (sym (s.is_before ∙ ap (λ l. s.first ++ l) (take_all c.place (records_of c.bytes) le)))
+      (subst (λ l. IsParted told t k (s.first ++ records_of c.bytes) l) (sym (s.is_after ∙ ap (λ l. l ++ s.last) (drop_past (records_of c.bytes) c.place le))) p)

@@ -23,16 +23,15 @@ use Rattle.quilt_btree.proofs.subtrees.Whole.{tree_spells, no_records}
 abbrev pub Finds : Option (List (List ℕ)) → ℕ → ℕ → Key → Bool → Type 0
 Finds told page height k b = (rs : List Record) → Spells told page height rs → b ≡ list_any (has_key k) rs
 
--- a search in a leaf
-pub finds_here : (told : Option (List (List ℕ))) (page height i : ℕ) (k : Key) (leaf : List Record) → ReadsLeaf told page leaf → IsFound k leaf i
-    → height ≡ 1 → Finds told page height k true
-finds_here told page height i k leaf reads f one rs s =
-    sym (found_any k leaf i f.found f f.here) ∙ ap (list_any (has_key k)) (leaf_spells told page height rs leaf one s reads)
+module _ (told : Option (List (List ℕ))) (page height i : ℕ) (k : Key) (leaf : List Record) (reads : ReadsLeaf told page leaf) where
+  -- a search in a leaf
+  pub finds_here : IsFound k leaf i → height ≡ 1 → Finds told page height k true
+  finds_here f one rs s =
+      sym (found_any k leaf i f.found f f.here) ∙ ap (list_any (has_key k)) (leaf_spells told page height rs leaf one s reads)
 
-pub finds_none : (told : Option (List (List ℕ))) (page height i : ℕ) (k : Key) (leaf : List Record) → ReadsLeaf told page leaf → IsGap k leaf i
-    → height ≡ 1 → Finds told page height k false
-finds_none told page height i k leaf reads g one rs s =
-    sym (gap_any k leaf i g) ∙ ap (list_any (has_key k)) (leaf_spells told page height rs leaf one s reads)
+  pub finds_none : IsGap k leaf i → height ≡ 1 → Finds told page height k false
+  finds_none g one rs s =
+      sym (gap_any k leaf i g) ∙ ap (list_any (has_key k)) (leaf_spells told page height rs leaf one s reads)
 
 -- a search below an inner page
 pub record IsLed (told then_told : Option (List (List ℕ))) (page height child i : ℕ) (k : Key) (inner : Inner) : Type 0 where

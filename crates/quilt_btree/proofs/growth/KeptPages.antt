@@ -179,69 +179,56 @@ out_none k told free t rs e w =
     let none = no_records told t rs e w.tree in
     subst (λ l. HasItsPages told free t l) (none ∙ sym (without_none k) ∙ ap (without k) (sym none)) w
 
-pub out_missing : (k : Key) (told now_told : Option (List (List ℕ))) (free now : ℕ → Bool) (t : Tree) (rs : List Record) → t.height ≢ 0
-    → removals.UnderRoot k told now_told free now t removed.Missing → now_told ≡ told → now ≡ free
-    → HasItsPages told free t rs → HasItsPages now_told now t (without k rs)
-out_missing k told now_told free now t rs ne f same same_free w =
-    let a = at_root told free t rs ne w in
-    let none = f true everywhere rs a.used a.can in
-    subst (λ l. HasItsPages now_told now t l) (sym (without_missing k rs none)) (same_tree told now_told free now t rs same same_free w)
+module _ (k : Key) (told now_told : Option (List (List ℕ))) (free now : ℕ → Bool) (t : Tree) (rs : List Record) where
+  pub out_missing : t.height ≢ 0 → removals.UnderRoot k told now_told free now t removed.Missing → now_told ≡ told → now ≡ free → HasItsPages told free t rs → HasItsPages now_told now t (without k rs)
+  out_missing ne f same same_free w =
+      let a = at_root told free t rs ne w in
+      let none = f true everywhere rs a.used a.can in
+      subst (λ l. HasItsPages now_told now t l) (sym (without_missing k rs none)) (same_tree told now_told free now t rs same same_free w)
 
-became : (k : Key) (told now_told : Option (List (List ℕ))) (free now : ℕ → Bool) (t : Tree) (rs : List Record) (a : AtRoot told free t rs)
-    (pages news : List (List ℕ)) → t.height ≢ 0 → now_told ≡ Some news
-    → Becomes pages news free now t.root t.height true everywhere a.used (without k rs)
-    → HasItsPages now_told now (record { root = t.root; height = t.height; records = t.records - 1 }) (without k rs)
-became k told now_told free now t rs a pages news ne is b =
-    kept_again pages news now_told free now t.root t.height (t.records - 1) a.used b.uses (without k rs) is
-    (some_height t.height ne) b.subtree b.moves a.can.apart
+  became : (a : AtRoot told free t rs) (pages news : List (List ℕ)) → t.height ≢ 0 → now_told ≡ Some news → Becomes pages news free now t.root t.height true everywhere a.used (without k rs) → HasItsPages now_told now (record { root = t.root; height = t.height; records = t.records - 1 }) (without k rs)
+  became a pages news ne is b =
+      kept_again pages news now_told free now t.root t.height (t.records - 1) a.used b.uses (without k rs) is
+      (some_height t.height ne) b.subtree b.moves a.can.apart
 
-pub out_done : (k : Key) (told now_told : Option (List (List ℕ))) (free now : ℕ → Bool) (t : Tree) (rs : List Record) → t.height ≢ 0
-    → removals.UnderRoot k told now_told free now t removed.Done
-    → HasItsPages told free t rs → HasItsPages now_told now (record { root = t.root; height = t.height; records = t.records - 1 }) (without k rs)
-out_done k told now_told free now t rs ne f w =
-    let a = at_root told free t rs ne w in
-    let did = f true everywhere rs a.used a.can in
-    became k told now_told free now t rs a did.1.pages did.1.news ne did.1.is did.1.left
+  pub out_done : t.height ≢ 0 → removals.UnderRoot k told now_told free now t removed.Done → HasItsPages told free t rs → HasItsPages now_told now (record { root = t.root; height = t.height; records = t.records - 1 }) (without k rs)
+  out_done ne f w =
+      let a = at_root told free t rs ne w in
+      let did = f true everywhere rs a.used a.can in
+      became a did.1.pages did.1.news ne did.1.is did.1.left
 
-pub out_underfull : (k : Key) (told now_told : Option (List (List ℕ))) (free now : ℕ → Bool) (t : Tree) (rs : List Record) → t.height ≢ 0
-    → removals.UnderRoot k told now_told free now t removed.Underfull
-    → HasItsPages told free t rs → HasItsPages now_told now (record { root = t.root; height = t.height; records = t.records - 1 }) (without k rs)
-out_underfull k told now_told free now t rs ne f w =
-    let a = at_root told free t rs ne w in
-    let did = f true everywhere rs a.used a.can in
-    let left = did.1.left in
-    became k told now_told free now t rs a did.1.pages did.1.news ne did.1.is left.1
+  pub out_underfull : t.height ≢ 0 → removals.UnderRoot k told now_told free now t removed.Underfull → HasItsPages told free t rs → HasItsPages now_told now (record { root = t.root; height = t.height; records = t.records - 1 }) (without k rs)
+  out_underfull ne f w =
+      let a = at_root told free t rs ne w in
+      let did = f true everywhere rs a.used a.can in
+      let left = did.1.left in
+      became a did.1.pages did.1.news ne did.1.is left.1
 
-pub out_emptied : (k : Key) (told mid now_told : Option (List (List ℕ))) (free between now : ℕ → Bool) (t : Tree) (rs : List Record) → t.height ≢ 0
-    → removals.UnderRoot k told mid free between t removed.Emptied
-    → Goes (HasGiven t.root) mid now_told → HasItsPages told free t rs
-    → HasItsPages now_told now (record { root = 0; height = 0; records = t.records - 1 }) (without k rs)
-out_emptied k told mid now_told free between now t rs ne f tells w =
-    let a = at_root told free t rs ne w in
-    let did = f true everywhere rs a.used a.can in
-    let left = did.1.left in
-    let on = tells_on (HasGiven t.root) mid now_told did.1.news did.1.is tells in
-    record {
-      tree = record { pages = on.0; is_told = on.1; visited = []; walk = removals.empty_walk on.0 ∙ ap (λ l. Whole l []) (sym left.none) };
-      apart = λ p. none_used (now p);
-    }
-  where
-    none_used : (b : Bool) → cond {A = ℕ} b 1 0 + 0 ≤ 1
-    none_used true = omega arith
-    none_used false = omega arith
+module _ (k : Key) (told mid now_told : Option (List (List ℕ))) (free between now : ℕ → Bool) where
+  pub out_emptied : (t : Tree) (rs : List Record) → t.height ≢ 0 → removals.UnderRoot k told mid free between t removed.Emptied → Goes (HasGiven t.root) mid now_told → HasItsPages told free t rs → HasItsPages now_told now (record { root = 0; height = 0; records = t.records - 1 }) (without k rs)
+  out_emptied t rs ne f tells w =
+      let a = at_root told free t rs ne w in
+      let did = f true everywhere rs a.used a.can in
+      let left = did.1.left in
+      let on = tells_on (HasGiven t.root) mid now_told did.1.news did.1.is tells in
+      record {
+        tree = record { pages = on.0; is_told = on.1; visited = []; walk = removals.empty_walk on.0 ∙ ap (λ l. Whole l []) (sym left.none) };
+        apart = λ p. none_used (now p);
+      }
+    where
+      none_used : (b : Bool) → cond {A = ℕ} b 1 0 + 0 ≤ 1
+      none_used true = omega arith
+      none_used false = omega arith
 
-pub out_only : (k : Key) (told mid now_told : Option (List (List ℕ))) (free between now : ℕ → Bool) (child : ℕ) (t : Tree) (rs : List Record)
-    → t.height ≢ 0 → removals.UnderRoot k told mid free between t (removed.Only child)
-    → Goes (HasGiven t.root) mid now_told → FreesOnly t.root true between now → HasItsPages told free t rs
-    → HasItsPages now_told now (record { root = child; height = t.height - 1; records = t.records - 1 }) (without k rs)
-out_only k told mid now_told free between now child t rs ne f tells frees w =
-    let a = at_root told free t rs ne w in
-    let did = f true everywhere rs a.used a.can in
-    let only = did.1.left.1 in
-    let grown =
-    removals.regrown_only told mid now_told did.1.pages did.1.news free between now t (without k rs) a.used child did.1.is only a.can.apart tells frees in
-    kept_again did.1.pages grown.news now_told free now child (t.height - 1) (t.records - 1) a.used grown.uses (without k rs) grown.is
-    (removals.tall_above did.1.news t.height child (without k rs) only.below only.uses only.is_height only.subtree) grown.subtree grown.moves a.can.apart
+  pub out_only : (child : ℕ) (t : Tree) (rs : List Record) → t.height ≢ 0 → removals.UnderRoot k told mid free between t (removed.Only child) → Goes (HasGiven t.root) mid now_told → FreesOnly t.root true between now → HasItsPages told free t rs → HasItsPages now_told now (record { root = child; height = t.height - 1; records = t.records - 1 }) (without k rs)
+  out_only child t rs ne f tells frees w =
+      let a = at_root told free t rs ne w in
+      let did = f true everywhere rs a.used a.can in
+      let only = did.1.left.1 in
+      let grown =
+      removals.regrown_only told mid now_told did.1.pages did.1.news free between now t (without k rs) a.used child did.1.is only a.can.apart tells frees in
+      kept_again did.1.pages grown.news now_told free now child (t.height - 1) (t.records - 1) a.used grown.uses (without k rs) grown.is
+      (removals.tall_above did.1.news t.height child (without k rs) only.below only.uses only.is_height only.subtree) grown.subtree grown.moves a.can.apart
 
 pub out_shrunk : (r : Result Bool Stop) (k : Key) (told now_told : Option (List (List ℕ))) (free now : ℕ → Bool) (t new less : Tree) → OnOk r (new ≡ less)
     → ((rs : List Record) → HasItsPages told free t rs → HasItsPages now_told now less (without k rs))
@@ -256,50 +243,45 @@ exact told free t rs k a number h =
     let rises = subtree_rises a.can.pages t.height true (t.root, everywhere) rs a.used a.can.subtree in
     without_one_fewer k rs rises.ascends h ∙ number
 
-pub two_done : (k : Key) (told now_told : Option (List (List ℕ))) (free now : ℕ → Bool) (t : Tree) (rs : List Record) → t.height ≢ 0
-    → removals.UnderRoot k told now_told free now t removed.Done → length rs ≡ t.records → HasItsPages told free t rs → 2 ≤ t.records
-two_done k told now_told free now t rs ne f number w =
-    let a = at_root told free t rs ne w in
-    let did = f true everywhere rs a.used a.can in
-    removals.two_left did.1.news t.height true (t.root, everywhere) (without k rs) did.1.left.uses t.records did.1.left.subtree
-    (exact told free t rs k a number did.0)
+module _ (k : Key) (told now_told : Option (List (List ℕ))) (free now : ℕ → Bool) where
+  pub two_done : (t : Tree) (rs : List Record) → t.height ≢ 0 → removals.UnderRoot k told now_told free now t removed.Done → length rs ≡ t.records → HasItsPages told free t rs → 2 ≤ t.records
+  two_done t rs ne f number w =
+      let a = at_root told free t rs ne w in
+      let did = f true everywhere rs a.used a.can in
+      removals.two_left did.1.news t.height true (t.root, everywhere) (without k rs) did.1.left.uses t.records did.1.left.subtree
+      (exact told free t rs k a number did.0)
 
-pub two_underfull : (k : Key) (told now_told : Option (List (List ℕ))) (free now : ℕ → Bool) (t : Tree) (rs : List Record) → t.height ≢ 0
-    → removals.UnderRoot k told now_told free now t removed.Underfull → length rs ≡ t.records → HasItsPages told free t rs → 2 ≤ t.records
-two_underfull k told now_told free now t rs ne f number w =
-    let a = at_root told free t rs ne w in
-    let did = f true everywhere rs a.used a.can in
-    let left = did.1.left in
-    removals.two_left did.1.news t.height true (t.root, everywhere) (without k rs) left.1.uses t.records left.1.subtree (exact told free t rs k a number did.0)
+  pub two_underfull : (t : Tree) (rs : List Record) → t.height ≢ 0 → removals.UnderRoot k told now_told free now t removed.Underfull → length rs ≡ t.records → HasItsPages told free t rs → 2 ≤ t.records
+  two_underfull t rs ne f number w =
+      let a = at_root told free t rs ne w in
+      let did = f true everywhere rs a.used a.can in
+      let left = did.1.left in
+      removals.two_left did.1.news t.height true (t.root, everywhere) (without k rs) left.1.uses t.records left.1.subtree (exact told free t rs k a number did.0)
 
-pub one_empty : (k : Key) (told now_told : Option (List (List ℕ))) (free now : ℕ → Bool) (t : Tree) (rs : List Record) → t.height ≢ 0
-    → removals.UnderRoot k told now_told free now t removed.Emptied → length rs ≡ t.records → HasItsPages told free t rs
-    → (now t.root ≡ false) × (t.records ≡ 1)
-one_empty k told now_told free now t rs ne f number w =
-    let a = at_root told free t rs ne w in
-    let did = f true everywhere rs a.used a.can in
-    let left = did.1.left in (
-      ap (λ g. g t.root) left.frees
-          ∙ used_not_free free a.used t.root a.can.apart (page_used a.can.pages t.height true (t.root, everywhere) rs a.used a.can.subtree),
-      sym (exact told free t rs k a number did.0) ∙ ap (λ l. suc (length l)) left.none,
-    )
+  pub one_empty : (t : Tree) (rs : List Record) → t.height ≢ 0 → removals.UnderRoot k told now_told free now t removed.Emptied → length rs ≡ t.records → HasItsPages told free t rs → (now t.root ≡ false) × (t.records ≡ 1)
+  one_empty t rs ne f number w =
+      let a = at_root told free t rs ne w in
+      let did = f true everywhere rs a.used a.can in
+      let left = did.1.left in (
+        ap (λ g. g t.root) left.frees
+            ∙ used_not_free free a.used t.root a.can.apart (page_used a.can.pages t.height true (t.root, everywhere) rs a.used a.can.subtree),
+        sym (exact told free t rs k a number did.0) ∙ ap (λ l. suc (length l)) left.none,
+      )
 
-pub two_only : (k : Key) (told now_told : Option (List (List ℕ))) (free now : ℕ → Bool) (child : ℕ) (t : Tree) (rs : List Record) → t.height ≢ 0
-    → removals.UnderRoot k told now_told free now t (removed.Only child) → length rs ≡ t.records → HasItsPages told free t rs
-    → (now t.root ≡ false) × (2 ≤ t.records) × (1 ≤ t.height - 1)
-two_only k told now_told free now child t rs ne f number w =
-    let a = at_root told free t rs ne w in
-    let did = f true everywhere rs a.used a.can in
-    let only = did.1.left.1 in
-    let apart = apart_then did.1.pages did.1.news free now a.used (only.uses ++ t.root ∷ []) only.moves a.can.apart in (
-      used_not_free now (only.uses ++ t.root ∷ []) t.root apart
-          (some (times t.root (only.uses ++ t.root ∷ [])) (times t.root only.uses) (removals.last_used t.root only.uses)),
-      removals.two_left did.1.news only.below false (child, everywhere) (without k rs) only.uses t.records only.subtree (exact told free t rs k a number did.0),
-      removals.tall_above did.1.news t.height child (without k rs) only.below only.uses only.is_height only.subtree,
-    )
-  where
-    some : (n m : ℕ) → n ≡ suc m → 1 ≤ n
-    some n m e = omega arith
+  pub two_only : (child : ℕ) (t : Tree) (rs : List Record) → t.height ≢ 0 → removals.UnderRoot k told now_told free now t (removed.Only child) → length rs ≡ t.records → HasItsPages told free t rs → (now t.root ≡ false) × (2 ≤ t.records) × (1 ≤ t.height - 1)
+  two_only child t rs ne f number w =
+      let a = at_root told free t rs ne w in
+      let did = f true everywhere rs a.used a.can in
+      let only = did.1.left.1 in
+      let apart = apart_then did.1.pages did.1.news free now a.used (only.uses ++ t.root ∷ []) only.moves a.can.apart in (
+        used_not_free now (only.uses ++ t.root ∷ []) t.root apart
+            (some (times t.root (only.uses ++ t.root ∷ [])) (times t.root only.uses) (removals.last_used t.root only.uses)),
+        removals.two_left did.1.news only.below false (child, everywhere) (without k rs) only.uses t.records only.subtree (exact told free t rs k a number did.0),
+        removals.tall_above did.1.news t.height child (without k rs) only.below only.uses only.is_height only.subtree,
+      )
+    where
+      some : (n m : ℕ) → n ≡ suc m → 1 ≤ n
+      some n m e = omega arith
 
 pub out_sound : (r : Result Bool Stop) (told : Option (List (List ℕ))) (free : ℕ → Bool) (t : Tree) (A B : Type 0) → IfErr r (λ e. A → B → IsSound e)
     → ((rs : List Record) → HasItsPages told free t rs → length rs ≡ t.records → A × B)

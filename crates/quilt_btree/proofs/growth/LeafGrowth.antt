@@ -221,16 +221,14 @@ leaf_there told now_told free now size page i r leaf is_root b rs used t same fo
   done = subst (λ l. list_any (has_key r.key) l ≡ true) same (found_any r.key leaf i found.found found found.here);
 }
 
--- a leaf that was read is the one that the subtree has
-pub leaf_read : (told : Option (List (List ℕ))) (free : ℕ → Bool) (size page : ℕ) (k : Key) (leaf : List Record) (is_root : Bool) (b : Bounds)
-    (rs : List Record) (used : List ℕ)
-    → ReadsLeaf told page leaf → CanInsert told free size page 1 is_root b k rs used → leaf ≡ rs
-leaf_read told free size page k leaf is_root b rs used reads can =
-    let there = reads can.can_edit.pages can.can_edit.is_told in
-    let mine = can.can_edit.subtree.page in
-    cc
+module _ (told : Option (List (List ℕ))) (free : ℕ → Bool) (size page : ℕ) (k : Key) where
+  -- a leaf that was read is the one that the subtree has
+  pub leaf_read : (leaf : List Record) (is_root : Bool) (b : Bounds) (rs : List Record) (used : List ℕ) → ReadsLeaf told page leaf → CanInsert told free size page 1 is_root b k rs used → leaf ≡ rs
+  leaf_read leaf is_root b rs used reads can =
+      let there = reads can.can_edit.pages can.can_edit.is_told in
+      let mine = can.can_edit.subtree.page in
+      cc
 
-pub leaf_can_spell : (told : Option (List (List ℕ))) (free : ℕ → Bool) (size page : ℕ) (k : Key) (is_root : Bool) (b : Bounds) (rs : List Record)
-    (used : List ℕ) → CanInsert told free size page 1 is_root b k rs used → Spells told page 1 rs
-leaf_can_spell told free size page k is_root b rs used can =
-    record { pages = can.can_edit.pages; is_told = can.can_edit.is_told; is_root = is_root; bounds = b; used = used; subtree = can.can_edit.subtree }
+  pub leaf_can_spell : (is_root : Bool) (b : Bounds) (rs : List Record) (used : List ℕ) → CanInsert told free size page 1 is_root b k rs used → Spells told page 1 rs
+  leaf_can_spell is_root b rs used can =
+      record { pages = can.can_edit.pages; is_told = can.can_edit.is_told; is_root = is_root; bounds = b; used = used; subtree = can.can_edit.subtree }

@@ -192,56 +192,48 @@ sound_root e told free size t k rs i ne f w =
     let x = insert_from told free size t rs i ne w in
     f true everywhere rs x.used (whole_can told free size t.root t.height k rs i.rooted.height x) (few_records size t.records rs w.number i.room i.most)
 
-pub whole_there : (r : Record) (told now_told : Option (List (List ℕ))) (free now : ℕ → Bool) (size : ℕ) (t : Tree) (rs : List Record)
-    → IsInserting told free size t → t.height ≢ 0 → UnderRoot r told now_told free now size t inserted.There
-    → now_told ≡ told → now ≡ free → IsWhole told free size t rs → (false ≡ not (list_any (has_key r.key) rs)) × IsWhole now_told now size t rs
-whole_there r told now_told free now size t rs i ne f same same_free w =
-    let x = insert_from told free size t rs i ne w in
-    let did = f true everywhere rs x.used (whole_can told free size t.root t.height r.key rs i.rooted.height x) in
-    (sym (ap not did.done), subst (λ o. IsWhole o now size t rs) (sym same) (subst (λ g. IsWhole told g size t rs) (sym same_free) w))
+module _ (r : Record) (told now_told : Option (List (List ℕ))) (free now : ℕ → Bool) (size : ℕ) where
+  pub whole_there : (t : Tree) (rs : List Record) → IsInserting told free size t → t.height ≢ 0 → UnderRoot r told now_told free now size t inserted.There → now_told ≡ told → now ≡ free → IsWhole told free size t rs → (false ≡ not (list_any (has_key r.key) rs)) × IsWhole now_told now size t rs
+  whole_there t rs i ne f same same_free w =
+      let x = insert_from told free size t rs i ne w in
+      let did = f true everywhere rs x.used (whole_can told free size t.root t.height r.key rs i.rooted.height x) in
+      (sym (ap not did.done), subst (λ o. IsWhole o now size t rs) (sym same) (subst (λ g. IsWhole told g size t rs) (sym same_free) w))
 
-pub whole_done : (r : Record) (told now_told : Option (List (List ℕ))) (free now : ℕ → Bool) (size : ℕ) (t : Tree) (rs : List Record)
-    → IsInserting told free size t → t.height ≢ 0 → UnderRoot r told now_told free now size t inserted.Done
-    → IsWhole told free size t rs → (true ≡ not (list_any (has_key r.key) rs))
-    × IsWhole now_told now size (record { root = t.root; height = t.height; records = t.records + 1 }) (put r rs)
-whole_done r told now_told free now size t rs i ne f w =
-    let x = insert_from told free size t rs i ne w in
-    let did = f true everywhere rs x.used (whole_can told free size t.root t.height r.key rs i.rooted.height x) in
-    let grown = did.done.1 in (
-      sym (ap not did.done.0),
-      whole_again did.pages did.news now_told free now size t.root t.height (t.records + 1) x.used grown.uses (put r rs) did.is
-          (some_height t.height ne) grown.subtree grown.moves x.apart x.balance (more_records r rs t.records w.number),
-    )
+  pub whole_done : (t : Tree) (rs : List Record) → IsInserting told free size t → t.height ≢ 0 → UnderRoot r told now_told free now size t inserted.Done → IsWhole told free size t rs → (true ≡ not (list_any (has_key r.key) rs)) × IsWhole now_told now size (record { root = t.root; height = t.height; records = t.records + 1 }) (put r rs)
+  whole_done t rs i ne f w =
+      let x = insert_from told free size t rs i ne w in
+      let did = f true everywhere rs x.used (whole_can told free size t.root t.height r.key rs i.rooted.height x) in
+      let grown = did.done.1 in (
+        sym (ap not did.done.0),
+        whole_again did.pages did.news now_told free now size t.root t.height (t.records + 1) x.used grown.uses (put r rs) did.is
+            (some_height t.height ne) grown.subtree grown.moves x.apart x.balance (more_records r rs t.records w.number),
+      )
 
--- a root of the greatest height is not split within the quota
-pub not_split : (r : Record) (told now_told : Option (List (List ℕ))) (free now : ℕ → Bool) (size : ℕ) (t : Tree) (rs : List Record) (key : Key)
-    (right : ℕ) → IsInserting told free size t → t.height ≡ 3
-    → UnderRoot r told now_told free now size t (inserted.Split key right) → IsWhole told free size t rs → ⊥
-not_split r told now_told free now size t rs key right i tall f w =
-    let ne : t.height ≢ 0 = omega arith in
-    let x = insert_from told free size t rs i ne w in
-    let did = f true everywhere rs x.used (whole_can told free size t.root t.height r.key rs i.rooted.height x) in
-    let separated = did.done.1 in
-    let left = third_filled did.news (t.root, record { low = None; high = Some key }) separated.first separated.first_uses
-    (subst (λ h. Subtree did.news h false (t.root, record { low = None; high = Some key }) separated.first separated.first_uses) tall separated.is_left) in
-    let right = third_filled did.news (right, record { low = Some key; high = None }) separated.rest separated.rest_uses
-    (subst (λ h. Subtree did.news h false (right, record { low = Some key; high = None }) separated.rest separated.rest_uses) tall separated.is_right) in
-    too_many size (length (put r rs)) (length separated.first) (length separated.rest) t.records
-    (ap length separated.records ∙ length-append separated.first separated.rest) (more_records r rs t.records w.number) left right i.room i.most
-  where
-    too_many : (n p a b m : ℕ) → p ≡ a + b → p ≡ m + 1 → 1161288 ≤ a → 1161288 ≤ b → m < quota n → n ≤ 30000 → ⊥
-    too_many n p a b m e f g h few most = omega arith
+  -- a root of the greatest height is not split within the quota
+  pub not_split : (t : Tree) (rs : List Record) (key : Key) (right : ℕ) → IsInserting told free size t → t.height ≡ 3 → UnderRoot r told now_told free now size t (inserted.Split key right) → IsWhole told free size t rs → ⊥
+  not_split t rs key right i tall f w =
+      let ne : t.height ≢ 0 = omega arith in
+      let x = insert_from told free size t rs i ne w in
+      let did = f true everywhere rs x.used (whole_can told free size t.root t.height r.key rs i.rooted.height x) in
+      let separated = did.done.1 in
+      let left = third_filled did.news (t.root, record { low = None; high = Some key }) separated.first separated.first_uses
+      (subst (λ h. Subtree did.news h false (t.root, record { low = None; high = Some key }) separated.first separated.first_uses) tall separated.is_left) in
+      let right = third_filled did.news (right, record { low = Some key; high = None }) separated.rest separated.rest_uses
+      (subst (λ h. Subtree did.news h false (right, record { low = Some key; high = None }) separated.rest separated.rest_uses) tall separated.is_right) in
+      too_many size (length (put r rs)) (length separated.first) (length separated.rest) t.records
+      (ap length separated.records ∙ length-append separated.first separated.rest) (more_records r rs t.records w.number) left right i.room i.most
+    where
+      too_many : (n p a b m : ℕ) → p ≡ a + b → p ≡ m + 1 → 1161288 ≤ a → 1161288 ≤ b → m < quota n → n ≤ 30000 → ⊥
+      too_many n p a b m e f g h few most = omega arith
 
--- a page is left for a new root
-pub root_room : (r : Record) (told now_told : Option (List (List ℕ))) (free now : ℕ → Bool) (size mid_size : ℕ) (t : Tree) (rs : List Record)
-    → IsInserting told free size t → t.height ≢ 0 → mid_size ≡ size
-    → count_free free size ≤ count_free now size + t.height → IsWhole told free size t rs → 0 < count_free now mid_size
-root_room r told now_told free now size mid_size t rs i ne same few w =
-    let x = insert_from told free size t rs i ne w in
-    subst (λ n. 0 < count_free now n) (sym same) (left (count_free free size) (count_free now size) t.height few x.left i.rooted.height)
-  where
-    left : (c d h : ℕ) → c ≤ d + h → 6 ≤ c → h ≤ 3 → 0 < d
-    left c d h e f g = omega arith
+  -- a page is left for a new root
+  pub root_room : (mid_size : ℕ) (t : Tree) (rs : List Record) → IsInserting told free size t → t.height ≢ 0 → mid_size ≡ size → count_free free size ≤ count_free now size + t.height → IsWhole told free size t rs → 0 < count_free now mid_size
+  root_room mid_size t rs i ne same few w =
+      let x = insert_from told free size t rs i ne w in
+      subst (λ n. 0 < count_free now n) (sym same) (left (count_free free size) (count_free now size) t.height few x.left i.rooted.height)
+    where
+      left : (c d h : ℕ) → c ≤ d + h → 6 ≤ c → h ≤ 3 → 0 < d
+      left c d h e f g = omega arith
 
 -- a new root was written above the two pages that the root has become
 pub record IsNewRoot (t : Tree) (mid_told now_told : Option (List (List ℕ))) (mid now : ℕ → Bool) (size : ℕ) (key : Key) (right new : ℕ)

@@ -48,36 +48,30 @@ pub record LeadsToChild (told then_told : Option (List (List ℕ))) (free then_f
 one_less : (height below : ℕ) → height ≡ suc (suc below) → height - 1 ≡ suc below
 one_less height below e = omega arith
 
--- what is around that child
-pub insert_below : (told then_told : Option (List (List ℕ))) (free then_free : ℕ → Bool) (size then_size page height child i : ℕ) (k : Key)
-    (inner : Inner) (is_root : Bool) (b : Bounds) (rs : List Record) (used : List ℕ)
-    → LeadsToChild told then_told free then_free size then_size page height child i k inner
-    → CanInsert told free size page height is_root b k rs used → IsBelow told free page height is_root b k rs used inner i
-insert_below told then_told free then_free size then_size page height child i k inner is_root b rs used l can =
-    go_below told free page height is_root b k rs used inner i l.some l.above l.reads l.place can.can_edit
+module _ (told then_told : Option (List (List ℕ))) (free then_free : ℕ → Bool) (size then_size page height child i : ℕ) (k : Key) (inner : Inner) (is_root : Bool) (b : Bounds) (rs : List Record) (used : List ℕ) (l : LeadsToChild told then_told free then_free size then_size page height child i k inner) (can : CanInsert told free size page height is_root b k rs used) where
+  -- what is around that child
+  pub insert_below : IsBelow told free page height is_root b k rs used inner i
+  insert_below =
+      go_below told free page height is_root b k rs used inner i l.some l.above l.reads l.place can.can_edit
 
-pub child_can : (told then_told : Option (List (List ℕ))) (free then_free : ℕ → Bool) (size then_size page height child i : ℕ) (k : Key)
-    (inner : Inner) (is_root : Bool) (b : Bounds) (rs : List Record) (used : List ℕ)
-    → LeadsToChild told then_told free then_free size then_size page height child i k inner
-    → (can : CanInsert told free size page height is_root b k rs used) → (x : IsBelow told free page height is_root b k rs used inner i)
-    → CanInsert then_told then_free then_size child (height - 1) false (child_bounds inner b i) k x.at.here x.at.here_used
-child_can told then_told free then_free size then_size page height child i k inner is_root b rs used l can x =
-    can_along told then_told free then_free size then_size child (height - 1) false (child_bounds inner b i) k x.at.here x.at.here_used l.same (record {
-      can_edit = record {
-        pages = x.pages;
-        is_told = x.is_told;
-        subtree = subst (λ c. Subtree x.pages (height - 1) false (c, child_bounds inner b i) x.at.here x.at.here_used) (sym l.is_child)
-            (subst (λ n. Subtree x.pages n false (slice_index inner.children i, child_bounds inner b i) x.at.here x.at.here_used)
-            (sym (one_less height x.below x.is_height)) x.child);
-        apart = x.here_apart;
-      };
-      low = child_above inner b i k l.place can.low;
-      high = child_below inner b i k l.place can.high;
-      room = fewer height (count_free free size) can.room;
-    })
-  where
-    fewer : (h c : ℕ) → h ≤ c → h - 1 ≤ c
-    fewer h c e = omega arith
+  pub child_can : (x : IsBelow told free page height is_root b k rs used inner i) → CanInsert then_told then_free then_size child (height - 1) false (child_bounds inner b i) k x.at.here x.at.here_used
+  child_can x =
+      can_along told then_told free then_free size then_size child (height - 1) false (child_bounds inner b i) k x.at.here x.at.here_used l.same (record {
+        can_edit = record {
+          pages = x.pages;
+          is_told = x.is_told;
+          subtree = subst (λ c. Subtree x.pages (height - 1) false (c, child_bounds inner b i) x.at.here x.at.here_used) (sym l.is_child)
+              (subst (λ n. Subtree x.pages n false (slice_index inner.children i, child_bounds inner b i) x.at.here x.at.here_used)
+              (sym (one_less height x.below x.is_height)) x.child);
+          apart = x.here_apart;
+        };
+        low = child_above inner b i k l.place can.low;
+        high = child_below inner b i k l.place can.high;
+        room = fewer height (count_free free size) can.room;
+      })
+    where
+      fewer : (h c : ℕ) → h ≤ c → h - 1 ≤ c
+      fewer h c e = omega arith
 
 -- what became of the child, in the pages that were told before
 pub record ChildDid (r : Record) (pages : List (List ℕ)) (now_told : Option (List (List ℕ))) (free now : ℕ → Bool) (child height : ℕ) (b : Bounds)
@@ -86,82 +80,64 @@ pub record ChildDid (r : Record) (pages : List (List ℕ)) (now_told : Option (L
   pub is : now_told ≡ Some news
   pub done : HasInserted r pages news free now child height false b rs used o
 
-child_did : (r : Record) (told then_told now_told : Option (List (List ℕ))) (free then_free now : ℕ → Bool) (size then_size page height child i : ℕ)
-    (inner : Inner) (is_root : Bool) (b : Bounds) (rs : List Record) (used : List ℕ) (o : Inserted)
-    → LeadsToChild told then_told free then_free size then_size page height child i r.key inner
-    → (can : CanInsert told free size page height is_root b r.key rs used) → (x : IsBelow told free page height is_root b r.key rs used inner i)
-    → ((is_root : Bool) (b : Bounds) (rs : List Record) (used : List ℕ)
-    → CanInsert then_told then_free then_size child (height - 1) is_root b r.key rs used
-    → DidInsert r then_told now_told then_free now child (height - 1) is_root b rs used o)
-    → ChildDid r x.pages now_told free now (slice_index inner.children i) (suc x.below) (child_bounds inner b i) x.at.here x.at.here_used o
-child_did r told then_told now_told free then_free now size then_size page height child i inner is_root b rs used o l can x f =
-    let did = did_along r told then_told now_told free then_free now size then_size child (height - 1) false
-    (child_bounds inner b i) x.at.here x.at.here_used o l.same
-    (f false (child_bounds inner b i) x.at.here x.at.here_used
-    (child_can told then_told free then_free size then_size page height child i r.key inner is_root b rs used l can x)) in
-    let was = did.was in
-    let mine = x.is_told in
-    let same : did.pages ≡ x.pages = cc in
-    record {
-      news = did.news;
-      is = did.is;
-      done =
-          subst (λ p. HasInserted r p did.news free now (slice_index inner.children i) (suc x.below) false
-          (child_bounds inner b i) x.at.here x.at.here_used o) same
-          (subst (λ c. HasInserted r did.pages did.news free now c (suc x.below) false (child_bounds inner b i) x.at.here x.at.here_used o) l.is_child
-          (subst (λ n. HasInserted r did.pages did.news free now child n false (child_bounds inner b i) x.at.here x.at.here_used o)
-          (one_less height x.below x.is_height) did.done));
-    }
+module _ (r : Record) (told then_told now_told : Option (List (List ℕ))) (free then_free now : ℕ → Bool) (size then_size page height child i : ℕ) (inner : Inner) (is_root : Bool) (b : Bounds) (rs : List Record) (used : List ℕ) where
+  child_did : (o : Inserted) → LeadsToChild told then_told free then_free size then_size page height child i r.key inner → (can : CanInsert told free size page height is_root b r.key rs used) (x : IsBelow told free page height is_root b r.key rs used inner i) → ((is_root : Bool) (b : Bounds) (rs : List Record) (used : List ℕ) → CanInsert then_told then_free then_size child (height - 1) is_root b r.key rs used → DidInsert r then_told now_told then_free now child (height - 1) is_root b rs used o) → ChildDid r x.pages now_told free now (slice_index inner.children i) (suc x.below) (child_bounds inner b i) x.at.here x.at.here_used o
+  child_did o l can x f =
+      let did = did_along r told then_told now_told free then_free now size then_size child (height - 1) false
+      (child_bounds inner b i) x.at.here x.at.here_used o l.same
+      (f false (child_bounds inner b i) x.at.here x.at.here_used
+      (child_can told then_told free then_free size then_size page height child i r.key inner is_root b rs used l can x)) in
+      let was = did.was in
+      let mine = x.is_told in
+      let same : did.pages ≡ x.pages = cc in
+      record {
+        news = did.news;
+        is = did.is;
+        done =
+            subst (λ p. HasInserted r p did.news free now (slice_index inner.children i) (suc x.below) false
+            (child_bounds inner b i) x.at.here x.at.here_used o) same
+            (subst (λ c. HasInserted r did.pages did.news free now c (suc x.below) false (child_bounds inner b i) x.at.here x.at.here_used o) l.is_child
+            (subst (λ n. HasInserted r did.pages did.news free now child n false (child_bounds inner b i) x.at.here x.at.here_used o)
+            (one_less height x.below x.is_height) did.done));
+      }
 
--- the key was there
-pub under_there : (r : Record) (told then_told now_told : Option (List (List ℕ))) (free then_free now : ℕ → Bool)
-    (size then_size page height child i : ℕ) (inner : Inner) (is_root : Bool) (b : Bounds) (rs : List Record) (used : List ℕ)
-    → LeadsToChild told then_told free then_free size then_size page height child i r.key inner
-    → ((is_root : Bool) (b : Bounds) (rs : List Record) (used : List ℕ)
-    → CanInsert then_told then_free then_size child (height - 1) is_root b r.key rs used
-    → DidInsert r then_told now_told then_free now child (height - 1) is_root b rs used inserted.There)
-    → CanInsert told free size page height is_root b r.key rs used → DidInsert r told now_told free now page height is_root b rs used inserted.There
-under_there r told then_told now_told free then_free now size then_size page height child i inner is_root b rs used l f can =
-    let x = insert_below told then_told free then_free size then_size page height child i r.key inner is_root b rs used l can in
-    let did = child_did r told then_told now_told free then_free now size then_size page height child i inner is_root b rs used inserted.There l can x f in
-    record { pages = x.pages; news = did.news; was = x.is_told; is = did.is; done = any_between r.key x.at.first x.at.here x.at.last rs x.among ∙ did.done }
+  -- the key was there
+  pub under_there : LeadsToChild told then_told free then_free size then_size page height child i r.key inner → ((is_root : Bool) (b : Bounds) (rs : List Record) (used : List ℕ) → CanInsert then_told then_free then_size child (height - 1) is_root b r.key rs used → DidInsert r then_told now_told then_free now child (height - 1) is_root b rs used inserted.There) → CanInsert told free size page height is_root b r.key rs used → DidInsert r told now_told free now page height is_root b rs used inserted.There
+  under_there l f can =
+      let x = insert_below told then_told free then_free size then_size page height child i r.key inner is_root b rs used l can in
+      let did = child_did inserted.There l can x f in
+      record { pages = x.pages; news = did.news; was = x.is_told; is = did.is; done = any_between r.key x.at.first x.at.here x.at.last rs x.among ∙ did.done }
 
--- the child took the record
-pub under_done : (r : Record) (told then_told now_told : Option (List (List ℕ))) (free then_free now : ℕ → Bool)
-    (size then_size page height child i : ℕ) (inner : Inner) (is_root : Bool) (b : Bounds) (rs : List Record) (used : List ℕ)
-    → LeadsToChild told then_told free then_free size then_size page height child i r.key inner
-    → ((is_root : Bool) (b : Bounds) (rs : List Record) (used : List ℕ)
-    → CanInsert then_told then_free then_size child (height - 1) is_root b r.key rs used
-    → DidInsert r then_told now_told then_free now child (height - 1) is_root b rs used inserted.Done)
-    → CanInsert told free size page height is_root b r.key rs used → DidInsert r told now_told free now page height is_root b rs used inserted.Done
-under_done r told then_told now_told free then_free now size then_size page height child i inner is_root b rs used l f can =
-    let x = insert_below told then_told free then_free size then_size page height child i r.key inner is_root b rs used l can in
-    let did = child_did r told then_told now_told free then_free now size then_size page height child i inner is_root b rs used inserted.Done l can x f in
-    let grown = did.done.1 in
-    let all = put r x.at.here in
-    let c = slice_index inner.children i in
-    let before = front (take i inner.children) (take i inner.keys) b in
-    let behind = tail_places (drop (suc i) inner.children) (drop i inner.keys) (from_keys (take i inner.keys) b) in
-    let middle : List (ℕ × Bounds) = (c, child_bounds inner b i) ∷ [] in
-    let moved = middle_moved x.pages did.news free now x.below page before middle behind middle rs x.under all grown.uses x.apart x.at
-    (row_one (Subtree did.news (suc x.below) false) (c, child_bounds inner b i) all grown.uses grown.subtree) grown.moves in
-    let becomes = parent_stays x.pages did.news free now x.below page is_root b inner x.under
-    (x.at.first ++ (all ++ x.at.last)) x.page_is x.inner_height x.enough x.within
-    (subst (λ (cs : List (ℕ × Bounds)). RowMoved x.pages did.news free now x.below page cs (x.at.first ++ (all ++ x.at.last)) x.under)
-    (sym (cut_at_child inner b i x.in_range x.list.keys)) moved) in
-    record {
-      pages = x.pages;
-      news = did.news;
-      was = x.is_told;
-      is = did.is;
-      done = (
-        any_between r.key x.at.first x.at.here x.at.last rs x.among ∙ did.done.0,
-        subst (λ n. Becomes x.pages did.news free now page n is_root b used (put r rs)) (sym x.is_height)
-            (subst (λ u. Becomes x.pages did.news free now page (suc (suc x.below)) is_root b u (put r rs)) (sym x.is_used)
-            (subst (λ m. Becomes x.pages did.news free now page (suc (suc x.below)) is_root b (x.under ++ page ∷ []) m)
-            (sym (put_between r x.at.first x.at.here x.at.last rs x.among)) becomes)),
-      );
-    }
+  -- the child took the record
+  pub under_done : LeadsToChild told then_told free then_free size then_size page height child i r.key inner → ((is_root : Bool) (b : Bounds) (rs : List Record) (used : List ℕ) → CanInsert then_told then_free then_size child (height - 1) is_root b r.key rs used → DidInsert r then_told now_told then_free now child (height - 1) is_root b rs used inserted.Done) → CanInsert told free size page height is_root b r.key rs used → DidInsert r told now_told free now page height is_root b rs used inserted.Done
+  under_done l f can =
+      let x = insert_below told then_told free then_free size then_size page height child i r.key inner is_root b rs used l can in
+      let did = child_did inserted.Done l can x f in
+      let grown = did.done.1 in
+      let all = put r x.at.here in
+      let c = slice_index inner.children i in
+      let before = front (take i inner.children) (take i inner.keys) b in
+      let behind = tail_places (drop (suc i) inner.children) (drop i inner.keys) (from_keys (take i inner.keys) b) in
+      let middle : List (ℕ × Bounds) = (c, child_bounds inner b i) ∷ [] in
+      let moved = middle_moved x.pages did.news free now x.below page before middle behind middle rs x.under all grown.uses x.apart x.at
+      (row_one (Subtree did.news (suc x.below) false) (c, child_bounds inner b i) all grown.uses grown.subtree) grown.moves in
+      let becomes = parent_stays x.pages did.news free now x.below page is_root b inner x.under
+      (x.at.first ++ (all ++ x.at.last)) x.page_is x.inner_height x.enough x.within
+      (subst (λ (cs : List (ℕ × Bounds)). RowMoved x.pages did.news free now x.below page cs (x.at.first ++ (all ++ x.at.last)) x.under)
+      (sym (cut_at_child inner b i x.in_range x.list.keys)) moved) in
+      record {
+        pages = x.pages;
+        news = did.news;
+        was = x.is_told;
+        is = did.is;
+        done = (
+          any_between r.key x.at.first x.at.here x.at.last rs x.among ∙ did.done.0,
+          subst (λ n. Becomes x.pages did.news free now page n is_root b used (put r rs)) (sym x.is_height)
+              (subst (λ u. Becomes x.pages did.news free now page (suc (suc x.below)) is_root b u (put r rs)) (sym x.is_used)
+              (subst (λ m. Becomes x.pages did.news free now page (suc (suc x.below)) is_root b (x.under ++ page ∷ []) m)
+              (sym (put_between r x.at.first x.at.here x.at.last rs x.among)) becomes)),
+        );
+      }
 
 page_test : (right size n : ℕ) → 1 ≤ right → right < size → n ≡ size → (nat_le 1 right && nat_lt right n) ≡ true
 page_test right size n low high e = grind (arith, nat_tests)

@@ -129,12 +129,12 @@ pub fits_last : (ks : List Key) (i : ℕ) (k : Key) → i < length ks → is_asc
     → length ks ≤ suc i → true ≡ is_ascending (slice_set ks i k)
 fits_last ks i k lt asc f e = fits_from ks i k lt asc true true (past_first ks i k f) (ap (is_before_all k) (no_more ks (suc i) e))
 
-pub known_past : (ks : List Key) (i : ℕ) (k l : Key) → slice_get ks (i - 1) ≡ Some l → is_lt (key_cmp l k) ≡ true → (m : Key) → 0 < i
-    → slice_get ks (i - 1) ≡ Some m → is_lt (key_cmp m k) ≡ true
-known_past ks i k l h g m some e = let same : l ≡ m = some_same l m (sym h ∙ e) in subst (λ n. is_lt (key_cmp n k) ≡ true) same g
-  where
-    some_same : (a b : Key) → Some a ≡ Some b → a ≡ b
-    some_same a b q = cc
+module _ (ks : List Key) (i : ℕ) (k : Key) where
+  pub known_past : (l : Key) → slice_get ks (i - 1) ≡ Some l → is_lt (key_cmp l k) ≡ true → (m : Key) → 0 < i → slice_get ks (i - 1) ≡ Some m → is_lt (key_cmp m k) ≡ true
+  known_past l h g m some e = let same : l ≡ m = some_same l m (sym h ∙ e) in subst (λ n. is_lt (key_cmp n k) ≡ true) same g
+    where
+      some_same : (a b : Key) → Some a ≡ Some b → a ≡ b
+      some_same a b q = cc
 
-pub first_past : (ks : List Key) (i : ℕ) (k : Key) → i ≤ 0 → (m : Key) → 0 < i → slice_get ks (i - 1) ≡ Some m → is_lt (key_cmp m k) ≡ true
-first_past ks i k none m some e = absurd (omega arith)
+  pub first_past : i ≤ 0 → (m : Key) → 0 < i → slice_get ks (i - 1) ≡ Some m → is_lt (key_cmp m k) ≡ true
+  first_past none m some e = absurd (omega arith)

@@ -40,21 +40,18 @@ part_at : (rs : List Record) (first last i : ℕ) (r : Record) → first ≤ i �
     → slice_get (part first last rs) (i - first) ≡ Some r
 part_at rs first last i r le lt h = get_take (drop first rs) (last - first) (i - first) r (omega arith) (get_drop rs first i r le h)
 
-pub add_place : (p : Record → Bool) (n first last i : ℕ) (old items rs : List Record) (r : Record) → first ≤ i → i < last → slice_get rs i ≡ Some r
-    → items ≡ take n (old ++ filter p (take (i - first) (part first last rs)))
-    → length items < n → p r ≡ true → items ++ r ∷ [] ≡ take n (old ++ filter p (take ((i + 1) - first) (part first last rs)))
-add_place p n first last i old items rs r le lt at is room passes =
-    let e : (i + 1) - first ≡ (i - first) + 1 = omega arith in
-    add_record p n (i - first) old items (part first last rs) r (part_at rs first last i r le lt at) is room passes
-    ∙ ap (λ m. take n (old ++ filter p (take m (part first last rs)))) (sym e)
+module _ (p : Record → Bool) (n first last i : ℕ) (old items rs : List Record) (r : Record) (le : first ≤ i) (lt : i < last) where
+  pub add_place : slice_get rs i ≡ Some r → items ≡ take n (old ++ filter p (take (i - first) (part first last rs))) → length items < n → p r ≡ true → items ++ r ∷ [] ≡ take n (old ++ filter p (take ((i + 1) - first) (part first last rs)))
+  add_place at is room passes =
+      let e : (i + 1) - first ≡ (i - first) + 1 = omega arith in
+      add_record p n (i - first) old items (part first last rs) r (part_at rs first last i r le lt at) is room passes
+      ∙ ap (λ m. take n (old ++ filter p (take m (part first last rs)))) (sym e)
 
-pub skip_place : (p : Record → Bool) (n first last i : ℕ) (old items rs : List Record) (r : Record) → first ≤ i → i < last → slice_get rs i ≡ Some r
-    → items ≡ take n (old ++ filter p (take (i - first) (part first last rs)))
-    → p r ≡ false → items ≡ take n (old ++ filter p (take ((i + 1) - first) (part first last rs)))
-skip_place p n first last i old items rs r le lt at is fails =
-    let e : (i + 1) - first ≡ (i - first) + 1 = omega arith in
-    skip_record p n (i - first) old items (part first last rs) r (part_at rs first last i r le lt at) is fails
-    ∙ ap (λ m. take n (old ++ filter p (take m (part first last rs)))) (sym e)
+  pub skip_place : slice_get rs i ≡ Some r → items ≡ take n (old ++ filter p (take (i - first) (part first last rs))) → p r ≡ false → items ≡ take n (old ++ filter p (take ((i + 1) - first) (part first last rs)))
+  skip_place at is fails =
+      let e : (i + 1) - first ≡ (i - first) + 1 = omega arith in
+      skip_record p n (i - first) old items (part first last rs) r (part_at rs first last i r le lt at) is fails
+      ∙ ap (λ m. take n (old ++ filter p (take m (part first last rs)))) (sym e)
 
 pub no_place : (p : Record → Bool) (n first last : ℕ) (old rs : List Record) → length old ≤ n
     → old ≡ take n (old ++ filter p (take (first - first) (part first last rs)))

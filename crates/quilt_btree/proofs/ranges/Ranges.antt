@@ -50,22 +50,19 @@ take_again zero xs ys = refl
 take_again (suc n) [] ys = refl
 take_again (suc n) (x ∷ xs) ys = ap (λ l. x ∷ l) (take_again n xs ys)
 
-pub add_record : (p : Record → Bool) (n i : ℕ) (old items leaf : List Record) (r : Record) → slice_get leaf i ≡ Some r
-    → items ≡ take n (old ++ filter p (take i leaf)) → length items < n → p r ≡ true
-    → items ++ r ∷ [] ≡ take n (old ++ filter p (take (i + 1) leaf))
-add_record p n i old items leaf r at is room passes =
-    let more : filter p (take (i + 1) leaf) ≡ filter p (take i leaf) ++ r ∷ [] =
-    ap (filter p) (take_next leaf i r at) ∙ filter-append p (take i leaf) (r ∷ [])
-    ∙ ap (λ l. filter p (take i leaf) ++ l) (filter_cond p r [] [] true passes) in
-    ap (λ l. l ++ r ∷ []) is ∙ sym (take_push n (old ++ filter p (take i leaf)) r (subst (λ l. length l < n) is room))
-    ∙ ap (take n) (append_assoc old (filter p (take i leaf)) (r ∷ []) ∙ ap (λ l. old ++ l) (sym more))
+module _ (p : Record → Bool) (n i : ℕ) (old items leaf : List Record) (r : Record) where
+  pub add_record : slice_get leaf i ≡ Some r → items ≡ take n (old ++ filter p (take i leaf)) → length items < n → p r ≡ true → items ++ r ∷ [] ≡ take n (old ++ filter p (take (i + 1) leaf))
+  add_record at is room passes =
+      let more : filter p (take (i + 1) leaf) ≡ filter p (take i leaf) ++ r ∷ [] =
+      ap (filter p) (take_next leaf i r at) ∙ filter-append p (take i leaf) (r ∷ [])
+      ∙ ap (λ l. filter p (take i leaf) ++ l) (filter_cond p r [] [] true passes) in
+      ap (λ l. l ++ r ∷ []) is ∙ sym (take_push n (old ++ filter p (take i leaf)) r (subst (λ l. length l < n) is room))
+      ∙ ap (take n) (append_assoc old (filter p (take i leaf)) (r ∷ []) ∙ ap (λ l. old ++ l) (sym more))
 
-pub skip_record : (p : Record → Bool) (n i : ℕ) (old items leaf : List Record) (r : Record) → slice_get leaf i ≡ Some r
-    → items ≡ take n (old ++ filter p (take i leaf)) → p r ≡ false
-    → items ≡ take n (old ++ filter p (take (i + 1) leaf))
-skip_record p n i old items leaf r at is fails =
-    is ∙ ap (λ l. take n (old ++ l)) (sym (ap (filter p) (take_next leaf i r at) ∙ filter-append p (take i leaf) (r ∷ [])
-    ∙ ap (λ l. filter p (take i leaf) ++ l) (filter_cond p r [] [] false fails) ∙ append-nil (filter p (take i leaf))))
+  pub skip_record : slice_get leaf i ≡ Some r → items ≡ take n (old ++ filter p (take i leaf)) → p r ≡ false → items ≡ take n (old ++ filter p (take (i + 1) leaf))
+  skip_record at is fails =
+      is ∙ ap (λ l. take n (old ++ l)) (sym (ap (filter p) (take_next leaf i r at) ∙ filter-append p (take i leaf) (r ∷ [])
+      ∙ ap (λ l. filter p (take i leaf) ++ l) (filter_cond p r [] [] false fails) ∙ append-nil (filter p (take i leaf))))
 
 pub full_list : (p : Record → Bool) (n i : ℕ) (old items leaf : List Record) → items ≡ take n (old ++ filter p (take i leaf)) → length items ≡ n
     → items ≡ take n (old ++ filter p leaf)
@@ -131,18 +128,18 @@ range_more low from high most rs leaf old new start up l starts le far is =
     ∙ ap (λ x. take most (filter P l.before ++ x)) (from_later low from high leaf le starts)
     ∙ ap (take most) (sym (filter-append P l.before leaf))
 
-pub none_below : (low high : Key) (rs : List Record) → AreBelow low rs → filter (is_from_to low high) rs ≡ []
-none_below low high rs h =
-    filter_none (is_from_to low high) rs
-    (all_follow (λ (r : Record). is_lt (key_cmp r.key low)) (λ r. not (is_from_to low high r))
-    (λ r g. ap (λ b. not (b && is_le (key_cmp r.key high))) (gt_not_le r.key low g)) rs h)
+module _ (low high : Key) where
+  pub none_below : (rs : List Record) → AreBelow low rs → filter (is_from_to low high) rs ≡ []
+  none_below rs h =
+      filter_none (is_from_to low high) rs
+      (all_follow (λ (r : Record). is_lt (key_cmp r.key low)) (λ r. not (is_from_to low high r))
+      (λ r g. ap (λ b. not (b && is_le (key_cmp r.key high))) (gt_not_le r.key low g)) rs h)
 
-pub range_first : (low high : Key) (most : ℕ) (rs leaf new : List Record) (start up : Option Key) (l : LeadsTo low rs leaf start up)
-    → new ≡ take most ([] ++ filter (is_from_to low high) leaf) → new ≡ range_of low high most (l.before ++ leaf)
-unfolding range_of
-range_first low high most rs leaf new start up l is =
-    is ∙ ap (take most) (sym
-    (filter-append (is_from_to low high) l.before leaf ∙ ap (λ x. x ++ filter (is_from_to low high) leaf) (none_below low high l.before l.lower)))
+  pub range_first : (most : ℕ) (rs leaf new : List Record) (start up : Option Key) (l : LeadsTo low rs leaf start up) → new ≡ take most ([] ++ filter (is_from_to low high) leaf) → new ≡ range_of low high most (l.before ++ leaf)
+  unfolding range_of
+  range_first most rs leaf new start up l is =
+      is ∙ ap (take most) (sym
+      (filter-append (is_from_to low high) l.before leaf ∙ ap (λ x. x ++ filter (is_from_to low high) leaf) (none_below l.before l.lower)))
 
 -- the range goes on from the next key
 pub range_next : (low from high next : Key) (most : ℕ) (rs leaf new : List Record) (start : Option Key) (l : LeadsTo from rs leaf start (Some next))
@@ -159,19 +156,18 @@ range_next low from high next most rs leaf new start l under is = record {
   items_are = is;
 }
 
-whole_range : (low high : Key) (most : ℕ) (rs front behind new : List Record) → rs ≡ front ++ behind → filter (is_from_to low high) behind ≡ []
-    → new ≡ range_of low high most front → new ≡ range_of low high most rs
-unfolding range_of
-whole_range low high most rs front behind new e none is =
-    is ∙ ap (take most) (sym (ap (filter (is_from_to low high)) e ∙ filter-append (is_from_to low high) front behind
-    ∙ ap (λ x. filter (is_from_to low high) front ++ x) none ∙ append-nil (filter (is_from_to low high) front)))
+module _ (low high : Key) (most : ℕ) (rs front behind new : List Record) (e : rs ≡ front ++ behind) where
+  whole_range : filter (is_from_to low high) behind ≡ [] → new ≡ range_of low high most front → new ≡ range_of low high most rs
+  unfolding range_of
+  whole_range none is =
+      is ∙ ap (take most) (sym (ap (filter (is_from_to low high)) e ∙ filter-append (is_from_to low high) front behind
+      ∙ ap (λ x. filter (is_from_to low high) front ++ x) none ∙ append-nil (filter (is_from_to low high) front)))
 
-full_range : (low high : Key) (most : ℕ) (rs front behind new : List Record) → rs ≡ front ++ behind → length new ≡ most
-    → new ≡ range_of low high most front → new ≡ range_of low high most rs
-unfolding range_of
-full_range low high most rs front behind new e full is =
-    is ∙ sym (ap (take most) (ap (filter (is_from_to low high)) e ∙ filter-append (is_from_to low high) front behind)
-    ∙ take_full most (filter (is_from_to low high) front) (filter (is_from_to low high) behind) (subst (λ l. length l ≡ most) is full))
+  full_range : length new ≡ most → new ≡ range_of low high most front → new ≡ range_of low high most rs
+  unfolding range_of
+  full_range full is =
+      is ∙ sym (ap (take most) (ap (filter (is_from_to low high)) e ∙ filter-append (is_from_to low high) front behind)
+      ∙ take_full most (filter (is_from_to low high) front) (filter (is_from_to low high) behind) (subst (λ l. length l ≡ most) is full))
 
 past_none : (low high : Key) (up : Option Key) (rs : List Record) → ((next : Key) → up ≡ Some next → is_le (key_cmp next high) ≡ false)
     → list_all (λ (r : Record). is_past up r.key) rs ≡ true → filter (is_from_to low high) rs ≡ []
@@ -187,17 +183,16 @@ past_none low high (Some next) rs f h =
     and_false true = refl
     and_false false = refl
 
--- the range ends here
-pub range_ends : (low from high : Key) (most : ℕ) (rs leaf new : List Record) (start up : Option Key) (l : LeadsTo from rs leaf start up)
-    → ((next : Key) → up ≡ Some next → is_le (key_cmp next high) ≡ false) → new ≡ range_of low high most (l.before ++ leaf) → new ≡ range_of low high most rs
-range_ends low from high most rs leaf new start up l over is =
-    whole_range low high most rs (l.before ++ leaf) l.behind new (l.records ∙ sym (append_assoc l.before leaf l.behind))
-    (past_none low high up l.behind over l.bounded) is
+module _ (low from high : Key) (most : ℕ) (rs leaf new : List Record) (start up : Option Key) (l : LeadsTo from rs leaf start up) where
+  -- the range ends here
+  pub range_ends : ((next : Key) → up ≡ Some next → is_le (key_cmp next high) ≡ false) → new ≡ range_of low high most (l.before ++ leaf) → new ≡ range_of low high most rs
+  range_ends over is =
+      whole_range low high most rs (l.before ++ leaf) l.behind new (l.records ∙ sym (append_assoc l.before leaf l.behind))
+      (past_none low high up l.behind over l.bounded) is
 
-pub range_fills : (low from high : Key) (most : ℕ) (rs leaf new : List Record) (start up : Option Key) (l : LeadsTo from rs leaf start up)
-    → length new ≡ most → new ≡ range_of low high most (l.before ++ leaf) → new ≡ range_of low high most rs
-range_fills low from high most rs leaf new start up l full is =
-    full_range low high most rs (l.before ++ leaf) l.behind new (l.records ∙ sym (append_assoc l.before leaf l.behind)) full is
+  pub range_fills : length new ≡ most → new ≡ range_of low high most (l.before ++ leaf) → new ≡ range_of low high most rs
+  range_fills full is =
+      full_range low high most rs (l.before ++ leaf) l.behind new (l.records ∙ sym (append_assoc l.before leaf l.behind)) full is
 
 pub below_most : (n : ℕ) (xs items : List Record) → items ≡ take n xs → (length items ≡ n → ⊥) → length items < n
 below_most n xs items e ne =

@@ -33,41 +33,38 @@ pub record AreLeaves (told : Option (List (List ℕ))) (free : ℕ → Bool) (le
   pub pages : used ≡ right ∷ left ∷ []
   pub apart : AreApart free (right ∷ left ∷ [])
 
-pub are_leaves : (told : Option (List (List ℕ))) (free : ℕ → Bool) (left : ℕ) (key : Key) (right : ℕ) (b : Bounds) (rs : List Record) (used : List ℕ)
-    (m : CanRebalance told free 1 left key right b rs used) (l r : List Record)
-    → ReadsLeaf told left l → ReadsLeaf told right r → AreLeaves told free left key right b rs used m l r
-are_leaves told free left key right b rs used m l r reads also =
-    let s : Subtree m.pages 1 true (left, record { low = b.low; high = Some key }) m.first m.first_used = m.is_left.subtree in
-    let t : Subtree m.pages 1 true (right, record { low = Some key; high = b.high }) m.rest m.rest_used = m.is_right.subtree in
-    let there = reads m.pages m.is_told in
-    let other = also m.pages m.is_told in
-    let first : l ≡ m.first = some_same l m.first (sym there ∙ s.page) in
-    let rest : r ≡ m.rest = some_same r m.rest (sym other ∙ t.page) in
-    let pages : used ≡ right ∷ left ∷ [] = m.is_used ∙ ap (λ u. u ++ m.first_used) t.is_used ∙ ap (λ u. right ∷ u) s.is_used in
-    record {
-      first = first;
-      rest = rest;
-      records = m.records ∙ ap (λ x. x ++ m.rest) (sym first) ∙ ap (λ x. l ++ x) (sym rest);
-      first_many = m.is_left.nearly l there;
-      rest_many = m.is_right.nearly r other;
-      rises = subst (λ x. IsRising b (keys_of x)) (sym m.records) (subst (IsRising b) (sym (keys_append m.first m.rest))
-          (rising_join b key (keys_of m.first) (keys_of m.rest) m.low m.high
-          (subtree_rises m.pages 1 true (left, record { low = b.low; high = Some key }) m.first m.first_used m.is_left.subtree)
-          (subtree_rises m.pages 1 true (right, record { low = Some key; high = b.high }) m.rest m.rest_used m.is_right.subtree)));
-      pages = pages;
-      apart = subst (AreApart free) pages m.apart;
-    }
-  where
-    some_same : (x y : List Record) → Some x ≡ Some y → x ≡ y
-    some_same x y e = cc
+module _ (told : Option (List (List ℕ))) (free : ℕ → Bool) (left : ℕ) (key : Key) (right : ℕ) (b : Bounds) (rs : List Record) (used : List ℕ) (m : CanRebalance told free 1 left key right b rs used) (l r : List Record) (reads : ReadsLeaf told left l) (also : ReadsLeaf told right r) where
+  pub are_leaves : AreLeaves told free left key right b rs used m l r
+  are_leaves =
+      let s : Subtree m.pages 1 true (left, record { low = b.low; high = Some key }) m.first m.first_used = m.is_left.subtree in
+      let t : Subtree m.pages 1 true (right, record { low = Some key; high = b.high }) m.rest m.rest_used = m.is_right.subtree in
+      let there = reads m.pages m.is_told in
+      let other = also m.pages m.is_told in
+      let first : l ≡ m.first = some_same l m.first (sym there ∙ s.page) in
+      let rest : r ≡ m.rest = some_same r m.rest (sym other ∙ t.page) in
+      let pages : used ≡ right ∷ left ∷ [] = m.is_used ∙ ap (λ u. u ++ m.first_used) t.is_used ∙ ap (λ u. right ∷ u) s.is_used in
+      record {
+        first = first;
+        rest = rest;
+        records = m.records ∙ ap (λ x. x ++ m.rest) (sym first) ∙ ap (λ x. l ++ x) (sym rest);
+        first_many = m.is_left.nearly l there;
+        rest_many = m.is_right.nearly r other;
+        rises = subst (λ x. IsRising b (keys_of x)) (sym m.records) (subst (IsRising b) (sym (keys_append m.first m.rest))
+            (rising_join b key (keys_of m.first) (keys_of m.rest) m.low m.high
+            (subtree_rises m.pages 1 true (left, record { low = b.low; high = Some key }) m.first m.first_used m.is_left.subtree)
+            (subtree_rises m.pages 1 true (right, record { low = Some key; high = b.high }) m.rest m.rest_used m.is_right.subtree)));
+        pages = pages;
+        apart = subst (AreApart free) pages m.apart;
+      }
+    where
+      some_same : (x y : List Record) → Some x ≡ Some y → x ≡ y
+      some_same x y e = cc
 
--- they ascend one behind the other
-pub leaves_ascend : (told : Option (List (List ℕ))) (free : ℕ → Bool) (left : ℕ) (key : Key) (right : ℕ) (b : Bounds) (rs : List Record)
-    (used : List ℕ) → CanRebalance told free 1 left key right b rs used → (l r : List Record)
-    → ReadsLeaf told left l → ReadsLeaf told right r → is_ascending (keys_of (l ++ r)) ≡ true
-leaves_ascend told free left key right b rs used m l r reads also =
-    let a = are_leaves told free left key right b rs used m l r reads also in
-    subst (λ x. is_ascending (keys_of x) ≡ true) a.records a.rises.ascends
+  -- they ascend one behind the other
+  pub leaves_ascend : is_ascending (keys_of (l ++ r)) ≡ true
+  leaves_ascend =
+      let a = are_leaves in
+      subst (λ x. is_ascending (keys_of x) ≡ true) a.records a.rises.ascends
 
 one_leaf : (pages : List (List ℕ)) (page : ℕ) (bytes : List ℕ) (b : Bounds) (all : List Record) → slice_index_or pages page [] ≡ bytes
     → leaf_of bytes ≡ Some all → 72 ≤ length all → are_within b (keys_of all) ≡ true
@@ -178,48 +175,43 @@ leaves_separated told mid now_told free now size left key right height b rs used
       };
     })
 
--- both are read
-pub left_spells : (told : Option (List (List ℕ))) (free : ℕ → Bool) (height left : ℕ) (key : Key) (right : ℕ) (b : Bounds) (rs : List Record)
-    (used : List ℕ) → (m : CanRebalance told free height left key right b rs used) → Spells told left height m.first
-left_spells told free height left key right b rs used m =
-    record {
-      pages = m.pages;
-      is_told = m.is_told;
-      is_root = true;
-      bounds = record { low = b.low; high = Some key };
-      used = m.first_used;
-      subtree = m.is_left.subtree;
-    }
+module _ (told : Option (List (List ℕ))) (free : ℕ → Bool) where
+  -- both are read
+  pub left_spells : (height left : ℕ) (key : Key) (right : ℕ) (b : Bounds) (rs : List Record) (used : List ℕ) (m : CanRebalance told free height left key right b rs used) → Spells told left height m.first
+  left_spells height left key right b rs used m =
+      record {
+        pages = m.pages;
+        is_told = m.is_told;
+        is_root = true;
+        bounds = record { low = b.low; high = Some key };
+        used = m.first_used;
+        subtree = m.is_left.subtree;
+      }
 
-pub right_spells : (told : Option (List (List ℕ))) (free : ℕ → Bool) (height left : ℕ) (key : Key) (right : ℕ) (b : Bounds) (rs : List Record)
-    (used : List ℕ) → (m : CanRebalance told free height left key right b rs used) → Spells told right height m.rest
-right_spells told free height left key right b rs used m =
-    record {
-      pages = m.pages;
-      is_told = m.is_told;
-      is_root = true;
-      bounds = record { low = Some key; high = b.high };
-      used = m.rest_used;
-      subtree = m.is_right.subtree;
-    }
+  pub right_spells : (height left : ℕ) (key : Key) (right : ℕ) (b : Bounds) (rs : List Record) (used : List ℕ) (m : CanRebalance told free height left key right b rs used) → Spells told right height m.rest
+  right_spells height left key right b rs used m =
+      record {
+        pages = m.pages;
+        is_told = m.is_told;
+        is_root = true;
+        bounds = record { low = Some key; high = b.high };
+        used = m.rest_used;
+        subtree = m.is_right.subtree;
+      }
 
-pub not_leaves : (told : Option (List (List ℕ))) (free : ℕ → Bool) (left : ℕ) (key : Key) (right height : ℕ) (b : Bounds) (rs : List Record)
-    (used : List ℕ) (l r : List Record) (test : Bool) → height ≡ 1 → ReadsLeaf told left l → ReadsLeaf told right r
-    → test ≡ is_ascending (keys_of (l ++ r)) → test ≡ false → CanRebalance told free height left key right b rs used → ⊥
-not_leaves told free left key right height b rs used l r test one reads also e fails can =
-    let t = leaves_ascend told free left key right b rs used (subst (λ h. CanRebalance told free h left key right b rs used) one can) l r reads also in
-    never test (is_ascending (keys_of (l ++ r))) e fails t
-  where
-    never : (x y : Bool) → x ≡ y → x ≡ false → y ≡ true → ⊥
-    never x y e f g = cc
+  pub not_leaves : (left : ℕ) (key : Key) (right height : ℕ) (b : Bounds) (rs : List Record) (used : List ℕ) (l r : List Record) (test : Bool) → height ≡ 1 → ReadsLeaf told left l → ReadsLeaf told right r → test ≡ is_ascending (keys_of (l ++ r)) → test ≡ false → CanRebalance told free height left key right b rs used → ⊥
+  not_leaves left key right height b rs used l r test one reads also e fails can =
+      let t = leaves_ascend told free left key right b rs used (subst (λ h. CanRebalance told free h left key right b rs used) one can) l r reads also in
+      never test (is_ascending (keys_of (l ++ r))) e fails t
+    where
+      never : (x y : Bool) → x ≡ y → x ≡ false → y ≡ true → ⊥
+      never x y e f g = cc
 
-pub leaves_taken : (told : Option (List (List ℕ))) (free was : ℕ → Bool) (left : ℕ) (key : Key) (right height : ℕ) (b : Bounds) (rs : List Record)
-    (used : List ℕ) → height ≡ 1 → was ≡ free → CanRebalance told free height left key right b rs used
-    → (was left ≡ false) × (was right ≡ false)
-leaves_taken told free was left key right height b rs used one e can =
-    let m = subst (λ h. CanRebalance told free h left key right b rs used) one can in
-    let s : Subtree m.pages 1 true (left, record { low = b.low; high = Some key }) m.first m.first_used = m.is_left.subtree in
-    let t : Subtree m.pages 1 true (right, record { low = Some key; high = b.high }) m.rest m.rest_used = m.is_right.subtree in
-    let pages : used ≡ right ∷ left ∷ [] = m.is_used ∙ ap (λ u. u ++ m.first_used) t.is_used ∙ ap (λ u. right ∷ u) s.is_used in
-    let apart = subst (AreApart free) pages m.apart in
-    (ap (λ f. f left) e ∙ left_taken free left right apart, ap (λ f. f right) e ∙ right_taken free left right apart)
+  pub leaves_taken : (was : ℕ → Bool) (left : ℕ) (key : Key) (right height : ℕ) (b : Bounds) (rs : List Record) (used : List ℕ) → height ≡ 1 → was ≡ free → CanRebalance told free height left key right b rs used → (was left ≡ false) × (was right ≡ false)
+  leaves_taken was left key right height b rs used one e can =
+      let m = subst (λ h. CanRebalance told free h left key right b rs used) one can in
+      let s : Subtree m.pages 1 true (left, record { low = b.low; high = Some key }) m.first m.first_used = m.is_left.subtree in
+      let t : Subtree m.pages 1 true (right, record { low = Some key; high = b.high }) m.rest m.rest_used = m.is_right.subtree in
+      let pages : used ≡ right ∷ left ∷ [] = m.is_used ∙ ap (λ u. u ++ m.first_used) t.is_used ∙ ap (λ u. right ∷ u) s.is_used in
+      let apart = subst (AreApart free) pages m.apart in
+      (ap (λ f. f left) e ∙ left_taken free left right apart, ap (λ f. f right) e ∙ right_taken free left right apart)

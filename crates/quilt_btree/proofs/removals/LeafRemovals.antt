@@ -225,18 +225,17 @@ leaf_underfull k told mid now_told free now page height size i is_root b rs leaf
     some_same : (x y : List Record) → Some x ≡ Some y → x ≡ y
     some_same x y e = cc
 
--- the leaf is read, and is not free
-pub leaf_reads : (told : Option (List (List ℕ))) (free : ℕ → Bool) (page height : ℕ) (is_root : Bool) (b : Bounds) (rs : List Record) (used : List ℕ)
-    → CanEdit told free page height is_root b rs used → Spells told page height rs
-leaf_reads told free page height is_root b rs used can =
-    record { pages = can.pages; is_told = can.is_told; is_root = is_root; bounds = b; used = used; subtree = can.subtree }
+module _ (told : Option (List (List ℕ))) (free : ℕ → Bool) (page height : ℕ) (is_root : Bool) (b : Bounds) (rs : List Record) (used : List ℕ) where
+  -- the leaf is read, and is not free
+  pub leaf_reads : CanEdit told free page height is_root b rs used → Spells told page height rs
+  leaf_reads can =
+      record { pages = can.pages; is_told = can.is_told; is_root = is_root; bounds = b; used = used; subtree = can.subtree }
 
-pub leaf_taken : (told : Option (List (List ℕ))) (free : ℕ → Bool) (page height : ℕ) (is_root : Bool) (b : Bounds) (rs : List Record) (used : List ℕ)
-    → height ≡ 1 → CanEdit told free page height is_root b rs used → free page ≡ false
-leaf_taken told free page height is_root b rs used one can =
-    let can1 = subst (λ h. CanEdit told free page h is_root b rs used) one can in
-    let s : Subtree can1.pages 1 is_root (page, b) rs used = can1.subtree in
-    used_not_free free used page can1.apart (subst (λ l. 1 ≤ times page l) (sym s.is_used) (some page))
-  where
-    some : (page : ℕ) → 1 ≤ times page (page ∷ [])
-    some page = let e = times_here page [] in omega arith
+  pub leaf_taken : height ≡ 1 → CanEdit told free page height is_root b rs used → free page ≡ false
+  leaf_taken one can =
+      let can1 = subst (λ h. CanEdit told free page h is_root b rs used) one can in
+      let s : Subtree can1.pages 1 is_root (page, b) rs used = can1.subtree in
+      used_not_free free used page can1.apart (subst (λ l. 1 ≤ times page l) (sym s.is_used) (some page))
+    where
+      some : (page : ℕ) → 1 ≤ times page (page ∷ [])
+      some page = let e = times_here page [] in omega arith

@@ -21,16 +21,16 @@ other_key j k r lt h = gt_not_eq j r.key (lt_le j k r.key lt (turned (key_cmp r.
     turned Equal p e h = ap is_le e
     turned Greater p e h = cc
 
-other_step : (p q : Record → Bool) (r : Record) (rs : List Record) (b c : Bool) → q r ≡ b → p r ≡ c → (p r ≡ true → q r ≡ true)
-    → list_any p (filter q rs) ≡ list_any p rs → list_any p (cond (q r) (r ∷ filter q rs) (filter q rs)) ≡ (p r || list_any p rs)
-other_step p q r rs true c e g f h = ap (λ l. list_any p l) (filter_cond q r (filter q rs) (filter q rs) true e) ∙ ap (λ b. p r || b) h
-other_step p q r rs false true e g f h = let k = f g in cc
-other_step p q r rs false false e g f h =
-    ap (λ l. list_any p l) (filter_cond q r (filter q rs) (filter q rs) false e) ∙ h ∙ sym (ap (λ b. b || list_any p rs) g)
+module _ (p q : Record → Bool) where
+  other_step : (r : Record) (rs : List Record) (b c : Bool) → q r ≡ b → p r ≡ c → (p r ≡ true → q r ≡ true) → list_any p (filter q rs) ≡ list_any p rs → list_any p (cond (q r) (r ∷ filter q rs) (filter q rs)) ≡ (p r || list_any p rs)
+  other_step r rs true c e g f h = ap (λ l. list_any p l) (filter_cond q r (filter q rs) (filter q rs) true e) ∙ ap (λ b. p r || b) h
+  other_step r rs false true e g f h = let k = f g in cc
+  other_step r rs false false e g f h =
+      ap (λ l. list_any p l) (filter_cond q r (filter q rs) (filter q rs) false e) ∙ h ∙ sym (ap (λ b. b || list_any p rs) g)
 
-any_filter_other : (p q : Record → Bool) (rs : List Record) → ((r : Record) → p r ≡ true → q r ≡ true) → list_any p (filter q rs) ≡ list_any p rs
-any_filter_other p q [] f = refl
-any_filter_other p q (r ∷ rs) f = other_step p q r rs (q r) (p r) refl refl (f r) (any_filter_other p q rs f)
+  any_filter_other : (rs : List Record) → ((r : Record) → p r ≡ true → q r ≡ true) → list_any p (filter q rs) ≡ list_any p rs
+  any_filter_other [] f = refl
+  any_filter_other (r ∷ rs) f = other_step r rs (q r) (p r) refl refl (f r) (any_filter_other rs f)
 
 any_without_other : (j k : Key) (rs : List Record) → is_lt (key_cmp j k) ≡ true → list_any (has_key k) (without j rs) ≡ list_any (has_key k) rs
 unfolding without

@@ -80,46 +80,36 @@ whole_none k told free size t rs e w =
     let none = no_records told t rs e w.tree in
     (sym (ap (list_any (has_key k)) none), subst (λ l. IsWhole told free size t l) (none ∙ sym (without_none k) ∙ ap (without k) (sym none)) w)
 
-pub whole_missing : (k : Key) (told now_told : Option (List (List ℕ))) (free now : ℕ → Bool) (size : ℕ) (t : Tree) (rs : List Record)
-    → IsRemoving free size t → UnderRoot k told now_told free now t removed.Missing → now_told ≡ told → now ≡ free
-    → IsWhole told free size t rs → (false ≡ list_any (has_key k) rs) × IsWhole now_told now size t (without k rs)
-whole_missing k told now_told free now size t rs i f same same_free w =
-    let a = at_root told free size t rs i w in
-    let none = f true everywhere rs a.used a.can in (
-      sym none,
-      subst (λ l. IsWhole now_told now size t l) (sym (without_missing k rs none))
-          (subst (λ o. IsWhole o now size t rs) (sym same) (subst (λ g. IsWhole told g size t rs) (sym same_free) w)),
-    )
+module _ (k : Key) (told now_told : Option (List (List ℕ))) (free now : ℕ → Bool) (size : ℕ) (t : Tree) (rs : List Record) where
+  pub whole_missing : IsRemoving free size t → UnderRoot k told now_told free now t removed.Missing → now_told ≡ told → now ≡ free → IsWhole told free size t rs → (false ≡ list_any (has_key k) rs) × IsWhole now_told now size t (without k rs)
+  whole_missing i f same same_free w =
+      let a = at_root told free size t rs i w in
+      let none = f true everywhere rs a.used a.can in (
+        sym none,
+        subst (λ l. IsWhole now_told now size t l) (sym (without_missing k rs none))
+            (subst (λ o. IsWhole o now size t rs) (sym same) (subst (λ g. IsWhole told g size t rs) (sym same_free) w)),
+      )
 
--- the root is as it was, or has one record or child fewer
-root_became : (k : Key) (told now_told : Option (List (List ℕ))) (free now : ℕ → Bool) (size : ℕ) (t : Tree) (rs : List Record)
-    (a : AtRoot told free size t rs) (pages news : List (List ℕ)) → t.height ≢ 0 → list_any (has_key k) rs ≡ true → now_told ≡ Some news
-    → Becomes pages news free now t.root t.height true everywhere a.used (without k rs)
-    → (true ≡ list_any (has_key k) rs) × IsWhole now_told now size (record { root = t.root; height = t.height; records = t.records - 1 }) (without k rs)
-root_became k told now_told free now size t rs a pages news ne had is becomes = (
-  sym had,
-  whole_again pages news now_told free now size t.root t.height (t.records - 1) a.used becomes.uses (without k rs) is
-      (some_height t.height ne) becomes.subtree becomes.moves a.can.apart a.balance (a.fewer k had),
-)
+  -- the root is as it was, or has one record or child fewer
+  root_became : (a : AtRoot told free size t rs) (pages news : List (List ℕ)) → t.height ≢ 0 → list_any (has_key k) rs ≡ true → now_told ≡ Some news → Becomes pages news free now t.root t.height true everywhere a.used (without k rs) → (true ≡ list_any (has_key k) rs) × IsWhole now_told now size (record { root = t.root; height = t.height; records = t.records - 1 }) (without k rs)
+  root_became a pages news ne had is becomes = (
+    sym had,
+    whole_again pages news now_told free now size t.root t.height (t.records - 1) a.used becomes.uses (without k rs) is
+        (some_height t.height ne) becomes.subtree becomes.moves a.can.apart a.balance (a.fewer k had),
+  )
 
-pub whole_done : (k : Key) (told now_told : Option (List (List ℕ))) (free now : ℕ → Bool) (size : ℕ) (t : Tree) (rs : List Record)
-    → IsRemoving free size t → UnderRoot k told now_told free now t removed.Done
-    → IsWhole told free size t rs
-    → (true ≡ list_any (has_key k) rs) × IsWhole now_told now size (record { root = t.root; height = t.height; records = t.records - 1 }) (without k rs)
-whole_done k told now_told free now size t rs i f w =
-    let a = at_root told free size t rs i w in
-    let did = f true everywhere rs a.used a.can in
-    root_became k told now_told free now size t rs a did.1.pages did.1.news i.above did.0 did.1.is did.1.left
+  pub whole_done : IsRemoving free size t → UnderRoot k told now_told free now t removed.Done → IsWhole told free size t rs → (true ≡ list_any (has_key k) rs) × IsWhole now_told now size (record { root = t.root; height = t.height; records = t.records - 1 }) (without k rs)
+  whole_done i f w =
+      let a = at_root told free size t rs i w in
+      let did = f true everywhere rs a.used a.can in
+      root_became a did.1.pages did.1.news i.above did.0 did.1.is did.1.left
 
-pub whole_underfull : (k : Key) (told now_told : Option (List (List ℕ))) (free now : ℕ → Bool) (size : ℕ) (t : Tree) (rs : List Record)
-    → IsRemoving free size t → UnderRoot k told now_told free now t removed.Underfull
-    → IsWhole told free size t rs
-    → (true ≡ list_any (has_key k) rs) × IsWhole now_told now size (record { root = t.root; height = t.height; records = t.records - 1 }) (without k rs)
-whole_underfull k told now_told free now size t rs i f w =
-    let a = at_root told free size t rs i w in
-    let did = f true everywhere rs a.used a.can in
-    let left = did.1.left in
-    root_became k told now_told free now size t rs a did.1.pages did.1.news i.above did.0 did.1.is left.1
+  pub whole_underfull : IsRemoving free size t → UnderRoot k told now_told free now t removed.Underfull → IsWhole told free size t rs → (true ≡ list_any (has_key k) rs) × IsWhole now_told now size (record { root = t.root; height = t.height; records = t.records - 1 }) (without k rs)
+  whole_underfull i f w =
+      let a = at_root told free size t rs i w in
+      let did = f true everywhere rs a.used a.can in
+      let left = did.1.left in
+      root_became a did.1.pages did.1.news i.above did.0 did.1.is left.1
 
 -- a record is left
 pub two_left : (news : List (List ℕ)) (height : ℕ) (r : Bool) (at : ℕ × Bounds) (rs : List Record) (used : List ℕ) (n : ℕ)
@@ -129,33 +119,30 @@ two_left news height r at rs used n s e = let some = subtree_some news height r 
     many : (a m n : ℕ) → a ≡ suc m → suc a ≡ n → 2 ≤ n
     many a m n e f = omega arith
 
-pub many_done : (k : Key) (told now_told : Option (List (List ℕ))) (free now : ℕ → Bool) (size : ℕ) (t : Tree) (rs : List Record)
-    → IsRemoving free size t → UnderRoot k told now_told free now t removed.Done → IsWhole told free size t rs → 2 ≤ t.records
-many_done k told now_told free now size t rs i f w =
-    let a = at_root told free size t rs i w in
-    let did = f true everywhere rs a.used a.can in
-    two_left did.1.news t.height true (t.root, everywhere) (without k rs) did.1.left.uses t.records did.1.left.subtree (a.exact k did.0)
+module _ (k : Key) (told now_told : Option (List (List ℕ))) (free now : ℕ → Bool) (size : ℕ) (t : Tree) (rs : List Record) (i : IsRemoving free size t) where
+  pub many_done : UnderRoot k told now_told free now t removed.Done → IsWhole told free size t rs → 2 ≤ t.records
+  many_done f w =
+      let a = at_root told free size t rs i w in
+      let did = f true everywhere rs a.used a.can in
+      two_left did.1.news t.height true (t.root, everywhere) (without k rs) did.1.left.uses t.records did.1.left.subtree (a.exact k did.0)
 
-pub many_underfull : (k : Key) (told now_told : Option (List (List ℕ))) (free now : ℕ → Bool) (size : ℕ) (t : Tree) (rs : List Record)
-    → IsRemoving free size t → UnderRoot k told now_told free now t removed.Underfull → IsWhole told free size t rs → 2 ≤ t.records
-many_underfull k told now_told free now size t rs i f w =
-    let a = at_root told free size t rs i w in
-    let did = f true everywhere rs a.used a.can in
-    let left = did.1.left in
-    two_left did.1.news t.height true (t.root, everywhere) (without k rs) left.1.uses t.records left.1.subtree (a.exact k did.0)
+  pub many_underfull : UnderRoot k told now_told free now t removed.Underfull → IsWhole told free size t rs → 2 ≤ t.records
+  many_underfull f w =
+      let a = at_root told free size t rs i w in
+      let did = f true everywhere rs a.used a.can in
+      let left = did.1.left in
+      two_left did.1.news t.height true (t.root, everywhere) (without k rs) left.1.uses t.records left.1.subtree (a.exact k did.0)
 
--- the root's one record was taken out
-pub one_emptied : (k : Key) (told now_told : Option (List (List ℕ))) (free now : ℕ → Bool) (size : ℕ) (t : Tree) (rs : List Record)
-    → IsRemoving free size t → UnderRoot k told now_told free now t removed.Emptied → IsWhole told free size t rs
-    → (now t.root ≡ false) × (t.records ≡ 1)
-one_emptied k told now_told free now size t rs i f w =
-    let a = at_root told free size t rs i w in
-    let did = f true everywhere rs a.used a.can in
-    let left = did.1.left in (
-      ap (λ g. g t.root) left.frees
-          ∙ used_not_free free a.used t.root a.can.apart (page_used a.can.pages t.height true (t.root, everywhere) rs a.used a.can.subtree),
-      sym (a.exact k did.0) ∙ ap (λ l. suc (length l)) left.none,
-    )
+  -- the root's one record was taken out
+  pub one_emptied : UnderRoot k told now_told free now t removed.Emptied → IsWhole told free size t rs → (now t.root ≡ false) × (t.records ≡ 1)
+  one_emptied f w =
+      let a = at_root told free size t rs i w in
+      let did = f true everywhere rs a.used a.can in
+      let left = did.1.left in (
+        ap (λ g. g t.root) left.frees
+            ∙ used_not_free free a.used t.root a.can.apart (page_used a.can.pages t.height true (t.root, everywhere) rs a.used a.can.subtree),
+        sym (a.exact k did.0) ∙ ap (λ l. suc (length l)) left.none,
+      )
 
 pub empty_walk : (pages : List (List ℕ)) → walk_of pages 0 0 ≡ Whole [] []
 unfolding walk_of

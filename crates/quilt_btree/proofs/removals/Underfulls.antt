@@ -66,16 +66,15 @@ full_nearly pages (suc (suc h)) at rs used s = λ inner e.
     less_one : (n : ℕ) → 127 ≤ n → 126 ≤ n
     less_one n h = omega arith
 
-near_case : (pages : List (List ℕ)) (height underfull : ℕ) (at : ℕ × Bounds) (rs : List Record) (used : List ℕ) (r : Bool) → (at.0 == underfull) ≡ r
-    → Subtree pages height r at rs used → IsNearlyFull pages height underfull → IsNear pages height at rs used
-near_case pages height underfull at rs used true e s n =
-    record { subtree = s; nearly = subst (IsNearlyFull pages height) (sym (equal_pages at.0 underfull e)) n }
-near_case pages height underfull at rs used false e s n =
-    record { subtree = weaker pages height false at rs used s; nearly = full_nearly pages height at rs used s }
+module _ (pages : List (List ℕ)) (height underfull : ℕ) where
+  near_case : (at : ℕ × Bounds) (rs : List Record) (used : List ℕ) (r : Bool) → (at.0 == underfull) ≡ r → Subtree pages height r at rs used → IsNearlyFull pages height underfull → IsNear pages height at rs used
+  near_case at rs used true e s n =
+      record { subtree = s; nearly = subst (IsNearlyFull pages height) (sym (equal_pages at.0 underfull e)) n }
+  near_case at rs used false e s n =
+      record { subtree = weaker pages height false at rs used s; nearly = full_nearly pages height at rs used s }
 
-pub near_partly : (pages : List (List ℕ)) (height underfull : ℕ) (at : ℕ × Bounds) (rs : List Record) (used : List ℕ)
-    → Partly pages height underfull at rs used → IsNearlyFull pages height underfull → IsNear pages height at rs used
-near_partly pages height underfull at rs used s n = near_case pages height underfull at rs used (at.0 == underfull) refl s n
+  pub near_partly : (at : ℕ × Bounds) (rs : List Record) (used : List ℕ) → Partly pages height underfull at rs used → IsNearlyFull pages height underfull → IsNear pages height at rs used
+  near_partly at rs used s n = near_case at rs used (at.0 == underfull) refl s n
 
 -- a subtree uses its own page
 pub page_used : (pages : List (List ℕ)) (height : ℕ) (r : Bool) (at : ℕ × Bounds) (rs : List Record) (used : List ℕ)
@@ -90,42 +89,41 @@ page_used pages (suc (suc h)) r at rs used s = subst (λ u. 1 ≤ times at.0 u) 
     last : (p : ℕ) (under : List ℕ) → 1 ≤ times p (under ++ p ∷ [])
     last p under = let e = times_here p [] in let f = times-append p under (p ∷ []) in omega arith
 
-whole_case : (pages : List (List ℕ)) (height underfull : ℕ) (at : ℕ × Bounds) (rs : List Record) (used : List ℕ) (r : Bool) → (at.0 == underfull) ≡ r
-    → times underfull used ≡ 0 → Subtree pages height r at rs used → Subtree pages height false at rs used
-whole_case pages height underfull at rs used true e none s =
-    let some = page_used pages height true at rs used s in
-    absurd (never (times at.0 used) some (ap (λ p. times p used) (equal_pages at.0 underfull e) ∙ none))
-  where
-    never : (n : ℕ) → 1 ≤ n → n ≡ 0 → ⊥
-    never n h e = omega arith
-whole_case pages height underfull at rs used false e none s = s
+module _ (pages : List (List ℕ)) (height underfull : ℕ) where
+  whole_case : (at : ℕ × Bounds) (rs : List Record) (used : List ℕ) (r : Bool) → (at.0 == underfull) ≡ r → times underfull used ≡ 0 → Subtree pages height r at rs used → Subtree pages height false at rs used
+  whole_case at rs used true e none s =
+      let some = page_used pages height true at rs used s in
+      absurd (never (times at.0 used) some (ap (λ p. times p used) (equal_pages at.0 underfull e) ∙ none))
+    where
+      never : (n : ℕ) → 1 ≤ n → n ≡ 0 → ⊥
+      never n h e = omega arith
+  whole_case at rs used false e none s = s
 
--- where the underfull page is not used, all is whole
-pub whole_row : (pages : List (List ℕ)) (height underfull : ℕ) (cs : List (ℕ × Bounds)) (rs : List Record) (used : List ℕ) → times underfull used ≡ 0
-    → Row (Partly pages height underfull) cs rs used → Row (Subtree pages height false) cs rs used
-whole_row pages height underfull [] rs used none row = row
-whole_row pages height underfull (c ∷ cs) rs used none row =
-    let total = ap (times underfull) row.is_used ∙ times-append underfull row.rest_used row.first_used in
-    let none_first : times underfull row.first_used ≡ 0 =
-    zero_first (times underfull used) (times underfull row.rest_used) (times underfull row.first_used) total none in
-    let none_rest : times underfull row.rest_used ≡ 0 =
-    zero_rest (times underfull used) (times underfull row.rest_used) (times underfull row.first_used) total none in
-    record {
-      first = row.first;
-      rest = row.rest;
-      first_used = row.first_used;
-      rest_used = row.rest_used;
-      here = whole_case pages height underfull c row.first row.first_used (c.0 == underfull) refl none_first row.here;
-      after = whole_row pages height underfull cs row.rest row.rest_used none_rest row.after;
-      records = row.records;
-      is_used = row.is_used;
-    }
-  where
-    zero_first : (u r f : ℕ) → u ≡ r + f → u ≡ 0 → f ≡ 0
-    zero_first u r f e h = omega arith
+  -- where the underfull page is not used, all is whole
+  pub whole_row : (cs : List (ℕ × Bounds)) (rs : List Record) (used : List ℕ) → times underfull used ≡ 0 → Row (Partly pages height underfull) cs rs used → Row (Subtree pages height false) cs rs used
+  whole_row [] rs used none row = row
+  whole_row (c ∷ cs) rs used none row =
+      let total = ap (times underfull) row.is_used ∙ times-append underfull row.rest_used row.first_used in
+      let none_first : times underfull row.first_used ≡ 0 =
+      zero_first (times underfull used) (times underfull row.rest_used) (times underfull row.first_used) total none in
+      let none_rest : times underfull row.rest_used ≡ 0 =
+      zero_rest (times underfull used) (times underfull row.rest_used) (times underfull row.first_used) total none in
+      record {
+        first = row.first;
+        rest = row.rest;
+        first_used = row.first_used;
+        rest_used = row.rest_used;
+        here = whole_case c row.first row.first_used (c.0 == underfull) refl none_first row.here;
+        after = whole_row cs row.rest row.rest_used none_rest row.after;
+        records = row.records;
+        is_used = row.is_used;
+      }
+    where
+      zero_first : (u r f : ℕ) → u ≡ r + f → u ≡ 0 → f ≡ 0
+      zero_first u r f e h = omega arith
 
-    zero_rest : (u r f : ℕ) → u ≡ r + f → u ≡ 0 → r ≡ 0
-    zero_rest u r f e h = omega arith
+      zero_rest : (u r f : ℕ) → u ≡ r + f → u ≡ 0 → r ≡ 0
+      zero_rest u r f e h = omega arith
 
 -- the key between two neighbours lies within the bounds of both
 pub gap_low : (ka : List Key) (key : Key) (kb : List Key) (b : Bounds) → is_ascending (ka ++ key ∷ kb) ≡ true → are_within b (ka ++ key ∷ kb) ≡ true

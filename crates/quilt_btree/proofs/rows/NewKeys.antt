@@ -52,39 +52,38 @@ pub record FitsBetween (ka : List Key) (k : Key) (kb : List Key) (b : Bounds) : 
   pub ascends : is_ascending (ka ++ k ∷ kb) ≡ true
   pub within : are_within b (ka ++ k ∷ kb) ≡ true
 
-pub fits_between : (ka : List Key) (old k : Key) (kb : List Key) (b : Bounds) → is_ascending (ka ++ old ∷ kb) ≡ true → are_within b (ka ++ old ∷ kb) ≡ true
-    → ((l : Key) → (from_keys ka b).low ≡ Some l → is_lt (key_cmp l k) ≡ true) → is_above (from_keys ka b).low k ≡ true
-    → is_below (head_or kb b.high) k ≡ true → FitsBetween ka k kb b
-fits_between ka old k kb b a w strict low high =
-    let w_parts = all_parts (λ m. is_above b.low m && is_below b.high m) ka (old ∷ kb) w in
-    let w_rest = (and_parts (is_above b.low old && is_below b.high old) (are_within b kb) w_parts.1).1 in
-    let asc_ka = ascending_front ka (old ∷ kb) a in
-    let asc_kb = ascending_rest old kb (ascending_back ka (old ∷ kb) a) in
-    let over = over_next kb b.high k asc_kb high in
-    let ka_above : list_all (is_above b.low) ka ≡ true =
-    all_follow (λ m. is_above b.low m && is_below b.high m) (is_above b.low) (λ m h. (and_parts (is_above b.low m) (is_below b.high m) h).0) ka w_parts.0 in
-    let kb_below : list_all (is_below b.high) kb ≡ true =
-    all_follow (λ m. is_above b.low m && is_below b.high m) (is_below b.high) (λ m h. (and_parts (is_above b.low m) (is_below b.high m) h).1) kb w_rest in
-    record {
-      ascends = ascending_join k ka (k ∷ kb) (under_next ka b k asc_ka strict)
-          (and_both (is_le (key_cmp k k)) (list_all (λ l. is_le (key_cmp k l)) kb) (same_le k)
-          (all_follow (λ l. is_lt (key_cmp k l)) (λ l. is_le (key_cmp k l)) (λ l h. lt_to_le (key_cmp k l) h) kb over))
-          asc_ka (first_over kb k over asc_kb);
-      within = all_append (λ m. is_above b.low m && is_below b.high m) ka (k ∷ kb) w_parts.0
-          (and_both (is_above b.low k && is_below b.high k) (are_within b kb)
-          (and_both (is_above b.low k) (is_below b.high k) (above_from b.low ka b k ka_above (λ h. h) low) (below_from kb b.high k kb_below high)) w_rest);
-    }
-  where
-    first_over : (ks : List Key) (k : Key) → list_all (λ l. is_lt (key_cmp k l)) ks ≡ true → is_ascending ks ≡ true → is_ascending (k ∷ ks) ≡ true
-    first_over [] k h a = refl
-    first_over (x ∷ xs) k h a =
-        and_both (is_lt (key_cmp k x)) (is_ascending (x ∷ xs)) (and_parts (is_lt (key_cmp k x)) (list_all (λ l. is_lt (key_cmp k l)) xs) h).0 a
+module _ (ka : List Key) (old : Key) where
+  pub fits_between : (k : Key) (kb : List Key) (b : Bounds) → is_ascending (ka ++ old ∷ kb) ≡ true → are_within b (ka ++ old ∷ kb) ≡ true → ((l : Key) → (from_keys ka b).low ≡ Some l → is_lt (key_cmp l k) ≡ true) → is_above (from_keys ka b).low k ≡ true → is_below (head_or kb b.high) k ≡ true → FitsBetween ka k kb b
+  fits_between k kb b a w strict low high =
+      let w_parts = all_parts (λ m. is_above b.low m && is_below b.high m) ka (old ∷ kb) w in
+      let w_rest = (and_parts (is_above b.low old && is_below b.high old) (are_within b kb) w_parts.1).1 in
+      let asc_ka = ascending_front ka (old ∷ kb) a in
+      let asc_kb = ascending_rest old kb (ascending_back ka (old ∷ kb) a) in
+      let over = over_next kb b.high k asc_kb high in
+      let ka_above : list_all (is_above b.low) ka ≡ true =
+      all_follow (λ m. is_above b.low m && is_below b.high m) (is_above b.low) (λ m h. (and_parts (is_above b.low m) (is_below b.high m) h).0) ka w_parts.0 in
+      let kb_below : list_all (is_below b.high) kb ≡ true =
+      all_follow (λ m. is_above b.low m && is_below b.high m) (is_below b.high) (λ m h. (and_parts (is_above b.low m) (is_below b.high m) h).1) kb w_rest in
+      record {
+        ascends = ascending_join k ka (k ∷ kb) (under_next ka b k asc_ka strict)
+            (and_both (is_le (key_cmp k k)) (list_all (λ l. is_le (key_cmp k l)) kb) (same_le k)
+            (all_follow (λ l. is_lt (key_cmp k l)) (λ l. is_le (key_cmp k l)) (λ l h. lt_to_le (key_cmp k l) h) kb over))
+            asc_ka (first_over kb k over asc_kb);
+        within = all_append (λ m. is_above b.low m && is_below b.high m) ka (k ∷ kb) w_parts.0
+            (and_both (is_above b.low k && is_below b.high k) (are_within b kb)
+            (and_both (is_above b.low k) (is_below b.high k) (above_from b.low ka b k ka_above (λ h. h) low) (below_from kb b.high k kb_below high)) w_rest);
+      }
+    where
+      first_over : (ks : List Key) (k : Key) → list_all (λ l. is_lt (key_cmp k l)) ks ≡ true → is_ascending ks ≡ true → is_ascending (k ∷ ks) ≡ true
+      first_over [] k h a = refl
+      first_over (x ∷ xs) k h a =
+          and_both (is_lt (key_cmp k x)) (is_ascending (x ∷ xs)) (and_parts (is_lt (key_cmp k x)) (list_all (λ l. is_lt (key_cmp k l)) xs) h).0 a
 
--- the keys with none in the middle
-pub within_less : (ka : List Key) (old : Key) (kb : List Key) (b : Bounds) → are_within b (ka ++ old ∷ kb) ≡ true → are_within b (ka ++ kb) ≡ true
-within_less ka old kb b w =
-    let parts = all_parts (λ m. is_above b.low m && is_below b.high m) ka (old ∷ kb) w in
-    all_append (λ m. is_above b.low m && is_below b.high m) ka kb parts.0 (and_parts (is_above b.low old && is_below b.high old) (are_within b kb) parts.1).1
+  -- the keys with none in the middle
+  pub within_less : (kb : List Key) (b : Bounds) → are_within b (ka ++ old ∷ kb) ≡ true → are_within b (ka ++ kb) ≡ true
+  within_less kb b w =
+      let parts = all_parts (λ m. is_above b.low m && is_below b.high m) ka (old ∷ kb) w in
+      all_append (λ m. is_above b.low m && is_below b.high m) ka kb parts.0 (and_parts (is_above b.low old && is_below b.high old) (are_within b kb) parts.1).1
 
 -- a subtree lies between its bounds, which are not the same
 pub strictly_above : (pages : List (List ℕ)) (height page : ℕ) (low : Option Key) (k : Key) (rs : List Record) (used : List ℕ)

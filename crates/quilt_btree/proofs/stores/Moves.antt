@@ -93,32 +93,29 @@ moves_then pages mid news free between now used more uses a b = record {
   balance = λ p. b.balance p ∙ a.balance p;
 }
 
--- The same edit among further used pages: each page is used as often more often, before and after.
-pub moves_among : (pages news : List (List ℕ)) (free now : ℕ → Bool) (used uses all alls : List ℕ) (more : ℕ → ℕ)
-    → ((p : ℕ) → times p all ≡ more p + times p used) → ((p : ℕ) → times p alls ≡ more p + times p uses)
-    → Moves pages news free now used uses → Moves pages news free now all alls
-moves_among pages news free now used uses all alls more e f m = record {
-  size = m.size;
-  others = λ p none. m.others p (fewer (cond {A = ℕ} (free p) 1 0) (times p used) (times p all) (more p) (e p) none);
-  balance = λ p. summed (cond {A = ℕ} (now p) 1 0) (cond {A = ℕ} (free p) 1 0) (times p uses) (times p used) (times p alls) (times p all) (more p)
-      (f p) (e p) (m.balance p);
-}
-  where
-    fewer : (c u a m : ℕ) → a ≡ m + u → c + a ≡ 0 → c + u ≡ 0
-    fewer c u a m e h = omega arith
+module _ (pages news : List (List ℕ)) (free now : ℕ → Bool) (used uses all alls : List ℕ) where
+  -- The same edit among further used pages: each page is used as often more often, before and after.
+  pub moves_among : (more : ℕ → ℕ) → ((p : ℕ) → times p all ≡ more p + times p used) → ((p : ℕ) → times p alls ≡ more p + times p uses) → Moves pages news free now used uses → Moves pages news free now all alls
+  moves_among more e f m = record {
+    size = m.size;
+    others = λ p none. m.others p (fewer (cond {A = ℕ} (free p) 1 0) (times p used) (times p all) (more p) (e p) none);
+    balance = λ p. summed (cond {A = ℕ} (now p) 1 0) (cond {A = ℕ} (free p) 1 0) (times p uses) (times p used) (times p alls) (times p all) (more p)
+        (f p) (e p) (m.balance p);
+  }
+    where
+      fewer : (c u a m : ℕ) → a ≡ m + u → c + a ≡ 0 → c + u ≡ 0
+      fewer c u a m e h = omega arith
 
-    summed : (n c v u b a m : ℕ) → b ≡ m + v → a ≡ m + u → n + v ≡ c + u → n + b ≡ c + a
-    summed n c v u b a m e f h = omega arith
+      summed : (n c v u b a m : ℕ) → b ≡ m + v → a ≡ m + u → n + v ≡ c + u → n + b ≡ c + a
+      summed n c v u b a m e f h = omega arith
 
--- the used pages in another order
-pub moves_order : (pages news : List (List ℕ)) (free now : ℕ → Bool) (used uses all alls : List ℕ) → ((p : ℕ) → times p all ≡ times p used)
-    → ((p : ℕ) → times p alls ≡ times p uses)
-    → Moves pages news free now used uses → Moves pages news free now all alls
-moves_order pages news free now used uses all alls e f m =
-    moves_among pages news free now used uses all alls (λ p. 0) (λ p. e p ∙ nothing (times p used)) (λ p. f p ∙ nothing (times p uses)) m
-  where
-    nothing : (n : ℕ) → n ≡ 0 + n
-    nothing n = omega arith
+  -- the used pages in another order
+  pub moves_order : ((p : ℕ) → times p all ≡ times p used) → ((p : ℕ) → times p alls ≡ times p uses) → Moves pages news free now used uses → Moves pages news free now all alls
+  moves_order e f m =
+      moves_among (λ p. 0) (λ p. e p ∙ nothing (times p used)) (λ p. f p ∙ nothing (times p uses)) m
+    where
+      nothing : (n : ℕ) → n ≡ 0 + n
+      nothing n = omega arith
 
 -- behind an edit no page is used twice or free either
 pub apart_then : (pages news : List (List ℕ)) (free now : ℕ → Bool) (used uses : List ℕ) → Moves pages news free now used uses

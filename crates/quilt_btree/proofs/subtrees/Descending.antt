@@ -48,38 +48,36 @@ height_above zero some ne = absurd (omega arith)
 height_above (suc zero) some ne = absurd (ne refl)
 height_above (suc (suc h)) some ne = (h, refl)
 
-pub inner_spells : (told : Option (List (List ℕ))) (page height : ℕ) (rs : List Record) (inner : Inner) → 1 ≤ height → height ≢ 1
-    → (s : Spells told page height rs) → ReadsInner told page inner → IsAbove told page height inner rs s
-inner_spells told page height rs inner some ne s reads =
-    let e = height_above height some ne in
-    let t = subst (λ n. Subtree s.pages n s.is_root (page, s.bounds) rs s.used) e.1 s.subtree in
-    let there = reads s.pages s.is_told in
-    let mine = t.page in
-    let same : t.inner ≡ inner = cc in
-    record {
-      h = e.0;
-      is_h = e.1;
-      list = inner_list (length s.pages) (slice_index_or s.pages page []) inner there;
-      within = subst (λ (i : Inner). are_within s.bounds i.keys ≡ true) same t.within;
-      under = t.under;
-      row = subst (λ (i : Inner). Row (Subtree s.pages (suc e.0) false) (bounded i.children i.keys s.bounds) rs t.under) same t.children;
-    }
+module _ (told : Option (List (List ℕ))) (page height : ℕ) (rs : List Record) (inner : Inner) where
+  pub inner_spells : 1 ≤ height → height ≢ 1 → (s : Spells told page height rs) → ReadsInner told page inner → IsAbove told page height inner rs s
+  inner_spells some ne s reads =
+      let e = height_above height some ne in
+      let t = subst (λ n. Subtree s.pages n s.is_root (page, s.bounds) rs s.used) e.1 s.subtree in
+      let there = reads s.pages s.is_told in
+      let mine = t.page in
+      let same : t.inner ≡ inner = cc in
+      record {
+        h = e.0;
+        is_h = e.1;
+        list = inner_list (length s.pages) (slice_index_or s.pages page []) inner there;
+        within = subst (λ (i : Inner). are_within s.bounds i.keys ≡ true) same t.within;
+        under = t.under;
+        row = subst (λ (i : Inner). Row (Subtree s.pages (suc e.0) false) (bounded i.children i.keys s.bounds) rs t.under) same t.children;
+      }
 
--- the child's subtree
-pub child_spells : (told : Option (List (List ℕ))) (page height : ℕ) (rs : List Record) (inner : Inner) (i : ℕ) (s : Spells told page height rs)
-    (up : IsAbove told page height inner rs s)
-    → (at : AtChild (Subtree s.pages (suc up.h) false) inner s.bounds i rs up.under) → Spells told (slice_index inner.children i) (height - 1) at.here
-child_spells told page height rs inner i s up at =
-    let n : height - 1 ≡ suc up.h = let e = up.is_h in omega arith in
-    record {
-      pages = s.pages;
-      is_told = s.is_told;
-      is_root = false;
-      bounds = child_bounds inner s.bounds i;
-      used = at.here_used;
-      subtree = subst (λ m. Subtree s.pages m false (slice_index inner.children i, child_bounds inner s.bounds i) at.here at.here_used) (sym n)
-          (one_row (Subtree s.pages (suc up.h) false) (slice_index inner.children i, child_bounds inner s.bounds i) at.here at.here_used at.row_here);
-    }
+  -- the child's subtree
+  pub child_spells : (i : ℕ) (s : Spells told page height rs) (up : IsAbove told page height inner rs s) (at : AtChild (Subtree s.pages (suc up.h) false) inner s.bounds i rs up.under) → Spells told (slice_index inner.children i) (height - 1) at.here
+  child_spells i s up at =
+      let n : height - 1 ≡ suc up.h = let e = up.is_h in omega arith in
+      record {
+        pages = s.pages;
+        is_told = s.is_told;
+        is_root = false;
+        bounds = child_bounds inner s.bounds i;
+        used = at.here_used;
+        subtree = subst (λ m. Subtree s.pages m false (slice_index inner.children i, child_bounds inner s.bounds i) at.here at.here_used) (sym n)
+            (one_row (Subtree s.pages (suc up.h) false) (slice_index inner.children i, child_bounds inner s.bounds i) at.here at.here_used at.row_here);
+      }
 
 -- what stands around the child to which a key leads
 pub record LeadsBelow (told : Option (List (List ℕ))) (height : ℕ) (inner : Inner) (i : ℕ) (k : Key) (rs : List Record) (start : Option Key) : Type 0 where
@@ -326,25 +324,23 @@ pub record AtFloor (old new : Option (List (List ℕ))) (page height child i : �
   pub place : IsPlace inner.keys k i
   pub is_child : child ≡ slice_index inner.children i
 
-pub floor_here : (old new : Option (List (List ℕ))) (page height child i : ℕ) (k : Key) (inner : Inner) (r : Record)
-    → AtFloor old new page height child i k inner
-    → ((rs : List Record) → Spells new child (height - 1) rs → Some r ≡ floor_of k rs) → (rs : List Record) → Spells old page height rs → Some r ≡ floor_of k rs
-floor_here old new page height child i k inner r a f rs s =
-    let at = leads_below old page height rs inner i k a.some a.above s a.reads a.place in
-    let here =
-    f at.here (subst (λ c. Spells new c (height - 1) at.here) (sym a.is_child)
-    (along_told old new (slice_index inner.children i) (height - 1) at.here a.told at.spells)) in
-    ap (λ o. option_or o (last_or None at.first)) here ∙ sym (floor_between k at.first at.here at.last rs at.among)
+module _ (old new : Option (List (List ℕ))) (page height child i : ℕ) (k : Key) (inner : Inner) where
+  pub floor_here : (r : Record) → AtFloor old new page height child i k inner → ((rs : List Record) → Spells new child (height - 1) rs → Some r ≡ floor_of k rs) → (rs : List Record) → Spells old page height rs → Some r ≡ floor_of k rs
+  floor_here r a f rs s =
+      let at = leads_below old page height rs inner i k a.some a.above s a.reads a.place in
+      let here =
+      f at.here (subst (λ c. Spells new c (height - 1) at.here) (sym a.is_child)
+      (along_told old new (slice_index inner.children i) (height - 1) at.here a.told at.spells)) in
+      ap (λ o. option_or o (last_or None at.first)) here ∙ sym (floor_between k at.first at.here at.last rs at.among)
 
-pub floor_none : (old new : Option (List (List ℕ))) (page height child i : ℕ) (k : Key) (inner : Inner) → AtFloor old new page height child i k inner → i ≡ 0
-    → ((rs : List Record) → Spells new child (height - 1) rs → None ≡ floor_of k rs) → (rs : List Record) → Spells old page height rs → None ≡ floor_of k rs
-floor_none old new page height child i k inner a zero_place f rs s =
-    let at = leads_below old page height rs inner i k a.some a.above s a.reads a.place in
-    let here =
-    f at.here (subst (λ c. Spells new c (height - 1) at.here) (sym a.is_child)
-    (along_told old new (slice_index inner.children i) (height - 1) at.here a.told at.spells)) in
-    ap (last_or None) (sym (at.none_before zero_place)) ∙ ap (λ o. option_or o (last_or None at.first)) here
-    ∙ sym (floor_between k at.first at.here at.last rs at.among)
+  pub floor_none : AtFloor old new page height child i k inner → i ≡ 0 → ((rs : List Record) → Spells new child (height - 1) rs → None ≡ floor_of k rs) → (rs : List Record) → Spells old page height rs → None ≡ floor_of k rs
+  floor_none a zero_place f rs s =
+      let at = leads_below old page height rs inner i k a.some a.above s a.reads a.place in
+      let here =
+      f at.here (subst (λ c. Spells new c (height - 1) at.here) (sym a.is_child)
+      (along_told old new (slice_index inner.children i) (height - 1) at.here a.told at.spells)) in
+      ap (last_or None) (sym (at.none_before zero_place)) ∙ ap (λ o. option_or o (last_or None at.first)) here
+      ∙ sym (floor_between k at.first at.here at.last rs at.among)
 
 pub floor_before : (old new newer : Option (List (List ℕ))) (page height child prior i : ℕ) (k : Key) (inner : Inner) (r : Record)
     → AtFloor old new page height child i k inner → i ≢ 0 → newer ≡ old

@@ -80,47 +80,40 @@ leaf_found pages is_root at visited rs now (Some ss) page seen h =
       is_now = later;
     }
 
-row_step : (S : Reading) (visit : ℕ × Bounds → List ℕ → Walk) (c : ℕ × Bounds) (cs : List (ℕ × Bounds)) (before : List Record) (visited : List ℕ)
-    (rs : List Record) (now : List ℕ)
-    → ((ss : List Record) (later : List ℕ) → visit c visited ≡ Whole ss later → Found (S c) visited ss later)
-    → ((ss : List Record) (later : List ℕ) → each_child visit cs (Whole ss later) ≡ Whole rs now → FoundBehind (Row S cs) ss later rs now)
-    → (w : Walk) → visit c visited ≡ w
-    → each_child visit cs (and_then (Whole before visited) (λ v. w)) ≡ Whole rs now → FoundBehind (Row S (c ∷ cs)) before visited rs now
-row_step S visit c cs before visited rs now one others (Damaged p) e h =
-    let stays = damaged_stays visit cs p in cc
-row_step S visit c cs before visited rs now one others (Whole ss later) e h =
-    let first = one ss later e in
-    let rest = others (before ++ ss) later h in
-    record {
-      more = ss ++ rest.more;
-      is_rs = rest.is_rs ∙ append_assoc before ss rest.more;
-      found = record {
-        used = rest.found.used ++ first.used;
-        spells = record {
-          first = ss;
-          rest = rest.more;
-          first_used = first.used;
-          rest_used = rest.found.used;
-          here = first.spells;
-          after = rest.found.spells;
-          records = refl;
-          is_used = refl;
+module _ (S : Reading) (visit : ℕ × Bounds → List ℕ → Walk) where
+  row_step : (c : ℕ × Bounds) (cs : List (ℕ × Bounds)) (before : List Record) (visited : List ℕ) (rs : List Record) (now : List ℕ) → ((ss : List Record) (later : List ℕ) → visit c visited ≡ Whole ss later → Found (S c) visited ss later) → ((ss : List Record) (later : List ℕ) → each_child visit cs (Whole ss later) ≡ Whole rs now → FoundBehind (Row S cs) ss later rs now) → (w : Walk) → visit c visited ≡ w → each_child visit cs (and_then (Whole before visited) (λ v. w)) ≡ Whole rs now → FoundBehind (Row S (c ∷ cs)) before visited rs now
+  row_step c cs before visited rs now one others (Damaged p) e h =
+      let stays = damaged_stays visit cs p in cc
+  row_step c cs before visited rs now one others (Whole ss later) e h =
+      let first = one ss later e in
+      let rest = others (before ++ ss) later h in
+      record {
+        more = ss ++ rest.more;
+        is_rs = rest.is_rs ∙ append_assoc before ss rest.more;
+        found = record {
+          used = rest.found.used ++ first.used;
+          spells = record {
+            first = ss;
+            rest = rest.more;
+            first_used = first.used;
+            rest_used = rest.found.used;
+            here = first.spells;
+            after = rest.found.spells;
+            records = refl;
+            is_used = refl;
+          };
+          fresh = fresh_join _ _ _ (along_list (λ l. IsFresh rest.found.used l) first.is_now rest.found.fresh) first.fresh;
+          is_now = rest.found.is_now ∙ ap (λ v. rest.found.used ++ v) first.is_now ∙ sym (append_assoc rest.found.used first.used visited);
         };
-        fresh = fresh_join _ _ _ (along_list (λ l. IsFresh rest.found.used l) first.is_now rest.found.fresh) first.fresh;
-        is_now = rest.found.is_now ∙ ap (λ v. rest.found.used ++ v) first.is_now ∙ sym (append_assoc rest.found.used first.used visited);
-      };
-    }
+      }
 
-row_found : (S : Reading) (visit : ℕ × Bounds → List ℕ → Walk)
-    → ((c : ℕ × Bounds) (visited : List ℕ) (rs : List Record) (now : List ℕ) → visit c visited ≡ Whole rs now → Found (S c) visited rs now)
-    → (cs : List (ℕ × Bounds)) (before : List Record) (visited : List ℕ) (rs : List Record) (now : List ℕ)
-    → each_child visit cs (Whole before visited) ≡ Whole rs now → FoundBehind (Row S cs) before visited rs now
-row_found S visit one [] before visited rs now h =
-    let same : rs ≡ before = cc in
-    let later : now ≡ visited = cc in
-    record { more = []; is_rs = same ∙ sym (append-nil before); found = record { used = []; spells = (refl, refl); fresh = tt; is_now = later } }
-row_found S visit one (c ∷ cs) before visited rs now h =
-    row_step S visit c cs before visited rs now (one c visited) (λ ss later e. row_found S visit one cs ss later rs now e) (visit c visited) refl h
+  row_found : ((c : ℕ × Bounds) (visited : List ℕ) (rs : List Record) (now : List ℕ) → visit c visited ≡ Whole rs now → Found (S c) visited rs now) → (cs : List (ℕ × Bounds)) (before : List Record) (visited : List ℕ) (rs : List Record) (now : List ℕ) → each_child visit cs (Whole before visited) ≡ Whole rs now → FoundBehind (Row S cs) before visited rs now
+  row_found one [] before visited rs now h =
+      let same : rs ≡ before = cc in
+      let later : now ≡ visited = cc in
+      record { more = []; is_rs = same ∙ sym (append-nil before); found = record { used = []; spells = (refl, refl); fresh = tt; is_now = later } }
+  row_found one (c ∷ cs) before visited rs now h =
+      row_step c cs before visited rs now (one c visited) (λ ss later e. row_found one cs ss later rs now e) (visit c visited) refl h
 
 pub same_number : (m n : ℕ) → (m == n) ≡ true → m ≡ n
 same_number m n h = grind (arith, nat_tests)

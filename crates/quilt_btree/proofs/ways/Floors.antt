@@ -20,31 +20,25 @@ last_splits pages height page child n inner some ne here many is =
     ap (λ m. last_pages pages m page) up.1 ∙ ap (λ o. page ∷ last_below (last_pages pages (suc up.0)) o) here
     ∙ ap (λ c. page ∷ last_pages pages (suc up.0) c) (sym same) ∙ ap (λ m. page ∷ last_pages pages m child) (one_less height up.0 up.1)
 
--- and with that to which a key leads
-pub floor_splits : (pages : List (List ℕ)) (k : Key) (height page child i : ℕ) (inner : Inner) → 1 ≤ height → height ≢ 1
-    → inner_of (length pages) (slice_index_or pages page []) ≡ Some inner → i ≡ place_of k inner
-    → child ≡ slice_index inner.children i
-    → floor_pages pages k height page ≡ page
-    ∷ (floor_pages pages k (height - 1) child ++ before_child (finds_floor pages k (height - 1)) (last_pages pages (height - 1)) inner i)
-floor_splits pages k height page child i inner some ne here place is =
-    let up = height_above height some ne in
-    ap (λ m. floor_pages pages k m page) up.1
-    ∙ ap (λ o. page ∷ floor_below (floor_pages pages k (suc up.0)) (finds_floor pages k (suc up.0)) (last_pages pages (suc up.0)) k o) here
-    ∙ ap (λ j. page ∷ (floor_pages pages k (suc up.0) (slice_index inner.children j)
-    ++ before_child (finds_floor pages k (suc up.0)) (last_pages pages (suc up.0)) inner j)) (sym place)
-    ∙ ap (λ c. page ∷ (floor_pages pages k (suc up.0) c ++ before_child (finds_floor pages k (suc up.0)) (last_pages pages (suc up.0)) inner i)) (sym is)
-    ∙ ap (λ m. page ∷ (floor_pages pages k m child ++ before_child (finds_floor pages k m) (last_pages pages m) inner i)) (one_less height up.0 up.1)
+module _ (pages : List (List ℕ)) (k : Key) (height page child i : ℕ) (inner : Inner) (some : 1 ≤ height) (ne : height ≢ 1) (here : inner_of (length pages) (slice_index_or pages page []) ≡ Some inner) (place : i ≡ place_of k inner) (is : child ≡ slice_index inner.children i) where
+  -- and with that to which a key leads
+  pub floor_splits : floor_pages pages k height page ≡ page ∷ (floor_pages pages k (height - 1) child ++ before_child (finds_floor pages k (height - 1)) (last_pages pages (height - 1)) inner i)
+  floor_splits =
+      let up = height_above height some ne in
+      ap (λ m. floor_pages pages k m page) up.1
+      ∙ ap (λ o. page ∷ floor_below (floor_pages pages k (suc up.0)) (finds_floor pages k (suc up.0)) (last_pages pages (suc up.0)) k o) here
+      ∙ ap (λ j. page ∷ (floor_pages pages k (suc up.0) (slice_index inner.children j)
+      ++ before_child (finds_floor pages k (suc up.0)) (last_pages pages (suc up.0)) inner j)) (sym place)
+      ∙ ap (λ c. page ∷ (floor_pages pages k (suc up.0) c ++ before_child (finds_floor pages k (suc up.0)) (last_pages pages (suc up.0)) inner i)) (sym is)
+      ∙ ap (λ m. page ∷ (floor_pages pages k m child ++ before_child (finds_floor pages k m) (last_pages pages m) inner i)) (one_less height up.0 up.1)
 
-pub finds_splits : (pages : List (List ℕ)) (k : Key) (height page child i : ℕ) (inner : Inner) → 1 ≤ height → height ≢ 1
-    → inner_of (length pages) (slice_index_or pages page []) ≡ Some inner → i ≡ place_of k inner
-    → child ≡ slice_index inner.children i
-    → finds_floor pages k height page ≡ (nat_lt 0 i || finds_floor pages k (height - 1) child)
-finds_splits pages k height page child i inner some ne here place is =
-    let up = height_above height some ne in
-    ap (λ m. finds_floor pages k m page) up.1 ∙ ap (λ o. finds_below (finds_floor pages k (suc up.0)) k o) here
-    ∙ ap (λ j. nat_lt 0 j || finds_floor pages k (suc up.0) (slice_index inner.children j)) (sym place)
-    ∙ ap (λ c. nat_lt 0 i || finds_floor pages k (suc up.0) c) (sym is)
-    ∙ ap (λ m. nat_lt 0 i || finds_floor pages k m child) (one_less height up.0 up.1)
+  pub finds_splits : finds_floor pages k height page ≡ (nat_lt 0 i || finds_floor pages k (height - 1) child)
+  finds_splits =
+      let up = height_above height some ne in
+      ap (λ m. finds_floor pages k m page) up.1 ∙ ap (λ o. finds_below (finds_floor pages k (suc up.0)) k o) here
+      ∙ ap (λ j. nat_lt 0 j || finds_floor pages k (suc up.0) (slice_index inner.children j)) (sym place)
+      ∙ ap (λ c. nat_lt 0 i || finds_floor pages k (suc up.0) c) (sym is)
+      ∙ ap (λ m. nat_lt 0 i || finds_floor pages k m child) (one_less height up.0 up.1)
 
 -- no more is read where the child has the record, or none stands before it
 pub found_here : (pages : List (List ℕ)) (k : Key) (height child i : ℕ) (inner : Inner) → child ≡ slice_index inner.children i
@@ -55,27 +49,24 @@ found_here pages k height child i inner is h =
     ap (λ c. finds_floor pages k height c || i == 0) (sym is) ∙ ap (λ b. b || i == 0) h in
     ap (λ b. if b then [] else last_pages pages height (slice_index inner.children (i - 1))) yes
 
-pub none_before : (pages : List (List ℕ)) (k : Key) (height i : ℕ) (inner : Inner) → i ≡ 0
-    → before_child (finds_floor pages k height) (last_pages pages height) inner i ≡ []
-none_before pages k height i inner e =
-    ap (λ b. if b then [] else last_pages pages height (slice_index inner.children (i - 1)))
-    (either (finds_floor pages k height (slice_index inner.children i)) i e)
-  where
-    either : (b : Bool) (i : ℕ) → i ≡ 0 → (b || i == 0) ≡ true
-    either b i e = grind (arith, nat_tests)
+module _ (pages : List (List ℕ)) (k : Key) (height : ℕ) where
+  pub none_before : (i : ℕ) (inner : Inner) → i ≡ 0 → before_child (finds_floor pages k height) (last_pages pages height) inner i ≡ []
+  none_before i inner e =
+      ap (λ b. if b then [] else last_pages pages height (slice_index inner.children (i - 1)))
+      (either (finds_floor pages k height (slice_index inner.children i)) i e)
+    where
+      either : (b : Bool) (i : ℕ) → i ≡ 0 → (b || i == 0) ≡ true
+      either b i e = grind (arith, nat_tests)
 
--- and else the pages of the last record there
-pub child_before : (pages : List (List ℕ)) (k : Key) (height child prior i : ℕ) (inner : Inner) → child ≡ slice_index inner.children i
-    → prior ≡ slice_index inner.children (i - 1)
-    → finds_floor pages k height child ≡ false → i ≢ 0
-    → before_child (finds_floor pages k height) (last_pages pages height) inner i ≡ last_pages pages height prior
-child_before pages k height child prior i inner is was h ne =
-    ap (λ b. if b then [] else last_pages pages height (slice_index inner.children (i - 1)))
-    (either (finds_floor pages k height (slice_index inner.children i)) i (ap (finds_floor pages k height) (sym is) ∙ h) ne)
-    ∙ ap (last_pages pages height) (sym was)
-  where
-    either : (b : Bool) (i : ℕ) → b ≡ false → i ≢ 0 → (b || i == 0) ≡ false
-    either b i e ne = grind (arith, nat_tests)
+  -- and else the pages of the last record there
+  pub child_before : (child prior i : ℕ) (inner : Inner) → child ≡ slice_index inner.children i → prior ≡ slice_index inner.children (i - 1) → finds_floor pages k height child ≡ false → i ≢ 0 → before_child (finds_floor pages k height) (last_pages pages height) inner i ≡ last_pages pages height prior
+  child_before child prior i inner is was h ne =
+      ap (λ b. if b then [] else last_pages pages height (slice_index inner.children (i - 1)))
+      (either (finds_floor pages k height (slice_index inner.children i)) i (ap (finds_floor pages k height) (sym is) ∙ h) ne)
+      ∙ ap (last_pages pages height) (sym was)
+    where
+      either : (b : Bool) (i : ℕ) → b ≡ false → i ≢ 0 → (b || i == 0) ≡ false
+      either b i e ne = grind (arith, nat_tests)
 
 -- how many pages they are
 few_last : (under : ℕ → List ℕ) (n : ℕ) (o : Option Inner) → ((c : ℕ) → length (under c) ≤ n) → length (last_below under o) ≤ n

@@ -87,38 +87,35 @@ pub record Forked (old new : Option (List (List ℕ))) (page height : ℕ) (k : 
   pub first : prior ≡ None → i ≡ 0
   pub later : (p : ℕ) → prior ≡ Some p → HasPrior old height inner i p
 
-pub forked : (old new : Option (List (List ℕ))) (page height size : ℕ) (bytes : List ℕ) (k : Key) (child : ℕ) (prior : Option ℕ) (rs : List Record)
-    → IsRead old new page height size bytes
-    → ((inner : Inner) → inner_of size bytes ≡ Some inner → IsFork k inner child prior) → Spells old page height rs
-    → Forked old new page height k child prior rs
-forked old new page height size bytes k child prior rs r fork s =
-    let h = page_here old new page height size bytes rs r s in
-    let f = fork h.inner h.is in
-    let low = leads_below old page height rs h.inner f.place k r.some r.above s h.reads f.is_place in
-    record {
-      inner = h.inner;
-      i = f.place;
-      at = record { told = r.told; some = r.some; above = r.above; reads = h.reads; place = f.is_place; is_child = f.child_is };
-      number = f.number;
-      before = low.first;
-      here = low.here;
-      behind = low.last;
-      among = low.among;
-      spells = subst (λ c. Spells new c (height - 1) low.here) (sym f.child_is)
-          (along_told old new (slice_index h.inner.children f.place) (height - 1) low.here r.told low.spells);
-      first = f.first;
-      later = λ p e.
-          let q = f.later p e in
-          let some : f.place ≢ 0 = q.0 in
-          let n : f.place ≡ suc (f.place - 1) = omega arith in
-          let b = low.before (f.place - 1) n in
-          record { some = q.0; is = q.1; here = b.1; spells = subst (λ c. Spells old c (height - 1) b.1) (sym q.1) b.3 };
-    }
+module _ (old new : Option (List (List ℕ))) (page height size : ℕ) (bytes : List ℕ) where
+  pub forked : (k : Key) (child : ℕ) (prior : Option ℕ) (rs : List Record) → IsRead old new page height size bytes → ((inner : Inner) → inner_of size bytes ≡ Some inner → IsFork k inner child prior) → Spells old page height rs → Forked old new page height k child prior rs
+  forked k child prior rs r fork s =
+      let h = page_here old new page height size bytes rs r s in
+      let f = fork h.inner h.is in
+      let low = leads_below old page height rs h.inner f.place k r.some r.above s h.reads f.is_place in
+      record {
+        inner = h.inner;
+        i = f.place;
+        at = record { told = r.told; some = r.some; above = r.above; reads = h.reads; place = f.is_place; is_child = f.child_is };
+        number = f.number;
+        before = low.first;
+        here = low.here;
+        behind = low.last;
+        among = low.among;
+        spells = subst (λ c. Spells new c (height - 1) low.here) (sym f.child_is)
+            (along_told old new (slice_index h.inner.children f.place) (height - 1) low.here r.told low.spells);
+        first = f.first;
+        later = λ p e.
+            let q = f.later p e in
+            let some : f.place ≢ 0 = q.0 in
+            let n : f.place ≡ suc (f.place - 1) = omega arith in
+            let b = low.before (f.place - 1) n in
+            record { some = q.0; is = q.1; here = b.1; spells = subst (λ c. Spells old c (height - 1) b.1) (sym q.1) b.3 };
+      }
 
--- a page above the leaves forks
-pub forks : (old new : Option (List (List ℕ))) (page height size : ℕ) (bytes : List ℕ) (e : Stop) → IsRead old new page height size bytes
-    → ((inner : Inner) → inner_of size bytes ≡ Some inner → ⊥) → (rs : List Record) → Spells old page height rs → IsSound e
-forks old new page height size bytes e r none rs s = let h = page_here old new page height size bytes rs r s in absurd (none h.inner h.is)
+  -- a page above the leaves forks
+  pub forks : (e : Stop) → IsRead old new page height size bytes → ((inner : Inner) → inner_of size bytes ≡ Some inner → ⊥) → (rs : List Record) → Spells old page height rs → IsSound e
+  forks e r none rs s = let h = page_here old new page height size bytes rs r s in absurd (none h.inner h.is)
 
 pub leaf_led : (told : Option (List (List ℕ))) (page height : ℕ) (bytes : List ℕ) (k : Key) → height ≡ 1 → AreOf told page bytes → (rs : List Record)
     → Spells told page height rs → IsLeafFor k rs bytes
@@ -284,33 +281,32 @@ before_inside size bytes inner k i is p = let lt = place_inside size bytes inner
 pub no_page : (size child : ℕ) → (child < 1) ⊎ ((1 ≤ child) × (size ≤ child)) → 1 ≤ child → child < size → ⊥
 no_page size child h a b = omega (arith, h)
 
-pub first_fork : (k : Key) (inner : Inner) (i child : ℕ) → IsPlace inner.keys k i → i ≡ place_of k inner → child ≡ slice_index inner.children i
-    → i ≡ 0 → IsFork k inner child None
-first_fork k inner i child p n e z = record {
-  place = i;
-  is_place = p;
-  number = n;
-  child_is = e;
-  first = λ h. z;
-  later = λ q h. absurd (differ q h);
-}
-  where
-    differ : (q : ℕ) → None ≡ Some q → ⊥
-    differ q h = cc
+module _ (k : Key) (inner : Inner) (i child : ℕ) where
+  pub first_fork : IsPlace inner.keys k i → i ≡ place_of k inner → child ≡ slice_index inner.children i → i ≡ 0 → IsFork k inner child None
+  first_fork p n e z = record {
+    place = i;
+    is_place = p;
+    number = n;
+    child_is = e;
+    first = λ h. z;
+    later = λ q h. absurd (differ q h);
+  }
+    where
+      differ : (q : ℕ) → None ≡ Some q → ⊥
+      differ q h = cc
 
-pub later_fork : (k : Key) (inner : Inner) (i child prior : ℕ) → IsPlace inner.keys k i → i ≡ place_of k inner → child ≡ slice_index inner.children i
-    → i ≢ 0 → prior ≡ slice_index inner.children (i - 1) → IsFork k inner child (Some prior)
-later_fork k inner i child prior p n e ne is = record {
-  place = i;
-  is_place = p;
-  number = n;
-  child_is = e;
-  first = λ h. absurd (differ prior h);
-  later = λ q h. (ne, sym (some_same prior q h) ∙ is);
-}
-  where
-    differ : (q : ℕ) → Some q ≡ None → ⊥
-    differ q h = cc
+  pub later_fork : (prior : ℕ) → IsPlace inner.keys k i → i ≡ place_of k inner → child ≡ slice_index inner.children i → i ≢ 0 → prior ≡ slice_index inner.children (i - 1) → IsFork k inner child (Some prior)
+  later_fork prior p n e ne is = record {
+    place = i;
+    is_place = p;
+    number = n;
+    child_is = e;
+    first = λ h. absurd (differ prior h);
+    later = λ q h. (ne, sym (some_same prior q h) ∙ is);
+  }
+    where
+      differ : (q : ℕ) → Some q ≡ None → ⊥
+      differ q h = cc
 
 pub gap_before : (k : Key) (rs : List Record) (i : ℕ) → IsGap k rs i → i ≢ 0 → i - 1 < length rs
 gap_before k rs i g ne = omega (arith, g.in_range)

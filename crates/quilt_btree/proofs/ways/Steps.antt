@@ -108,19 +108,18 @@ pub step_above : (r : Result Found Stop) (k : Key) (start next : Option Key) →
 step_above (Err e) k start next g f = f
 step_above (Ok v) k start next g f = λ h. f (g h)
 
--- the leaf itself
-here_led : (told : Option (List (List ℕ))) (page height : ℕ) (bytes : List ℕ) (k : Key) (high : Option Key) → height ≡ 1 → AreOf told page bytes
-    → (rs : List Record) (s : Spells told page height rs) → s.bounds.high ≡ high → LeadsTo k rs (records_of bytes) high high
-here_led told page height bytes k high one are rs s top =
-    let is = leaf_here told page height bytes rs one are s in
-    subst (λ l. LeadsTo k rs l high high) (sym (leaf_records bytes rs is))
-    (leaf_leads told page height k rs high one (λ pages t. ap leaf_of (sym (are pages t)) ∙ is) rs s top)
+module _ (told : Option (List (List ℕ))) (page height : ℕ) (bytes : List ℕ) where
+  -- the leaf itself
+  here_led : (k : Key) (high : Option Key) → height ≡ 1 → AreOf told page bytes → (rs : List Record) (s : Spells told page height rs) → s.bounds.high ≡ high → LeadsTo k rs (records_of bytes) high high
+  here_led k high one are rs s top =
+      let is = leaf_here told page height bytes rs one are s in
+      subst (λ l. LeadsTo k rs l high high) (sym (leaf_records bytes rs is))
+      (leaf_leads told page height k rs high one (λ pages t. ap leaf_of (sym (are pages t)) ∙ is) rs s top)
 
-here_leaf : (told : Option (List (List ℕ))) (page height : ℕ) (bytes : List ℕ) → height ≡ 1 → AreOf told page bytes → (rs : List Record)
-    → Spells told page height rs → leaf_of bytes ≡ Some (records_of bytes)
-here_leaf told page height bytes one are rs s =
-    let is = leaf_here told page height bytes rs one are s in
-    is ∙ ap Some (sym (leaf_records bytes rs is))
+  here_leaf : height ≡ 1 → AreOf told page bytes → (rs : List Record) → Spells told page height rs → leaf_of bytes ≡ Some (records_of bytes)
+  here_leaf one are rs s =
+      let is = leaf_here told page height bytes rs one are s in
+      is ∙ ap Some (sym (leaf_records bytes rs is))
 
 here_least : (told : Option (List (List ℕ))) (page height : ℕ) (bytes : List ℕ) → height ≡ 1 → AreOf told page bytes → (rs : List Record)
     → Spells told page height rs → 1 ≤ length (records_of bytes)
