@@ -83,7 +83,8 @@ pub record IsEdited (leaf now : List Record) (run : List Edit) : Type 0 where
   pub due : are_due run leaf ≡ true
 
 module _ (leaf now : List Record) where
-  pub edited_next : (new : List Record) (run : List Edit) (i : ℕ) → i < length run → IsEdited leaf now (take i run) → is_due (edit_at run i) now ≡ true → new ≡ edited (edit_at run i) now → IsEdited leaf new (take (i + 1) run)
+  pub edited_next : (new : List Record) (run : List Edit) (i : ℕ) → i < length run → IsEdited leaf now (take i run)
+      → is_due (edit_at run i) now ≡ true → new ≡ edited (edit_at run i) now → IsEdited leaf new (take (i + 1) run)
   edited_next new run i lt d due is =
       let xs = take i run in
       let e = edit_at run i in
@@ -93,7 +94,8 @@ module _ (leaf now : List Record) where
             (and_both (is_due e (edit_all xs leaf)) true (subst (λ l. is_due e l ≡ true) d.is due) refl);
       })
 
-  pub edited_fails : (run : List Edit) (i : ℕ) → i < length run → IsEdited leaf now (take i run) → is_due (edit_at run i) now ≡ false → are_due run leaf ≡ false
+  pub edited_fails : (run : List Edit) (i : ℕ) → i < length run → IsEdited leaf now (take i run) → is_due (edit_at run i) now ≡ false
+      → are_due run leaf ≡ false
   edited_fails run i lt d not_due =
       let xs = take i run in
       let ys = drop (i + 1) run in
@@ -106,7 +108,8 @@ module _ (leaf now : List Record) where
       late a b h = grind arith
 
 -- edits among other records
-edited_between : (x : Edit) (first here last rs : List Record) → IsAmong (key_of x) first here last rs → edited x rs ≡ first ++ (edited x here ++ last)
+edited_between : (x : Edit) (first here last rs : List Record) → IsAmong (key_of x) first here last rs
+    → edited x rs ≡ first ++ (edited x here ++ last)
 edited_between (edit.Remove k) first here last rs a = without_between k first here last rs a
 edited_between (edit.Put r) first here last rs a = put_between r first here last rs a
 edited_between (edit.Replace r) first here last rs a =

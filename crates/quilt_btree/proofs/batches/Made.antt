@@ -31,7 +31,8 @@ leaf_taken told free page is_root b rs used can =
     first : (t : ℕ) → t ≡ 1 + 0 → 1 ≤ t
     first t e = omega arith
 
-module _ (told : Option (List (List ℕ))) (free : ℕ → Bool) (page : ℕ) (is_root : Bool) (b : Bounds) (rs : List Record) (used old : List ℕ) (shown : IfSome told (λ pages. old ≡ slice_index_or pages page [])) where
+module _ (told : Option (List (List ℕ))) (free : ℕ → Bool) (page : ℕ) (is_root : Bool) (b : Bounds) (rs : List Record) (used old : List ℕ)
+    (shown : IfSome told (λ pages. old ≡ slice_index_or pages page [])) where
   -- the leaf that the page lends
   lent_leaf : CanEdit told free page 1 is_root b rs used → leaf_of old ≡ Some rs
   lent_leaf can =

@@ -81,7 +81,9 @@ count_next run n i count m lt c h r e =
       room = subst (λ l. HasRoomFor l n) t (room_on (take i run) (edit_at run i) n h (subst (HasRoom (edit_at run i)) c r));
     }
 
-module _ (high : Option Key) (run : List Edit) (n least i best count m : ℕ) (lt : i < length run) (p : IsPlanned high run n least i best count) (below : is_below high (key_of (edit_at run i)) ≡ true) (r : HasRoom (edit_at run i) count) (e : m ≡ size_behind (edit_at run i) count) (h : m ≤ 144) where
+module _ (high : Option Key) (run : List Edit) (n least i best count m : ℕ) (lt : i < length run) (p : IsPlanned high run n least i best count)
+    (below : is_below high (key_of (edit_at run i)) ≡ true) (r : HasRoom (edit_at run i) count) (e : m ≡ size_behind (edit_at run i) count)
+    (h : m ≤ 144) where
   pub planned_best : least ≤ m → IsPlanned high run n least (i + 1) (i + 1) m
   planned_best le =
       let s = seen_next high run i lt p.seen below in

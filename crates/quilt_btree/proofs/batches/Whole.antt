@@ -167,7 +167,8 @@ all_over_none [] = refl
 all_over_none (k ∷ ks) = all_over_none ks
 
 module _ (told now_told : Option (List (List ℕ))) (free now : ℕ → Bool) (size : ℕ) where
-  pub some_left : (t : Tree) (rs : List Record) (run xs : List Edit) → IsRemoving free size t → AtRootEdits run xs told now_told free now t → IsWhole told free size t rs → fewer xs < t.records + more xs
+  pub some_left : (t : Tree) (rs : List Record) (run xs : List Edit) → IsRemoving free size t → AtRootEdits run xs told now_told free now t
+      → IsWhole told free size t rs → fewer xs < t.records + more xs
   some_left t rs run xs i f w =
       let a = at_root told free size t rs i w in
       let did = f everywhere rs a.used refl (all_over_none (edit_keys run)) a.can in
@@ -179,7 +180,9 @@ module _ (told now_told : Option (List (List ℕ))) (free now : ℕ → Bool) (s
       enough : (a m f p l r : ℕ) → a ≡ suc m → a + f ≡ l + p → l ≡ r → f < r + p
       enough a m f p l r e g h = omega arith
 
-  pub whole_edited : (records : ℕ) (t : Tree) (rs : List Record) (run xs : List Edit) → IsRemoving free size t → records + fewer xs ≡ t.records + more xs → AtRootEdits run xs told now_told free now t → IsWhole told free size t rs → (are_due xs rs ≡ true) × IsWhole now_told now size (record { root = t.root; height = t.height; records = records }) (edit_all xs rs)
+  pub whole_edited : (records : ℕ) (t : Tree) (rs : List Record) (run xs : List Edit) → IsRemoving free size t
+      → records + fewer xs ≡ t.records + more xs → AtRootEdits run xs told now_told free now t → IsWhole told free size t rs
+      → (are_due xs rs ≡ true) × IsWhole now_told now size (record { root = t.root; height = t.height; records = records }) (edit_all xs rs)
   whole_edited records t rs run xs i count f w =
       let a = at_root told free size t rs i w in
       let did = f everywhere rs a.used refl (all_over_none (edit_keys run)) a.can in

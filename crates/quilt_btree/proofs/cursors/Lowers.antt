@@ -48,7 +48,8 @@ own_records bytes rs is = is ∙ ap Some (sym (leaf_records bytes rs is))
 
 module _ (old new : Option (List (List ℕ))) (page height child i : ℕ) (k : Key) (inner : Inner) where
   -- in a subtree
-  pub lower_here : (r : Record) → AtFloor old new page height child i k inner → ((rs : List Record) → Spells new child (height - 1) rs → IsLast k rs r) → (rs : List Record) → Spells old page height rs → IsLast k rs r
+  pub lower_here : (r : Record) → AtFloor old new page height child i k inner
+      → ((rs : List Record) → Spells new child (height - 1) rs → IsLast k rs r) → (rs : List Record) → Spells old page height rs → IsLast k rs r
   lower_here r a f rs s =
       let at = leads_below old page height rs inner i k a.some a.above s a.reads a.place in
       let h = f at.here (subst (λ c. Spells new c (height - 1) at.here) (sym a.is_child)
@@ -63,7 +64,9 @@ module _ (old new : Option (List (List ℕ))) (page height child i : ℕ) (k : K
         higher = all_append (λ (l : Record). is_le (key_cmp k l.key)) h.behind at.last h.higher (over_le k at.last at.among.higher);
       }
 
-  pub lower_none : AtFloor old new page height child i k inner → i ≡ 0 → ((rs : List Record) → Spells new child (height - 1) rs → list_all (λ (r : Record). is_le (key_cmp k r.key)) rs ≡ true) → (rs : List Record) → Spells old page height rs → list_all (λ (r : Record). is_le (key_cmp k r.key)) rs ≡ true
+  pub lower_none : AtFloor old new page height child i k inner → i ≡ 0
+      → ((rs : List Record) → Spells new child (height - 1) rs → list_all (λ (r : Record). is_le (key_cmp k r.key)) rs ≡ true) → (rs : List Record)
+      → Spells old page height rs → list_all (λ (r : Record). is_le (key_cmp k r.key)) rs ≡ true
   lower_none a zero_place f rs s =
       let at = leads_below old page height rs inner i k a.some a.above s a.reads a.place in
       let h = f at.here (subst (λ c. Spells new c (height - 1) at.here) (sym a.is_child)
@@ -102,7 +105,8 @@ lower_before old new newer page height child prior i k inner r a some t is f g r
     }
 
 -- the cursor goes back within its leaf
-pub goes_back : (told : Option (List (List ℕ))) (t : Tree) (r : Record) (bytes : List ℕ) (place low : ℕ) (high : Option Key) (before after : List Record)
+pub goes_back : (told : Option (List (List ℕ))) (t : Tree) (r : Record) (bytes : List ℕ) (place low : ℕ) (high : Option Key)
+    (before after : List Record)
     → place ≡ suc low → slice_get (records_of bytes) low ≡ Some r
     → StandsAt told t bytes place high before after
     → GoesBackTo told t r bytes low high before after
@@ -141,7 +145,9 @@ tree_ascends told t rs ne is =
 
 module _ (told : Option (List (List ℕ))) (t : Tree) (c : Cursor) (first : Record) (before after : List Record) where
   -- what stands around the first record of a leaf
-  first_parts : t.height ≢ 0 → c.place ≡ 0 → (0 < length (records_of c.bytes) → slice_get (records_of c.bytes) 0 ≡ Some first) → IsTree told t (before ++ after) → StandsIn told t c before after → (list_all (λ (l : Record). is_lt (key_cmp l.key first.key)) before ≡ true) × (list_all (λ (l : Record). is_le (key_cmp first.key l.key)) after ≡ true)
+  first_parts : t.height ≢ 0 → c.place ≡ 0 → (0 < length (records_of c.bytes) → slice_get (records_of c.bytes) 0 ≡ Some first)
+      → IsTree told t (before ++ after) → StandsIn told t c before after
+      → (list_all (λ (l : Record). is_lt (key_cmp l.key first.key)) before ≡ true) × (list_all (λ (l : Record). is_le (key_cmp first.key l.key)) after ≡ true)
   first_parts ne e at is s =
       let here = records_of c.bytes in
       let some = s.some in
@@ -152,7 +158,9 @@ module _ (told : Option (List (List ℕ))) (t : Tree) (c : Cursor) (first : Reco
       (p.0, subst (λ l. list_all (λ (l : Record). is_le (key_cmp first.key l.key)) l ≡ true) (sym behind) p.1)
 
   -- no record stands before the first leaf
-  pub none_back : 1 ≤ t.height → c.place ≡ 0 → (0 < length (records_of c.bytes) → slice_get (records_of c.bytes) 0 ≡ Some first) → ((rs : List Record) → Spells told t.root t.height rs → IsLower first.key rs None) → IsTree told t (before ++ after) → StandsIn told t c before after → before ≡ []
+  pub none_back : 1 ≤ t.height → c.place ≡ 0 → (0 < length (records_of c.bytes) → slice_get (records_of c.bytes) 0 ≡ Some first)
+      → ((rs : List Record) → Spells told t.root t.height rs → IsLower first.key rs None) → IsTree told t (before ++ after)
+      → StandsIn told t c before after → before ≡ []
   none_back some e at lower is s =
       let ne : t.height ≢ 0 = omega arith in
       let p = first_parts ne e at is s in

@@ -61,61 +61,62 @@ assoc : (xs ys zs : List Record) → (xs ++ ys) ++ zs ≡ xs ++ (ys ++ zs)
 assoc [] ys zs = refl
 assoc (x ∷ xs) ys zs = ap (λ l. x ∷ l) (assoc xs ys zs)
 
--- what stands behind the leaf that a key leads to
-further_at : (told : Option (List (List ℕ))) (t : Tree) (k : Key) (rs here : List Record) (high : Option Key) (l : LeadsTo k rs here None high)
-    → IsCut told t.root t.height k None here high → IsTree told t rs → t.height ≢ 0
-    → MatchOption high (l.behind ≡ []) (λ h. IsParted told t h (l.before ++ here) l.behind)
-further_at told t k rs here None l cut is ne = none l.behind l.bounded
-  where
-    none : (xs : List Record) → list_all (λ r. is_past None r.key) xs ≡ true → xs ≡ []
-    none [] h = refl
-    none (x ∷ xs) h = cc
-further_at told t k rs here (Some h) l cut is ne =
-    let s = tree_spells told t rs ne is in
-    record {
-      pages = is.pages;
-      is_told = is.is_told;
-      divides = next_divides is.pages t.height t.root (Some h) h refl (cut.ends is.pages rs s.0 is.is_told s.1 refl);
-      lower = all_append (λ (r : Record). is_lt (key_cmp r.key h)) l.before here
-          (all_follow (λ (r : Record). is_lt (key_cmp r.key k)) (λ r. is_lt (key_cmp r.key h))
-          (λ r g. lt_le r.key k h g (lt_to_le (key_cmp k h) (l.key_under refl))) l.before l.lower) l.here_under;
-      higher = l.bounded;
-    }
-
 -- the bytes of a page behind calls that only read are those that it had before
-pub are_before : (old new : Option (List (List ℕ))) (page : ℕ) (bytes : List ℕ) → new ≡ old → IfSome new (λ pages. bytes ≡ slice_index_or pages page [])
+pub are_before : (old new : Option (List (List ℕ))) (page : ℕ) (bytes : List ℕ) → new ≡ old
+    → IfSome new (λ pages. bytes ≡ slice_index_or pages page [])
     → AreOf old page bytes
 are_before old new page bytes same shown = subst (λ o. AreOf o page bytes) same (are_of new page bytes shown)
 
-pub sought : (told : Option (List (List ℕ))) (t : Tree) (k : Key) (rs : List Record) (bytes : List ℕ) (place : ℕ) (high : Option Key)
-    → Arrives told t.root t.height k None bytes high → 1 ≤ t.height → IsTree told t rs → place ≤ length (records_of bytes)
-    → (leaf_of bytes ≡ Some (records_of bytes) → list_all (λ r. is_lt (key_cmp r.key k)) (take place (records_of bytes)) ≡ true)
-    → (leaf_of bytes ≡ Some (records_of bytes) → list_all (λ r. is_le (key_cmp k r.key)) (drop place (records_of bytes)) ≡ true)
-    → IsSoughtAt told t bytes place high k rs
-sought told t k rs bytes place high a some is inside low up =
-    let ne : t.height ≢ 0 = omega arith in
-    let s = tree_spells told t rs ne is in
-    let leaf = a.leaf rs s.0 in
-    let l = a.leads rs s.0 s.1 in
-    let here = records_of bytes in
-    record {
-      before = l.before ++ take place here;
-      after = drop place here ++ l.behind;
-      records = l.records ∙ ap (λ h. l.before ++ (h ++ l.behind)) (sym (take-append-drop place here))
-          ∙ ap (λ h. l.before ++ h) (assoc (take place here) (drop place here) l.behind)
-          ∙ sym (assoc l.before (take place here) (drop place here ++ l.behind));
-      lower = all_append (λ (r : Record). is_lt (key_cmp r.key k)) l.before (take place here) l.lower (low leaf);
-      higher = all_append (λ (r : Record). is_le (key_cmp k r.key)) (drop place here) l.behind (up leaf) (over_le k l.behind l.higher);
-      stands = record {
-        first = l.before;
-        last = l.behind;
-        some = a.least rs s.0;
-        in_range = inside;
-        is_before = refl;
-        is_after = refl;
-        further = further_at told t k rs here high l a.cut is ne;
-      };
-    }
+module _ (told : Option (List (List ℕ))) (t : Tree) (k : Key) (rs : List Record) where
+  -- what stands behind the leaf that a key leads to
+  further_at : (here : List Record) (high : Option Key) (l : LeadsTo k rs here None high) → IsCut told t.root t.height k None here high
+      → IsTree told t rs → t.height ≢ 0 → MatchOption high (l.behind ≡ []) (λ h. IsParted told t h (l.before ++ here) l.behind)
+  further_at here None l cut is ne = none l.behind l.bounded
+    where
+      none : (xs : List Record) → list_all (λ r. is_past None r.key) xs ≡ true → xs ≡ []
+      none [] h = refl
+      none (x ∷ xs) h = cc
+  further_at here (Some h) l cut is ne =
+      let s = tree_spells told t rs ne is in
+      record {
+        pages = is.pages;
+        is_told = is.is_told;
+        divides = next_divides is.pages t.height t.root (Some h) h refl (cut.ends is.pages rs s.0 is.is_told s.1 refl);
+        lower = all_append (λ (r : Record). is_lt (key_cmp r.key h)) l.before here
+            (all_follow (λ (r : Record). is_lt (key_cmp r.key k)) (λ r. is_lt (key_cmp r.key h))
+            (λ r g. lt_le r.key k h g (lt_to_le (key_cmp k h) (l.key_under refl))) l.before l.lower) l.here_under;
+        higher = l.bounded;
+      }
+
+  pub sought : (bytes : List ℕ) (place : ℕ) (high : Option Key) → Arrives told t.root t.height k None bytes high → 1 ≤ t.height → IsTree told t rs
+      → place ≤ length (records_of bytes)
+      → (leaf_of bytes ≡ Some (records_of bytes) → list_all (λ r. is_lt (key_cmp r.key k)) (take place (records_of bytes)) ≡ true)
+      → (leaf_of bytes ≡ Some (records_of bytes) → list_all (λ r. is_le (key_cmp k r.key)) (drop place (records_of bytes)) ≡ true)
+      → IsSoughtAt told t bytes place high k rs
+  sought bytes place high a some is inside low up =
+      let ne : t.height ≢ 0 = omega arith in
+      let s = tree_spells told t rs ne is in
+      let leaf = a.leaf rs s.0 in
+      let l = a.leads rs s.0 s.1 in
+      let here = records_of bytes in
+      record {
+        before = l.before ++ take place here;
+        after = drop place here ++ l.behind;
+        records = l.records ∙ ap (λ h. l.before ++ (h ++ l.behind)) (sym (take-append-drop place here))
+            ∙ ap (λ h. l.before ++ h) (assoc (take place here) (drop place here) l.behind)
+            ∙ sym (assoc l.before (take place here) (drop place here ++ l.behind));
+        lower = all_append (λ (r : Record). is_lt (key_cmp r.key k)) l.before (take place here) l.lower (low leaf);
+        higher = all_append (λ (r : Record). is_le (key_cmp k r.key)) (drop place here) l.behind (up leaf) (over_le k l.behind l.higher);
+        stands = record {
+          first = l.before;
+          last = l.behind;
+          some = a.least rs s.0;
+          in_range = inside;
+          is_before = refl;
+          is_after = refl;
+          further = further_at here high l a.cut is ne;
+        };
+      }
 
 -- a key parts a list at one place
 pub no_both : (a b : Key) → is_lt (key_cmp a b) ≡ true → is_le (key_cmp b a) ≡ true → ⊥
@@ -148,7 +149,8 @@ parts_same k (x ∷ xs) ys (u ∷ us) vs e a b c d =
     (cc, h.1)
 
 module _ (told : Option (List (List ℕ))) (t : Tree) where
-  pub entered : (k : Key) (before after : List Record) (bytes : List ℕ) (high : Option Key) → Arrives told t.root t.height k None bytes high → 1 ≤ t.height → IsTree told t (before ++ after) → IsParted told t k before after → StandsAt told t bytes 0 high before after
+  pub entered : (k : Key) (before after : List Record) (bytes : List ℕ) (high : Option Key) → Arrives told t.root t.height k None bytes high
+      → 1 ≤ t.height → IsTree told t (before ++ after) → IsParted told t k before after → StandsAt told t bytes 0 high before after
   entered k before after bytes high a some is p =
       let ne : t.height ≢ 0 = omega arith in
       let s = tree_spells told t (before ++ after) ne is in
@@ -167,7 +169,9 @@ module _ (told : Option (List (List ℕ))) (t : Tree) where
         further = further_at told t k (before ++ after) here high l a.cut is ne;
       }
 
-  pub goes_over : (r : Record) (bytes : List ℕ) (place : ℕ) (high : Option Key) (before after : List Record) → place < length (records_of bytes) → slice_get (records_of bytes) place ≡ Some r → StandsAt told t bytes place high before after → GoesOverTo told t r bytes (place + 1) high before after
+  pub goes_over : (r : Record) (bytes : List ℕ) (place : ℕ) (high : Option Key) (before after : List Record) → place < length (records_of bytes)
+      → slice_get (records_of bytes) place ≡ Some r → StandsAt told t bytes place high before after
+      → GoesOverTo told t r bytes (place + 1) high before after
   goes_over r bytes place high before after lt at s =
       let here = records_of bytes in
       record {
@@ -185,7 +189,8 @@ module _ (told : Option (List (List ℕ))) (t : Tree) where
         };
       }
 
-  pub stands_further : (c : Cursor) (k : Key) (before after : List Record) → length (records_of c.bytes) ≤ c.place → c.high ≡ Some k → StandsIn told t c before after → IsParted told t k before after
+  pub stands_further : (c : Cursor) (k : Key) (before after : List Record) → length (records_of c.bytes) ≤ c.place → c.high ≡ Some k
+      → StandsIn told t c before after → IsParted told t k before after
   stands_further c k before after le is s =
       let p : IsParted told t k (s.first ++ records_of c.bytes) s.last =
       subst (λ o. MatchOption o (s.last ≡ []) (λ k. IsParted told t k (s.first ++ records_of c.bytes) s.last)) is s.further in

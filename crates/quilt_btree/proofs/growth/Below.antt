@@ -42,47 +42,6 @@ pub record IsBelow (told : Option (List (List ℕ))) (free : ℕ → Bool) (page
   pub here_apart : AreApart free at.here_used
   pub in_range : i < length inner.children
 
-pub go_below : (told : Option (List (List ℕ))) (free : ℕ → Bool) (page height : ℕ) (is_root : Bool) (b : Bounds) (k : Key) (rs : List Record)
-    (used : List ℕ) (inner : Inner) (i : ℕ)
-    → 1 ≤ height → height ≢ 1 → ReadsInner told page inner → IsPlace inner.keys k i → CanEdit told free page height is_root b rs used
-    → IsBelow told free page height is_root b k rs used inner i
-go_below told free page height is_root b k rs used inner i some ne reads p can =
-    let n = height_above height some ne in
-    let s = subst (λ m. Subtree can.pages m is_root (page, b) rs used) n.1 can.subtree in
-    let there = reads can.pages can.is_told in
-    let mine = s.page in
-    let same : s.inner ≡ inner = cc in
-    let list = inner_list (length can.pages) (slice_index_or can.pages page []) inner there in
-    let within = subst (λ (x : Inner). are_within b x.keys ≡ true) same s.within in
-    let row = subst (λ (x : Inner). Row (Subtree can.pages (suc n.0) false) (bounded x.children x.keys b) rs s.under) same s.children in
-    let down = leads_down can.pages n.0 inner (slice_index_or can.pages page []) b i k rs s.under list within p row in
-    let at = down.at in
-    let inside : (p : ℕ) → times p at.here_used ≤ times p used = λ p.
-    part (times p used) (times p s.under) (times p (page ∷ [])) (times p at.last_used) (times p at.here_used) (times p at.first_used)
-    (ap (times p) s.is_used ∙ times-append p s.under (page ∷ [])) (ap (times p) at.is_used ∙ times-three p at.last_used at.here_used at.first_used) in
-    record {
-      pages = can.pages;
-      is_told = can.is_told;
-      below = n.0;
-      is_height = n.1;
-      page_is = there;
-      list = list;
-      inner_height = subst (λ (x : Inner). x.height ≡ suc (suc n.0)) same s.is_height;
-      enough = subst (λ (x : Inner). (is_root || nat_le 127 (length x.children)) ≡ true) same s.enough;
-      within = within;
-      under = s.under;
-      is_used = s.is_used;
-      apart = subst (AreApart free) s.is_used can.apart;
-      at = at;
-      among = record { records = at.records; lower = down.lower; higher = down.higher };
-      child = one_row (Subtree can.pages (suc n.0) false) (slice_index inner.children i, child_bounds inner b i) at.here at.here_used at.row_here;
-      here_apart = apart_some free at.here_used used inside can.apart;
-      in_range = place_in inner k i p list.keys;
-    }
-  where
-    part : (u d g l h f : ℕ) → u ≡ d + g → d ≡ l + h + f → h ≤ u
-    part u d g l h f e q = omega arith
-
 -- the children before, at and behind the place
 pub cut_at_child : (inner : Inner) (b : Bounds) (i : ℕ) → i < length inner.children → length inner.children ≡ length inner.keys + 1
     → bounded inner.children inner.keys b ≡ front (take i inner.children) (take i inner.keys) b
@@ -124,7 +83,46 @@ pub child_below : (inner : Inner) (b : Bounds) (i : ℕ) (k : Key) → IsPlace i
 child_below inner b i k p h =
     head_below (drop i inner.keys) (from_keys (take i inner.keys) b) k p.behind (subst (λ o. is_below o k ≡ true) (sym (high_from (take i inner.keys) b)) h)
 
-pub edit_spells : (told : Option (List (List ℕ))) (free : ℕ → Bool) (page height : ℕ) (is_root : Bool) (b : Bounds) (rs : List Record)
-    (used : List ℕ) → CanEdit told free page height is_root b rs used → Spells told page height rs
-edit_spells told free page height is_root b rs used can =
-    record { pages = can.pages; is_told = can.is_told; is_root = is_root; bounds = b; used = used; subtree = can.subtree }
+module _ (told : Option (List (List ℕ))) (free : ℕ → Bool) (page height : ℕ) (is_root : Bool) (b : Bounds) where
+  pub go_below : (k : Key) (rs : List Record) (used : List ℕ) (inner : Inner) (i : ℕ) → 1 ≤ height → height ≢ 1 → ReadsInner told page inner
+      → IsPlace inner.keys k i → CanEdit told free page height is_root b rs used → IsBelow told free page height is_root b k rs used inner i
+  go_below k rs used inner i some ne reads p can =
+      let n = height_above height some ne in
+      let s = subst (λ m. Subtree can.pages m is_root (page, b) rs used) n.1 can.subtree in
+      let there = reads can.pages can.is_told in
+      let mine = s.page in
+      let same : s.inner ≡ inner = cc in
+      let list = inner_list (length can.pages) (slice_index_or can.pages page []) inner there in
+      let within = subst (λ (x : Inner). are_within b x.keys ≡ true) same s.within in
+      let row = subst (λ (x : Inner). Row (Subtree can.pages (suc n.0) false) (bounded x.children x.keys b) rs s.under) same s.children in
+      let down = leads_down can.pages n.0 inner (slice_index_or can.pages page []) b i k rs s.under list within p row in
+      let at = down.at in
+      let inside : (p : ℕ) → times p at.here_used ≤ times p used = λ p.
+      part (times p used) (times p s.under) (times p (page ∷ [])) (times p at.last_used) (times p at.here_used) (times p at.first_used)
+      (ap (times p) s.is_used ∙ times-append p s.under (page ∷ [])) (ap (times p) at.is_used ∙ times-three p at.last_used at.here_used at.first_used) in
+      record {
+        pages = can.pages;
+        is_told = can.is_told;
+        below = n.0;
+        is_height = n.1;
+        page_is = there;
+        list = list;
+        inner_height = subst (λ (x : Inner). x.height ≡ suc (suc n.0)) same s.is_height;
+        enough = subst (λ (x : Inner). (is_root || nat_le 127 (length x.children)) ≡ true) same s.enough;
+        within = within;
+        under = s.under;
+        is_used = s.is_used;
+        apart = subst (AreApart free) s.is_used can.apart;
+        at = at;
+        among = record { records = at.records; lower = down.lower; higher = down.higher };
+        child = one_row (Subtree can.pages (suc n.0) false) (slice_index inner.children i, child_bounds inner b i) at.here at.here_used at.row_here;
+        here_apart = apart_some free at.here_used used inside can.apart;
+        in_range = place_in inner k i p list.keys;
+      }
+    where
+      part : (u d g l h f : ℕ) → u ≡ d + g → d ≡ l + h + f → h ≤ u
+      part u d g l h f e q = omega arith
+
+  pub edit_spells : (rs : List Record) (used : List ℕ) → CanEdit told free page height is_root b rs used → Spells told page height rs
+  edit_spells rs used can =
+      record { pages = can.pages; is_told = can.is_told; is_root = is_root; bounds = b; used = used; subtree = can.subtree }

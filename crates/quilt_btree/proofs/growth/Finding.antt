@@ -56,7 +56,8 @@ pub finds_root : (told : Option (List (List ℕ))) (t : Tree) (k : Key) (b : Boo
     → IsTree told t rs → b ≡ list_any (has_key k) rs
 finds_root told t k b rs ne f is = f rs (tree_spells told t rs ne is).0
 
-pub finds_empty : (told : Option (List (List ℕ))) (t : Tree) (k : Key) (rs : List Record) → t.height ≡ 0 → IsTree told t rs → false ≡ list_any (has_key k) rs
+pub finds_empty : (told : Option (List (List ℕ))) (t : Tree) (k : Key) (rs : List Record) → t.height ≡ 0 → IsTree told t rs
+    → false ≡ list_any (has_key k) rs
 finds_empty told t k rs e is = sym (ap (list_any (has_key k)) (no_records told t rs e is))
 
 -- an insertion

@@ -80,17 +80,6 @@ sound_kept e told free size t k rs ne f few room w =
     let a = at_root told free t rs ne w in
     f true everywhere rs a.used (insert_can told free size t k rs room a) few
 
-pub kept_done : (r : Record) (told now_told : Option (List (List ℕ))) (free now : ℕ → Bool) (size : ℕ) (t : Tree) (rs : List Record) → t.height ≢ 0
-    → UnderRoot r told now_told free now size t inserted.Done
-    → t.height < count_free free size → HasItsPages told free t rs
-    → HasItsPages now_told now (record { root = t.root; height = t.height; records = t.records + 1 }) (put r rs)
-kept_done r told now_told free now size t rs ne f room w =
-    let a = at_root told free t rs ne w in
-    let did = f true everywhere rs a.used (insert_can told free size t r.key rs room a) in
-    let grown = did.done.1 in
-    kept_again did.pages did.news now_told free now t.root t.height (t.records + 1) a.used grown.uses (put r rs) did.is
-    (some_height t.height ne) grown.subtree grown.moves a.can.apart
-
 pub kept_split : (r : Record) (told mid_told now_told : Option (List (List ℕ))) (free mid now : ℕ → Bool) (size : ℕ) (t : Tree) (rs : List Record)
     (key : Key) (right new : ℕ) (bytes : List ℕ) (h : ℕ) → IsRooted size t → TellsAll told size → t.height ≡ suc h
     → UnderRoot r told mid_told free mid size t (inserted.Split key right) → IsNewRoot t mid_told now_told mid now size key right new bytes
@@ -106,32 +95,40 @@ kept_split r told mid_told now_told free mid now size t rs key right new bytes h
     kept_again did.pages grown.news now_told free now new (t.height + 1) (t.records + 1) a.used grown.uses
     (put r rs) grown.is some grown.subtree grown.moves a.can.apart
 
-pub kept_first : (r : Record) (told now_told : Option (List (List ℕ))) (free now : ℕ → Bool) (size : ℕ) (t : Tree) (rs : List Record) (new : ℕ)
-    (bytes : List ℕ) → TellsAll told size → t.height ≡ 0
-    → leaf_of bytes ≡ Some (r ∷ []) → (1 ≤ new) × (new < size) → free new ≡ true → FreesOnly new false free now
-    → Goes (λ old news. news ≡ slice_set old new bytes) told now_told
-    → HasItsPages told free t rs → HasItsPages now_told now (record { root = new; height = 1; records = 1 }) (put r rs)
-kept_first r told now_told free now size t rs new bytes many none leaf range was_free taken wrote w =
-    let no_rs : rs ≡ [] = no_records told t rs none w.tree in
-    let pages = w.tree.pages in
-    let written = tells_at (λ old news. news ≡ slice_set old new bytes) told now_told pages wrote w.tree.is_told in
-    let news = slice_set pages new bytes in
-    let inside = all_told told size new pages many w.tree.is_told range.1 in
-    let one : 1 ≤ 1 = omega arith in
-    let here : 1 ≤ times new (new ∷ []) = first (times new (new ∷ [])) (times_here new []) in
-    let moves = moves_then pages pages news free now now [] (new ∷ []) (new ∷ []) (moves_taken pages free now [] new was_free taken)
-    (moves_written pages now (new ∷ []) new bytes (used_account now (new ∷ []) new here)) in
-    kept_again pages news now_told free now new 1 1 [] (new ∷ []) (put r rs) (written.1 ∙ ap Some written.2) one
-    (subst (λ l. Subtree news 1 true (new, everywhere) (put r l) (new ∷ [])) (sym no_rs)
-    (record { page = ap leaf_of (get_or-set_same pages new bytes [] inside) ∙ leaf; enough = refl; within = refl; is_used = refl }))
-    moves (λ p. none_used (free p))
-  where
-    none_used : (b : Bool) → cond {A = ℕ} b 1 0 + 0 ≤ 1
-    none_used true = omega arith
-    none_used false = omega arith
+module _ (r : Record) (told now_told : Option (List (List ℕ))) (free now : ℕ → Bool) (size : ℕ) (t : Tree) (rs : List Record) where
+  pub kept_done : t.height ≢ 0 → UnderRoot r told now_told free now size t inserted.Done → t.height < count_free free size
+      → HasItsPages told free t rs → HasItsPages now_told now (record { root = t.root; height = t.height; records = t.records + 1 }) (put r rs)
+  kept_done ne f room w =
+      let a = at_root told free t rs ne w in
+      let did = f true everywhere rs a.used (insert_can told free size t r.key rs room a) in
+      let grown = did.done.1 in
+      kept_again did.pages did.news now_told free now t.root t.height (t.records + 1) a.used grown.uses (put r rs) did.is
+      (some_height t.height ne) grown.subtree grown.moves a.can.apart
 
-    first : (t : ℕ) → t ≡ 1 + 0 → 1 ≤ t
-    first t e = omega arith
+  pub kept_first : (new : ℕ) (bytes : List ℕ) → TellsAll told size → t.height ≡ 0 → leaf_of bytes ≡ Some (r ∷ []) → (1 ≤ new) × (new < size)
+      → free new ≡ true → FreesOnly new false free now → Goes (λ old news. news ≡ slice_set old new bytes) told now_told → HasItsPages told free t rs
+      → HasItsPages now_told now (record { root = new; height = 1; records = 1 }) (put r rs)
+  kept_first new bytes many none leaf range was_free taken wrote w =
+      let no_rs : rs ≡ [] = no_records told t rs none w.tree in
+      let pages = w.tree.pages in
+      let written = tells_at (λ old news. news ≡ slice_set old new bytes) told now_told pages wrote w.tree.is_told in
+      let news = slice_set pages new bytes in
+      let inside = all_told told size new pages many w.tree.is_told range.1 in
+      let one : 1 ≤ 1 = omega arith in
+      let here : 1 ≤ times new (new ∷ []) = first (times new (new ∷ [])) (times_here new []) in
+      let moves = moves_then pages pages news free now now [] (new ∷ []) (new ∷ []) (moves_taken pages free now [] new was_free taken)
+      (moves_written pages now (new ∷ []) new bytes (used_account now (new ∷ []) new here)) in
+      kept_again pages news now_told free now new 1 1 [] (new ∷ []) (put r rs) (written.1 ∙ ap Some written.2) one
+      (subst (λ l. Subtree news 1 true (new, everywhere) (put r l) (new ∷ [])) (sym no_rs)
+      (record { page = ap leaf_of (get_or-set_same pages new bytes [] inside) ∙ leaf; enough = refl; within = refl; is_used = refl }))
+      moves (λ p. none_used (free p))
+    where
+      none_used : (b : Bool) → cond {A = ℕ} b 1 0 + 0 ≤ 1
+      none_used true = omega arith
+      none_used false = omega arith
+
+      first : (t : ℕ) → t ≡ 1 + 0 → 1 ≤ t
+      first t e = omega arith
 
 pub room_left : (free now : ℕ → Bool) (size mid_size height : ℕ) → mid_size ≡ size → count_free free size ≤ count_free now size + height
     → height < count_free free size → 0 < count_free now mid_size
@@ -180,24 +177,29 @@ out_none k told free t rs e w =
     subst (λ l. HasItsPages told free t l) (none ∙ sym (without_none k) ∙ ap (without k) (sym none)) w
 
 module _ (k : Key) (told now_told : Option (List (List ℕ))) (free now : ℕ → Bool) (t : Tree) (rs : List Record) where
-  pub out_missing : t.height ≢ 0 → removals.UnderRoot k told now_told free now t removed.Missing → now_told ≡ told → now ≡ free → HasItsPages told free t rs → HasItsPages now_told now t (without k rs)
+  pub out_missing : t.height ≢ 0 → removals.UnderRoot k told now_told free now t removed.Missing → now_told ≡ told → now ≡ free
+      → HasItsPages told free t rs → HasItsPages now_told now t (without k rs)
   out_missing ne f same same_free w =
       let a = at_root told free t rs ne w in
       let none = f true everywhere rs a.used a.can in
       subst (λ l. HasItsPages now_told now t l) (sym (without_missing k rs none)) (same_tree told now_told free now t rs same same_free w)
 
-  became : (a : AtRoot told free t rs) (pages news : List (List ℕ)) → t.height ≢ 0 → now_told ≡ Some news → Becomes pages news free now t.root t.height true everywhere a.used (without k rs) → HasItsPages now_told now (record { root = t.root; height = t.height; records = t.records - 1 }) (without k rs)
+  became : (a : AtRoot told free t rs) (pages news : List (List ℕ)) → t.height ≢ 0 → now_told ≡ Some news
+      → Becomes pages news free now t.root t.height true everywhere a.used (without k rs)
+      → HasItsPages now_told now (record { root = t.root; height = t.height; records = t.records - 1 }) (without k rs)
   became a pages news ne is b =
       kept_again pages news now_told free now t.root t.height (t.records - 1) a.used b.uses (without k rs) is
       (some_height t.height ne) b.subtree b.moves a.can.apart
 
-  pub out_done : t.height ≢ 0 → removals.UnderRoot k told now_told free now t removed.Done → HasItsPages told free t rs → HasItsPages now_told now (record { root = t.root; height = t.height; records = t.records - 1 }) (without k rs)
+  pub out_done : t.height ≢ 0 → removals.UnderRoot k told now_told free now t removed.Done → HasItsPages told free t rs
+      → HasItsPages now_told now (record { root = t.root; height = t.height; records = t.records - 1 }) (without k rs)
   out_done ne f w =
       let a = at_root told free t rs ne w in
       let did = f true everywhere rs a.used a.can in
       became a did.1.pages did.1.news ne did.1.is did.1.left
 
-  pub out_underfull : t.height ≢ 0 → removals.UnderRoot k told now_told free now t removed.Underfull → HasItsPages told free t rs → HasItsPages now_told now (record { root = t.root; height = t.height; records = t.records - 1 }) (without k rs)
+  pub out_underfull : t.height ≢ 0 → removals.UnderRoot k told now_told free now t removed.Underfull → HasItsPages told free t rs
+      → HasItsPages now_told now (record { root = t.root; height = t.height; records = t.records - 1 }) (without k rs)
   out_underfull ne f w =
       let a = at_root told free t rs ne w in
       let did = f true everywhere rs a.used a.can in
@@ -205,7 +207,9 @@ module _ (k : Key) (told now_told : Option (List (List ℕ))) (free now : ℕ �
       became a did.1.pages did.1.news ne did.1.is left.1
 
 module _ (k : Key) (told mid now_told : Option (List (List ℕ))) (free between now : ℕ → Bool) where
-  pub out_emptied : (t : Tree) (rs : List Record) → t.height ≢ 0 → removals.UnderRoot k told mid free between t removed.Emptied → Goes (HasGiven t.root) mid now_told → HasItsPages told free t rs → HasItsPages now_told now (record { root = 0; height = 0; records = t.records - 1 }) (without k rs)
+  pub out_emptied : (t : Tree) (rs : List Record) → t.height ≢ 0 → removals.UnderRoot k told mid free between t removed.Emptied
+      → Goes (HasGiven t.root) mid now_told → HasItsPages told free t rs
+      → HasItsPages now_told now (record { root = 0; height = 0; records = t.records - 1 }) (without k rs)
   out_emptied t rs ne f tells w =
       let a = at_root told free t rs ne w in
       let did = f true everywhere rs a.used a.can in
@@ -220,7 +224,9 @@ module _ (k : Key) (told mid now_told : Option (List (List ℕ))) (free between 
       none_used true = omega arith
       none_used false = omega arith
 
-  pub out_only : (child : ℕ) (t : Tree) (rs : List Record) → t.height ≢ 0 → removals.UnderRoot k told mid free between t (removed.Only child) → Goes (HasGiven t.root) mid now_told → FreesOnly t.root true between now → HasItsPages told free t rs → HasItsPages now_told now (record { root = child; height = t.height - 1; records = t.records - 1 }) (without k rs)
+  pub out_only : (child : ℕ) (t : Tree) (rs : List Record) → t.height ≢ 0 → removals.UnderRoot k told mid free between t (removed.Only child)
+      → Goes (HasGiven t.root) mid now_told → FreesOnly t.root true between now → HasItsPages told free t rs
+      → HasItsPages now_told now (record { root = child; height = t.height - 1; records = t.records - 1 }) (without k rs)
   out_only child t rs ne f tells frees w =
       let a = at_root told free t rs ne w in
       let did = f true everywhere rs a.used a.can in
@@ -230,7 +236,8 @@ module _ (k : Key) (told mid now_told : Option (List (List ℕ))) (free between 
       kept_again did.1.pages grown.news now_told free now child (t.height - 1) (t.records - 1) a.used grown.uses (without k rs) grown.is
       (removals.tall_above did.1.news t.height child (without k rs) only.below only.uses only.is_height only.subtree) grown.subtree grown.moves a.can.apart
 
-pub out_shrunk : (r : Result Bool Stop) (k : Key) (told now_told : Option (List (List ℕ))) (free now : ℕ → Bool) (t new less : Tree) → OnOk r (new ≡ less)
+pub out_shrunk : (r : Result Bool Stop) (k : Key) (told now_told : Option (List (List ℕ))) (free now : ℕ → Bool) (t new less : Tree)
+    → OnOk r (new ≡ less)
     → ((rs : List Record) → HasItsPages told free t rs → HasItsPages now_told now less (without k rs))
     → IfOk r (λ o. (rs : List Record) → HasItsPages told free t rs → HasItsPages now_told now new (without k rs))
 out_shrunk (Err e) k told now_told free now t new less is f = is
@@ -244,21 +251,24 @@ exact told free t rs k a number h =
     without_one_fewer k rs rises.ascends h ∙ number
 
 module _ (k : Key) (told now_told : Option (List (List ℕ))) (free now : ℕ → Bool) where
-  pub two_done : (t : Tree) (rs : List Record) → t.height ≢ 0 → removals.UnderRoot k told now_told free now t removed.Done → length rs ≡ t.records → HasItsPages told free t rs → 2 ≤ t.records
+  pub two_done : (t : Tree) (rs : List Record) → t.height ≢ 0 → removals.UnderRoot k told now_told free now t removed.Done → length rs ≡ t.records
+      → HasItsPages told free t rs → 2 ≤ t.records
   two_done t rs ne f number w =
       let a = at_root told free t rs ne w in
       let did = f true everywhere rs a.used a.can in
       removals.two_left did.1.news t.height true (t.root, everywhere) (without k rs) did.1.left.uses t.records did.1.left.subtree
       (exact told free t rs k a number did.0)
 
-  pub two_underfull : (t : Tree) (rs : List Record) → t.height ≢ 0 → removals.UnderRoot k told now_told free now t removed.Underfull → length rs ≡ t.records → HasItsPages told free t rs → 2 ≤ t.records
+  pub two_underfull : (t : Tree) (rs : List Record) → t.height ≢ 0 → removals.UnderRoot k told now_told free now t removed.Underfull
+      → length rs ≡ t.records → HasItsPages told free t rs → 2 ≤ t.records
   two_underfull t rs ne f number w =
       let a = at_root told free t rs ne w in
       let did = f true everywhere rs a.used a.can in
       let left = did.1.left in
       removals.two_left did.1.news t.height true (t.root, everywhere) (without k rs) left.1.uses t.records left.1.subtree (exact told free t rs k a number did.0)
 
-  pub one_empty : (t : Tree) (rs : List Record) → t.height ≢ 0 → removals.UnderRoot k told now_told free now t removed.Emptied → length rs ≡ t.records → HasItsPages told free t rs → (now t.root ≡ false) × (t.records ≡ 1)
+  pub one_empty : (t : Tree) (rs : List Record) → t.height ≢ 0 → removals.UnderRoot k told now_told free now t removed.Emptied → length rs ≡ t.records
+      → HasItsPages told free t rs → (now t.root ≡ false) × (t.records ≡ 1)
   one_empty t rs ne f number w =
       let a = at_root told free t rs ne w in
       let did = f true everywhere rs a.used a.can in
@@ -268,7 +278,8 @@ module _ (k : Key) (told now_told : Option (List (List ℕ))) (free now : ℕ �
         sym (exact told free t rs k a number did.0) ∙ ap (λ l. suc (length l)) left.none,
       )
 
-  pub two_only : (child : ℕ) (t : Tree) (rs : List Record) → t.height ≢ 0 → removals.UnderRoot k told now_told free now t (removed.Only child) → length rs ≡ t.records → HasItsPages told free t rs → (now t.root ≡ false) × (2 ≤ t.records) × (1 ≤ t.height - 1)
+  pub two_only : (child : ℕ) (t : Tree) (rs : List Record) → t.height ≢ 0 → removals.UnderRoot k told now_told free now t (removed.Only child)
+      → length rs ≡ t.records → HasItsPages told free t rs → (now t.root ≡ false) × (2 ≤ t.records) × (1 ≤ t.height - 1)
   two_only child t rs ne f number w =
       let a = at_root told free t rs ne w in
       let did = f true everywhere rs a.used a.can in

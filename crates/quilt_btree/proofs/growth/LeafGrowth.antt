@@ -45,7 +45,8 @@ keys_drop p [] (suc i) h = refl
 keys_drop p (s ∷ rs) (suc i) h = keys_drop p rs i h
 
 -- a record at its gap keeps the order
-pub gap_ascends : (r : Record) (rs : List Record) (i : ℕ) → is_ascending (keys_of rs) ≡ true → IsGap r.key rs i → is_ascending (keys_of (insert rs i r)) ≡ true
+pub gap_ascends : (r : Record) (rs : List Record) (i : ℕ) → is_ascending (keys_of rs) ≡ true → IsGap r.key rs i
+    → is_ascending (keys_of (insert rs i r)) ≡ true
 gap_ascends r rs i a g =
     subst (λ l. is_ascending l ≡ true) (sym (keys_insert rs i r))
     (ascending_insert r.key (keys_of rs) i a (keys_take (λ l. is_lt (key_cmp l r.key)) rs i g.before) (keys_drop (λ l. is_lt (key_cmp r.key l)) rs i g.behind))
@@ -223,12 +224,14 @@ leaf_there told now_told free now size page i r leaf is_root b rs used t same fo
 
 module _ (told : Option (List (List ℕ))) (free : ℕ → Bool) (size page : ℕ) (k : Key) where
   -- a leaf that was read is the one that the subtree has
-  pub leaf_read : (leaf : List Record) (is_root : Bool) (b : Bounds) (rs : List Record) (used : List ℕ) → ReadsLeaf told page leaf → CanInsert told free size page 1 is_root b k rs used → leaf ≡ rs
+  pub leaf_read : (leaf : List Record) (is_root : Bool) (b : Bounds) (rs : List Record) (used : List ℕ) → ReadsLeaf told page leaf
+      → CanInsert told free size page 1 is_root b k rs used → leaf ≡ rs
   leaf_read leaf is_root b rs used reads can =
       let there = reads can.can_edit.pages can.can_edit.is_told in
       let mine = can.can_edit.subtree.page in
       cc
 
-  pub leaf_can_spell : (is_root : Bool) (b : Bounds) (rs : List Record) (used : List ℕ) → CanInsert told free size page 1 is_root b k rs used → Spells told page 1 rs
+  pub leaf_can_spell : (is_root : Bool) (b : Bounds) (rs : List Record) (used : List ℕ) → CanInsert told free size page 1 is_root b k rs used
+      → Spells told page 1 rs
   leaf_can_spell is_root b rs used can =
       record { pages = can.can_edit.pages; is_told = can.can_edit.is_told; is_root = is_root; bounds = b; used = used; subtree = can.can_edit.subtree }

@@ -80,29 +80,6 @@ at_most_one free used size inside once balance p = by_case (free p) refl
     by_case true e = let range = inside p e in same (account free used p) (balance p range.0 range.1)
     by_case false e = nothing (cond {A = ℕ} (free p) 1 0) (times p used) (ap (λ b. cond {A = ℕ} b 1 0) e) (once p)
 
-pub whole_from : (told : Option (List (List ℕ))) (free : ℕ → Bool) (size : ℕ) (t : Tree) (rs : List Record) → IsRooted size t → 1 ≤ t.height
-    → 16 ≤ size → FreeIn free size → IsWhole told free size t rs → IsWholeFrom told free size t.root t.height rs
-whole_from told free size t rs rooted some least inside w =
-    let found = root_found w.tree.pages t.root t.height rs w.tree.visited some w.tree.walk in
-    let same : w.tree.visited ≡ found.used = found.is_now ∙ append-nil found.used in
-    let balance : (p : ℕ) → 1 ≤ p → p < size → account free found.used p ≡ 1 = λ p low high. subst (λ u. account free u p ≡ 1) same (w.balance p low high) in
-    let dense = root_is_dense w.tree.pages t.height (t.root, everywhere) rs found.used rooted.height found.spells in
-    let few : length rs ≤ quota size = subst (λ n. n ≤ quota size) (sym w.number) rooted.records in
-    let one : 1 ≤ size = omega arith in
-    record {
-      pages = w.tree.pages;
-      is_told = w.tree.is_told;
-      used = found.used;
-      subtree = found.spells;
-      balance = balance;
-      apart = at_most_one free found.used size inside (once_from_fresh found.used found.fresh) balance;
-      left = enough size (count_free free size) (length found.used) (count_left free found.used size one balance)
-          (pages_left size (length found.used) (length rs) least few dense);
-    }
-  where
-    enough : (s c u : ℕ) → s ≤ c + u + 1 → u + 6 < s → 6 ≤ c
-    enough s c u e f = omega arith
-
 -- a subtree whose pages are apart is a tree
 unfoldable pub tree_again : (news : List (List ℕ)) (now_told : Option (List (List ℕ))) (now : ℕ → Bool) (root height records : ℕ)
     (uses : List ℕ) (all : List Record)
@@ -131,17 +108,41 @@ whole_again pages news now_told free now size root height records used uses all 
   balance = λ p low high. ap (λ u. account now u p) (append-nil uses) ∙ m.balance p ∙ balance p low high;
 }
 
-pub whole_can : (told : Option (List (List ℕ))) (free : ℕ → Bool) (size root height : ℕ) (k : Key) (rs : List Record) → height ≤ 3
-    → (x : IsWholeFrom told free size root height rs) → CanInsert told free size root height true everywhere k rs x.used
-whole_can told free size root height k rs low x = record {
-  can_edit = record { pages = x.pages; is_told = x.is_told; subtree = x.subtree; apart = x.apart };
-  low = refl;
-  high = refl;
-  room = enough height (count_free free size) low x.left;
-}
-  where
-    enough : (h c : ℕ) → h ≤ 3 → 6 ≤ c → h ≤ c
-    enough h c e f = omega arith
+module _ (told : Option (List (List ℕ))) (free : ℕ → Bool) (size : ℕ) where
+  pub whole_from : (t : Tree) (rs : List Record) → IsRooted size t → 1 ≤ t.height → 16 ≤ size → FreeIn free size → IsWhole told free size t rs
+      → IsWholeFrom told free size t.root t.height rs
+  whole_from t rs rooted some least inside w =
+      let found = root_found w.tree.pages t.root t.height rs w.tree.visited some w.tree.walk in
+      let same : w.tree.visited ≡ found.used = found.is_now ∙ append-nil found.used in
+      let balance : (p : ℕ) → 1 ≤ p → p < size → account free found.used p ≡ 1 = λ p low high. subst (λ u. account free u p ≡ 1) same (w.balance p low high) in
+      let dense = root_is_dense w.tree.pages t.height (t.root, everywhere) rs found.used rooted.height found.spells in
+      let few : length rs ≤ quota size = subst (λ n. n ≤ quota size) (sym w.number) rooted.records in
+      let one : 1 ≤ size = omega arith in
+      record {
+        pages = w.tree.pages;
+        is_told = w.tree.is_told;
+        used = found.used;
+        subtree = found.spells;
+        balance = balance;
+        apart = at_most_one free found.used size inside (once_from_fresh found.used found.fresh) balance;
+        left = enough size (count_free free size) (length found.used) (count_left free found.used size one balance)
+            (pages_left size (length found.used) (length rs) least few dense);
+      }
+    where
+      enough : (s c u : ℕ) → s ≤ c + u + 1 → u + 6 < s → 6 ≤ c
+      enough s c u e f = omega arith
+
+  pub whole_can : (root height : ℕ) (k : Key) (rs : List Record) → height ≤ 3 → (x : IsWholeFrom told free size root height rs)
+      → CanInsert told free size root height true everywhere k rs x.used
+  whole_can root height k rs low x = record {
+    can_edit = record { pages = x.pages; is_told = x.is_told; subtree = x.subtree; apart = x.apart };
+    low = refl;
+    high = refl;
+    room = enough height (count_free free size) low x.left;
+  }
+    where
+      enough : (h c : ℕ) → h ≤ 3 → 6 ≤ c → h ≤ c
+      enough h c e f = omega arith
 
 put_step : (r s : Record) (rs : List Record) (b : Bool) → length (put r rs) ≡ suc (length rs)
     → length (if b then r ∷ s ∷ rs else s ∷ put r rs) ≡ suc (suc (length rs))
@@ -193,13 +194,18 @@ sound_root e told free size t k rs i ne f w =
     f true everywhere rs x.used (whole_can told free size t.root t.height k rs i.rooted.height x) (few_records size t.records rs w.number i.room i.most)
 
 module _ (r : Record) (told now_told : Option (List (List ℕ))) (free now : ℕ → Bool) (size : ℕ) where
-  pub whole_there : (t : Tree) (rs : List Record) → IsInserting told free size t → t.height ≢ 0 → UnderRoot r told now_told free now size t inserted.There → now_told ≡ told → now ≡ free → IsWhole told free size t rs → (false ≡ not (list_any (has_key r.key) rs)) × IsWhole now_told now size t rs
+  pub whole_there : (t : Tree) (rs : List Record) → IsInserting told free size t → t.height ≢ 0
+      → UnderRoot r told now_told free now size t inserted.There → now_told ≡ told → now ≡ free → IsWhole told free size t rs
+      → (false ≡ not (list_any (has_key r.key) rs)) × IsWhole now_told now size t rs
   whole_there t rs i ne f same same_free w =
       let x = insert_from told free size t rs i ne w in
       let did = f true everywhere rs x.used (whole_can told free size t.root t.height r.key rs i.rooted.height x) in
       (sym (ap not did.done), subst (λ o. IsWhole o now size t rs) (sym same) (subst (λ g. IsWhole told g size t rs) (sym same_free) w))
 
-  pub whole_done : (t : Tree) (rs : List Record) → IsInserting told free size t → t.height ≢ 0 → UnderRoot r told now_told free now size t inserted.Done → IsWhole told free size t rs → (true ≡ not (list_any (has_key r.key) rs)) × IsWhole now_told now size (record { root = t.root; height = t.height; records = t.records + 1 }) (put r rs)
+  pub whole_done : (t : Tree) (rs : List Record) → IsInserting told free size t → t.height ≢ 0
+      → UnderRoot r told now_told free now size t inserted.Done → IsWhole told free size t rs
+      → (true ≡ not (list_any (has_key r.key) rs)) × IsWhole now_told now size (record { root = t.root; height = t.height; records = t.records + 1 })
+      (put r rs)
   whole_done t rs i ne f w =
       let x = insert_from told free size t rs i ne w in
       let did = f true everywhere rs x.used (whole_can told free size t.root t.height r.key rs i.rooted.height x) in
@@ -210,7 +216,8 @@ module _ (r : Record) (told now_told : Option (List (List ℕ))) (free now : ℕ
       )
 
   -- a root of the greatest height is not split within the quota
-  pub not_split : (t : Tree) (rs : List Record) (key : Key) (right : ℕ) → IsInserting told free size t → t.height ≡ 3 → UnderRoot r told now_told free now size t (inserted.Split key right) → IsWhole told free size t rs → ⊥
+  pub not_split : (t : Tree) (rs : List Record) (key : Key) (right : ℕ) → IsInserting told free size t → t.height ≡ 3
+      → UnderRoot r told now_told free now size t (inserted.Split key right) → IsWhole told free size t rs → ⊥
   not_split t rs key right i tall f w =
       let ne : t.height ≢ 0 = omega arith in
       let x = insert_from told free size t rs i ne w in
@@ -227,7 +234,8 @@ module _ (r : Record) (told now_told : Option (List (List ℕ))) (free now : ℕ
       too_many n p a b m e f g h few most = omega arith
 
   -- a page is left for a new root
-  pub root_room : (mid_size : ℕ) (t : Tree) (rs : List Record) → IsInserting told free size t → t.height ≢ 0 → mid_size ≡ size → count_free free size ≤ count_free now size + t.height → IsWhole told free size t rs → 0 < count_free now mid_size
+  pub root_room : (mid_size : ℕ) (t : Tree) (rs : List Record) → IsInserting told free size t → t.height ≢ 0 → mid_size ≡ size
+      → count_free free size ≤ count_free now size + t.height → IsWhole told free size t rs → 0 < count_free now mid_size
   root_room mid_size t rs i ne same few w =
       let x = insert_from told free size t rs i ne w in
       subst (λ n. 0 < count_free now n) (sym same) (left (count_free free size) (count_free now size) t.height few x.left i.rooted.height)

@@ -48,13 +48,17 @@ pub record LeadsToChild (told then_told : Option (List (List ℕ))) (free then_f
 one_less : (height below : ℕ) → height ≡ suc (suc below) → height - 1 ≡ suc below
 one_less height below e = omega arith
 
-module _ (told then_told : Option (List (List ℕ))) (free then_free : ℕ → Bool) (size then_size page height child i : ℕ) (k : Key) (inner : Inner) (is_root : Bool) (b : Bounds) (rs : List Record) (used : List ℕ) (l : LeadsToChild told then_told free then_free size then_size page height child i k inner) (can : CanInsert told free size page height is_root b k rs used) where
+module _ (told then_told : Option (List (List ℕ))) (free then_free : ℕ → Bool) (size then_size page height child i : ℕ) (k : Key) (inner : Inner)
+    (is_root : Bool) (b : Bounds) (rs : List Record) (used : List ℕ)
+    (l : LeadsToChild told then_told free then_free size then_size page height child i k inner)
+    (can : CanInsert told free size page height is_root b k rs used) where
   -- what is around that child
   pub insert_below : IsBelow told free page height is_root b k rs used inner i
   insert_below =
       go_below told free page height is_root b k rs used inner i l.some l.above l.reads l.place can.can_edit
 
-  pub child_can : (x : IsBelow told free page height is_root b k rs used inner i) → CanInsert then_told then_free then_size child (height - 1) false (child_bounds inner b i) k x.at.here x.at.here_used
+  pub child_can : (x : IsBelow told free page height is_root b k rs used inner i)
+      → CanInsert then_told then_free then_size child (height - 1) false (child_bounds inner b i) k x.at.here x.at.here_used
   child_can x =
       can_along told then_told free then_free size then_size child (height - 1) false (child_bounds inner b i) k x.at.here x.at.here_used l.same (record {
         can_edit = record {
@@ -80,8 +84,12 @@ pub record ChildDid (r : Record) (pages : List (List ℕ)) (now_told : Option (L
   pub is : now_told ≡ Some news
   pub done : HasInserted r pages news free now child height false b rs used o
 
-module _ (r : Record) (told then_told now_told : Option (List (List ℕ))) (free then_free now : ℕ → Bool) (size then_size page height child i : ℕ) (inner : Inner) (is_root : Bool) (b : Bounds) (rs : List Record) (used : List ℕ) where
-  child_did : (o : Inserted) → LeadsToChild told then_told free then_free size then_size page height child i r.key inner → (can : CanInsert told free size page height is_root b r.key rs used) (x : IsBelow told free page height is_root b r.key rs used inner i) → ((is_root : Bool) (b : Bounds) (rs : List Record) (used : List ℕ) → CanInsert then_told then_free then_size child (height - 1) is_root b r.key rs used → DidInsert r then_told now_told then_free now child (height - 1) is_root b rs used o) → ChildDid r x.pages now_told free now (slice_index inner.children i) (suc x.below) (child_bounds inner b i) x.at.here x.at.here_used o
+module _ (r : Record) (told then_told now_told : Option (List (List ℕ))) (free then_free now : ℕ → Bool) (size then_size page height child i : ℕ)
+    (inner : Inner) (is_root : Bool) (b : Bounds) (rs : List Record) (used : List ℕ) where
+  child_did : (o : Inserted) → LeadsToChild told then_told free then_free size then_size page height child i r.key inner
+      → (can : CanInsert told free size page height is_root b r.key rs used) (x : IsBelow told free page height is_root b r.key rs used inner i)
+      → ((is_root : Bool) (b : Bounds) (rs : List Record) (used : List ℕ) → CanInsert then_told then_free then_size child (height - 1) is_root b r.key rs used → DidInsert r then_told now_told then_free now child (height - 1) is_root b rs used o)
+      → ChildDid r x.pages now_told free now (slice_index inner.children i) (suc x.below) (child_bounds inner b i) x.at.here x.at.here_used o
   child_did o l can x f =
       let did = did_along r told then_told now_told free then_free now size then_size child (height - 1) false
       (child_bounds inner b i) x.at.here x.at.here_used o l.same
@@ -102,14 +110,18 @@ module _ (r : Record) (told then_told now_told : Option (List (List ℕ))) (free
       }
 
   -- the key was there
-  pub under_there : LeadsToChild told then_told free then_free size then_size page height child i r.key inner → ((is_root : Bool) (b : Bounds) (rs : List Record) (used : List ℕ) → CanInsert then_told then_free then_size child (height - 1) is_root b r.key rs used → DidInsert r then_told now_told then_free now child (height - 1) is_root b rs used inserted.There) → CanInsert told free size page height is_root b r.key rs used → DidInsert r told now_told free now page height is_root b rs used inserted.There
+  pub under_there : LeadsToChild told then_told free then_free size then_size page height child i r.key inner
+      → ((is_root : Bool) (b : Bounds) (rs : List Record) (used : List ℕ) → CanInsert then_told then_free then_size child (height - 1) is_root b r.key rs used → DidInsert r then_told now_told then_free now child (height - 1) is_root b rs used inserted.There)
+      → CanInsert told free size page height is_root b r.key rs used → DidInsert r told now_told free now page height is_root b rs used inserted.There
   under_there l f can =
       let x = insert_below told then_told free then_free size then_size page height child i r.key inner is_root b rs used l can in
       let did = child_did inserted.There l can x f in
       record { pages = x.pages; news = did.news; was = x.is_told; is = did.is; done = any_between r.key x.at.first x.at.here x.at.last rs x.among ∙ did.done }
 
   -- the child took the record
-  pub under_done : LeadsToChild told then_told free then_free size then_size page height child i r.key inner → ((is_root : Bool) (b : Bounds) (rs : List Record) (used : List ℕ) → CanInsert then_told then_free then_size child (height - 1) is_root b r.key rs used → DidInsert r then_told now_told then_free now child (height - 1) is_root b rs used inserted.Done) → CanInsert told free size page height is_root b r.key rs used → DidInsert r told now_told free now page height is_root b rs used inserted.Done
+  pub under_done : LeadsToChild told then_told free then_free size then_size page height child i r.key inner
+      → ((is_root : Bool) (b : Bounds) (rs : List Record) (used : List ℕ) → CanInsert then_told then_free then_size child (height - 1) is_root b r.key rs used → DidInsert r then_told now_told then_free now child (height - 1) is_root b rs used inserted.Done)
+      → CanInsert told free size page height is_root b r.key rs used → DidInsert r told now_told free now page height is_root b rs used inserted.Done
   under_done l f can =
       let x = insert_below told then_told free then_free size then_size page height child i r.key inner is_root b rs used l can in
       let did = child_did inserted.Done l can x f in
@@ -142,7 +154,8 @@ module _ (r : Record) (told then_told now_told : Option (List (List ℕ))) (free
 page_test : (right size n : ℕ) → 1 ≤ right → right < size → n ≡ size → (nat_le 1 right && nat_lt right n) ≡ true
 page_test right size n low high e = grind (arith, nat_tests)
 
-pages_with : (n : ℕ) (cs : List ℕ) (i right : ℕ) → are_pages n cs ≡ true → (nat_le 1 right && nat_lt right n) ≡ true → are_pages n (insert cs i right) ≡ true
+pages_with : (n : ℕ) (cs : List ℕ) (i right : ℕ) → are_pages n cs ≡ true → (nat_le 1 right && nat_lt right n) ≡ true
+    → are_pages n (insert cs i right) ≡ true
 pages_with n cs i right h g =
     all_append (λ c. nat_le 1 c && nat_lt c n) (take i cs) (right ∷ drop i cs) (all_take (λ c. nat_le 1 c && nat_lt c n) cs i h)
     (and_both (nat_le 1 right && nat_lt right n) (are_pages n (drop i cs)) g (all_drop (λ c. nat_le 1 c && nat_lt c n) cs i h))
@@ -293,7 +306,8 @@ took_child (Ok o) r told then_told mid_told now_told free then_free mid now size
     }
 
 -- a page of height 3 has a place for another child
-few_under : (told : Option (List (List ℕ))) (free : ℕ → Bool) (size page height : ℕ) (is_root : Bool) (b : Bounds) (k : Key) (rs : List Record) (used : List ℕ)
+few_under : (told : Option (List (List ℕ))) (free : ℕ → Bool) (size page height : ℕ) (is_root : Bool) (b : Bounds) (k : Key) (rs : List Record)
+    (used : List ℕ)
     (inner : Inner) → ReadsInner told page inner → CanInsert told free size page height is_root b k rs used → AreFew rs → height ≡ 3 → length inner.children < 254
 few_under told free size page height is_root b k rs used inner reads can few three =
     let e = can.can_edit in

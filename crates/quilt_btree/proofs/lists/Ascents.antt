@@ -52,7 +52,8 @@ leaves_test l (z ∷ r) x y i n h g a b =
     ∙ ap (λ (t : Record). is_lt (key_cmp x.key t.key)) same)
 
 -- keys of two inner pages with one between
-pub inners_test : (l r : List Key) (k x y : Key) → slice_get l (length l - 1) ≡ Some x → slice_get r 0 ≡ Some y → is_ascending l ≡ true → is_ascending r ≡ true
+pub inners_test : (l r : List Key) (k x y : Key) → slice_get l (length l - 1) ≡ Some x → slice_get r 0 ≡ Some y → is_ascending l ≡ true
+    → is_ascending r ≡ true
     → is_ascending (l ++ k ∷ r) ≡ (is_lt (key_cmp x k) && is_lt (key_cmp k y))
 inners_test l [] k x y h g a b = cc
 inners_test l (z ∷ r) k x y h g a b =
@@ -130,7 +131,8 @@ pub fits_last : (ks : List Key) (i : ℕ) (k : Key) → i < length ks → is_asc
 fits_last ks i k lt asc f e = fits_from ks i k lt asc true true (past_first ks i k f) (ap (is_before_all k) (no_more ks (suc i) e))
 
 module _ (ks : List Key) (i : ℕ) (k : Key) where
-  pub known_past : (l : Key) → slice_get ks (i - 1) ≡ Some l → is_lt (key_cmp l k) ≡ true → (m : Key) → 0 < i → slice_get ks (i - 1) ≡ Some m → is_lt (key_cmp m k) ≡ true
+  pub known_past : (l : Key) → slice_get ks (i - 1) ≡ Some l → is_lt (key_cmp l k) ≡ true → (m : Key) → 0 < i → slice_get ks (i - 1) ≡ Some m
+      → is_lt (key_cmp m k) ≡ true
   known_past l h g m some e = let same : l ≡ m = some_same l m (sym h ∙ e) in subst (λ n. is_lt (key_cmp n k) ≡ true) same g
     where
       some_same : (a b : Key) → Some a ≡ Some b → a ≡ b

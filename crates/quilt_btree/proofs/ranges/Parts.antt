@@ -41,13 +41,15 @@ part_at : (rs : List Record) (first last i : ℕ) (r : Record) → first ≤ i �
 part_at rs first last i r le lt h = get_take (drop first rs) (last - first) (i - first) r (omega arith) (get_drop rs first i r le h)
 
 module _ (p : Record → Bool) (n first last i : ℕ) (old items rs : List Record) (r : Record) (le : first ≤ i) (lt : i < last) where
-  pub add_place : slice_get rs i ≡ Some r → items ≡ take n (old ++ filter p (take (i - first) (part first last rs))) → length items < n → p r ≡ true → items ++ r ∷ [] ≡ take n (old ++ filter p (take ((i + 1) - first) (part first last rs)))
+  pub add_place : slice_get rs i ≡ Some r → items ≡ take n (old ++ filter p (take (i - first) (part first last rs))) → length items < n → p r ≡ true
+      → items ++ r ∷ [] ≡ take n (old ++ filter p (take ((i + 1) - first) (part first last rs)))
   add_place at is room passes =
       let e : (i + 1) - first ≡ (i - first) + 1 = omega arith in
       add_record p n (i - first) old items (part first last rs) r (part_at rs first last i r le lt at) is room passes
       ∙ ap (λ m. take n (old ++ filter p (take m (part first last rs)))) (sym e)
 
-  pub skip_place : slice_get rs i ≡ Some r → items ≡ take n (old ++ filter p (take (i - first) (part first last rs))) → p r ≡ false → items ≡ take n (old ++ filter p (take ((i + 1) - first) (part first last rs)))
+  pub skip_place : slice_get rs i ≡ Some r → items ≡ take n (old ++ filter p (take (i - first) (part first last rs))) → p r ≡ false
+      → items ≡ take n (old ++ filter p (take ((i + 1) - first) (part first last rs)))
   skip_place at is fails =
       let e : (i + 1) - first ≡ (i - first) + 1 = omega arith in
       skip_record p n (i - first) old items (part first last rs) r (part_at rs first last i r le lt at) is fails
@@ -71,7 +73,8 @@ all_behind q (suc first) (suc last) (r ∷ rs) h =
     let e : suc last - suc first ≡ last - first = omega arith in
     subst (λ n. list_all q (drop n (drop first rs)) ≡ true) (sym e) (all_behind q first last rs h)
 
-none_above : (low high : Key) (rs : List Record) → list_all (λ (r : Record). is_lt (key_cmp high r.key)) rs ≡ true → filter (is_from_to low high) rs ≡ []
+none_above : (low high : Key) (rs : List Record) → list_all (λ (r : Record). is_lt (key_cmp high r.key)) rs ≡ true
+    → filter (is_from_to low high) rs ≡ []
 none_above low high rs h =
     filter_none (is_from_to low high) rs
     (all_follow (λ (r : Record). is_lt (key_cmp high r.key)) (λ r. not (is_from_to low high r))

@@ -51,7 +51,8 @@ take_again (suc n) [] ys = refl
 take_again (suc n) (x ∷ xs) ys = ap (λ l. x ∷ l) (take_again n xs ys)
 
 module _ (p : Record → Bool) (n i : ℕ) (old items leaf : List Record) (r : Record) where
-  pub add_record : slice_get leaf i ≡ Some r → items ≡ take n (old ++ filter p (take i leaf)) → length items < n → p r ≡ true → items ++ r ∷ [] ≡ take n (old ++ filter p (take (i + 1) leaf))
+  pub add_record : slice_get leaf i ≡ Some r → items ≡ take n (old ++ filter p (take i leaf)) → length items < n → p r ≡ true
+      → items ++ r ∷ [] ≡ take n (old ++ filter p (take (i + 1) leaf))
   add_record at is room passes =
       let more : filter p (take (i + 1) leaf) ≡ filter p (take i leaf) ++ r ∷ [] =
       ap (filter p) (take_next leaf i r at) ∙ filter-append p (take i leaf) (r ∷ [])
@@ -59,7 +60,8 @@ module _ (p : Record → Bool) (n i : ℕ) (old items leaf : List Record) (r : R
       ap (λ l. l ++ r ∷ []) is ∙ sym (take_push n (old ++ filter p (take i leaf)) r (subst (λ l. length l < n) is room))
       ∙ ap (take n) (append_assoc old (filter p (take i leaf)) (r ∷ []) ∙ ap (λ l. old ++ l) (sym more))
 
-  pub skip_record : slice_get leaf i ≡ Some r → items ≡ take n (old ++ filter p (take i leaf)) → p r ≡ false → items ≡ take n (old ++ filter p (take (i + 1) leaf))
+  pub skip_record : slice_get leaf i ≡ Some r → items ≡ take n (old ++ filter p (take i leaf)) → p r ≡ false
+      → items ≡ take n (old ++ filter p (take (i + 1) leaf))
   skip_record at is fails =
       is ∙ ap (λ l. take n (old ++ l)) (sym (ap (filter p) (take_next leaf i r at) ∙ filter-append p (take i leaf) (r ∷ [])
       ∙ ap (λ l. filter p (take i leaf) ++ l) (filter_cond p r [] [] false fails) ∙ append-nil (filter p (take i leaf))))
@@ -93,7 +95,8 @@ same_cut k rs a b c d e f la hb lc hd = sym (cut k rs a b e la hb) ∙ cut k rs 
         (all_follow (λ (r : Record). is_le (key_cmp k r.key)) (λ r. not (is_lt (key_cmp r.key k))) (λ r h. ap not (not_lt k r.key h)) b hb))
         ∙ append-nil a
 
-filter_same : (p q t : Record → Bool) → ((r : Record) → t r ≡ true → p r ≡ q r) → (rs : List Record) → list_all t rs ≡ true → filter p rs ≡ filter q rs
+filter_same : (p q t : Record → Bool) → ((r : Record) → t r ≡ true → p r ≡ q r) → (rs : List Record) → list_all t rs ≡ true
+    → filter p rs ≡ filter q rs
 filter_same p q t f [] h = refl
 filter_same p q t f (r ∷ rs) h =
     let u = and_parts (t r) (list_all t rs) h in
@@ -135,7 +138,8 @@ module _ (low high : Key) where
       (all_follow (λ (r : Record). is_lt (key_cmp r.key low)) (λ r. not (is_from_to low high r))
       (λ r g. ap (λ b. not (b && is_le (key_cmp r.key high))) (gt_not_le r.key low g)) rs h)
 
-  pub range_first : (most : ℕ) (rs leaf new : List Record) (start up : Option Key) (l : LeadsTo low rs leaf start up) → new ≡ take most ([] ++ filter (is_from_to low high) leaf) → new ≡ range_of low high most (l.before ++ leaf)
+  pub range_first : (most : ℕ) (rs leaf new : List Record) (start up : Option Key) (l : LeadsTo low rs leaf start up)
+      → new ≡ take most ([] ++ filter (is_from_to low high) leaf) → new ≡ range_of low high most (l.before ++ leaf)
   unfolding range_of
   range_first most rs leaf new start up l is =
       is ∙ ap (take most) (sym
@@ -185,7 +189,8 @@ past_none low high (Some next) rs f h =
 
 module _ (low from high : Key) (most : ℕ) (rs leaf new : List Record) (start up : Option Key) (l : LeadsTo from rs leaf start up) where
   -- the range ends here
-  pub range_ends : ((next : Key) → up ≡ Some next → is_le (key_cmp next high) ≡ false) → new ≡ range_of low high most (l.before ++ leaf) → new ≡ range_of low high most rs
+  pub range_ends : ((next : Key) → up ≡ Some next → is_le (key_cmp next high) ≡ false) → new ≡ range_of low high most (l.before ++ leaf)
+      → new ≡ range_of low high most rs
   range_ends over is =
       whole_range low high most rs (l.before ++ leaf) l.behind new (l.records ∙ sym (append_assoc l.before leaf l.behind))
       (past_none low high up l.behind over l.bounded) is

@@ -56,8 +56,11 @@ same_subtree : (pages : List (List ℕ)) (h : ℕ) (c : ℕ × Bounds) (ss : Lis
     → Subtree pages (suc h) false c ss u
 same_subtree pages h c ss u s = s
 
-module _ (told mid : Option (List (List ℕ))) (free between : ℕ → Bool) (page below : ℕ) (inner : Inner) (j left : ℕ) (key : Key) (right : ℕ) (is_root : Bool) (b : Bounds) (rs : List Record) (used : List ℕ) where
-  pub joined_children : (n : Neighbours told free page below inner j left key right is_root b rs used) → DidRebalance told mid free between (suc below) left right (gap_bounds n.cut.ka n.cut.kb b) n.here n.here_used rebalanced.Joined → ChildrenRebalanced mid free between page below n.pages (without_child inner j) b rs used
+module _ (told mid : Option (List (List ℕ))) (free between : ℕ → Bool) (page below : ℕ) (inner : Inner) (j left : ℕ) (key : Key) (right : ℕ)
+    (is_root : Bool) (b : Bounds) (rs : List Record) (used : List ℕ) where
+  pub joined_children : (n : Neighbours told free page below inner j left key right is_root b rs used)
+      → DidRebalance told mid free between (suc below) left right (gap_bounds n.cut.ka n.cut.kb b) n.here n.here_used rebalanced.Joined
+      → ChildrenRebalanced mid free between page below n.pages (without_child inner j) b rs used
   joined_children n d =
       let gap = gap_bounds n.cut.ka n.cut.kb b in
       let m = rebalances told mid free between n.pages (suc below) left right gap n.here n.here_used rebalanced.Joined n.is_told d in
@@ -86,7 +89,9 @@ module _ (told mid : Option (List (List ℕ))) (free between : ℕ → Bool) (pa
       }
 
   -- the keys ascend with the new one
-  pub separated_ascends : (separator : Key) (n : Neighbours told free page below inner j left key right is_root b rs used) → DidRebalance told mid free between (suc below) left right (gap_bounds n.cut.ka n.cut.kb b) n.here n.here_used (rebalanced.Redistributed separator) → FitsBetween n.cut.ka separator n.cut.kb b
+  pub separated_ascends : (separator : Key) (n : Neighbours told free page below inner j left key right is_root b rs used)
+      → DidRebalance told mid free between (suc below) left right (gap_bounds n.cut.ka n.cut.kb b) n.here n.here_used (rebalanced.Redistributed separator)
+      → FitsBetween n.cut.ka separator n.cut.kb b
   separated_ascends separator n d =
       let gap = gap_bounds n.cut.ka n.cut.kb b in
       let m = rebalances told mid free between n.pages (suc below) left right gap n.here n.here_used (rebalanced.Redistributed separator) n.is_told d in
@@ -187,9 +192,13 @@ first_stays : (cs : List ℕ) (i : ℕ) → suc i < length cs → slice_index (r
 first_stays [] i h = absurd (omega arith)
 first_stays (c ∷ cs) i h = refl
 
-module _ (told mid now_told : Option (List (List ℕ))) (free between now : ℕ → Bool) (page height below : ℕ) (inner : Inner) (j left : ℕ) (key : Key) (right : ℕ) (is_root : Bool) (b : Bounds) (rs : List Record) (used : List ℕ) where
+module _ (told mid now_told : Option (List (List ℕ))) (free between now : ℕ → Bool) (page height below : ℕ) (inner : Inner) (j left : ℕ) (key : Key)
+    (right : ℕ) (is_root : Bool) (b : Bounds) (rs : List Record) (used : List ℕ) where
   -- what is left of the page after a join
-  pub left_joined : (o : Removed) → height ≡ suc (suc below) → (n : Neighbours told free page below inner j left key right is_root b rs used) → ChildrenRebalanced mid free between page below n.pages (without_child inner j) b rs used → length inner.children ≡ length inner.keys + 1 → j < length inner.keys → page < length n.pages → now ≡ between → HasDropped page inner j mid now_told o → DidLeave told now_told free now page height is_root b used rs o
+  pub left_joined : (o : Removed) → height ≡ suc (suc below) → (n : Neighbours told free page below inner j left key right is_root b rs used)
+      → ChildrenRebalanced mid free between page below n.pages (without_child inner j) b rs used → length inner.children ≡ length inner.keys + 1
+      → j < length inner.keys → page < length n.pages → now ≡ between → HasDropped page inner j mid now_told o
+      → DidLeave told now_told free now page height is_root b used rs o
   left_joined removed.Missing e n m many place inside f d = absurd d
   left_joined removed.Emptied e n m many place inside f d = absurd d
   left_joined removed.Done e n m many place inside f d =
@@ -255,7 +264,9 @@ module _ (told mid now_told : Option (List (List ℕ))) (free between now : ℕ 
       two_few c h = omega arith
 
   -- and after a move
-  pub left_separated : (separator : Key) → height ≡ suc (suc below) → (n : Neighbours told free page below inner j left key right is_root b rs used) → ChildrenRebalanced mid free between page below n.pages (with_key inner j separator) b rs used → page < length n.pages → now ≡ between → Writes page (with_key inner j separator) mid now_told → DidLeave told now_told free now page height is_root b used rs removed.Done
+  pub left_separated : (separator : Key) → height ≡ suc (suc below) → (n : Neighbours told free page below inner j left key right is_root b rs used)
+      → ChildrenRebalanced mid free between page below n.pages (with_key inner j separator) b rs used → page < length n.pages → now ≡ between
+      → Writes page (with_key inner j separator) mid now_told → DidLeave told now_told free now page height is_root b used rs removed.Done
   left_separated separator e n m inside f writes =
       let p = page_rebalanced mid now_told free between now page below is_root n.pages (with_key inner j separator) b rs used m writes f inside n.enough in
       subst (λ h. DidLeave told now_told free now page h is_root b used rs removed.Done) (sym e)

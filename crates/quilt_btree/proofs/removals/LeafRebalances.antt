@@ -33,7 +33,8 @@ pub record AreLeaves (told : Option (List (List ℕ))) (free : ℕ → Bool) (le
   pub pages : used ≡ right ∷ left ∷ []
   pub apart : AreApart free (right ∷ left ∷ [])
 
-module _ (told : Option (List (List ℕ))) (free : ℕ → Bool) (left : ℕ) (key : Key) (right : ℕ) (b : Bounds) (rs : List Record) (used : List ℕ) (m : CanRebalance told free 1 left key right b rs used) (l r : List Record) (reads : ReadsLeaf told left l) (also : ReadsLeaf told right r) where
+module _ (told : Option (List (List ℕ))) (free : ℕ → Bool) (left : ℕ) (key : Key) (right : ℕ) (b : Bounds) (rs : List Record) (used : List ℕ)
+    (m : CanRebalance told free 1 left key right b rs used) (l r : List Record) (reads : ReadsLeaf told left l) (also : ReadsLeaf told right r) where
   pub are_leaves : AreLeaves told free left key right b rs used m l r
   are_leaves =
       let s : Subtree m.pages 1 true (left, record { low = b.low; high = Some key }) m.first m.first_used = m.is_left.subtree in
@@ -177,7 +178,8 @@ leaves_separated told mid now_told free now size left key right height b rs used
 
 module _ (told : Option (List (List ℕ))) (free : ℕ → Bool) where
   -- both are read
-  pub left_spells : (height left : ℕ) (key : Key) (right : ℕ) (b : Bounds) (rs : List Record) (used : List ℕ) (m : CanRebalance told free height left key right b rs used) → Spells told left height m.first
+  pub left_spells : (height left : ℕ) (key : Key) (right : ℕ) (b : Bounds) (rs : List Record) (used : List ℕ)
+      (m : CanRebalance told free height left key right b rs used) → Spells told left height m.first
   left_spells height left key right b rs used m =
       record {
         pages = m.pages;
@@ -188,7 +190,8 @@ module _ (told : Option (List (List ℕ))) (free : ℕ → Bool) where
         subtree = m.is_left.subtree;
       }
 
-  pub right_spells : (height left : ℕ) (key : Key) (right : ℕ) (b : Bounds) (rs : List Record) (used : List ℕ) (m : CanRebalance told free height left key right b rs used) → Spells told right height m.rest
+  pub right_spells : (height left : ℕ) (key : Key) (right : ℕ) (b : Bounds) (rs : List Record) (used : List ℕ)
+      (m : CanRebalance told free height left key right b rs used) → Spells told right height m.rest
   right_spells height left key right b rs used m =
       record {
         pages = m.pages;
@@ -199,7 +202,9 @@ module _ (told : Option (List (List ℕ))) (free : ℕ → Bool) where
         subtree = m.is_right.subtree;
       }
 
-  pub not_leaves : (left : ℕ) (key : Key) (right height : ℕ) (b : Bounds) (rs : List Record) (used : List ℕ) (l r : List Record) (test : Bool) → height ≡ 1 → ReadsLeaf told left l → ReadsLeaf told right r → test ≡ is_ascending (keys_of (l ++ r)) → test ≡ false → CanRebalance told free height left key right b rs used → ⊥
+  pub not_leaves : (left : ℕ) (key : Key) (right height : ℕ) (b : Bounds) (rs : List Record) (used : List ℕ) (l r : List Record) (test : Bool)
+      → height ≡ 1 → ReadsLeaf told left l → ReadsLeaf told right r → test ≡ is_ascending (keys_of (l ++ r)) → test ≡ false
+      → CanRebalance told free height left key right b rs used → ⊥
   not_leaves left key right height b rs used l r test one reads also e fails can =
       let t = leaves_ascend told free left key right b rs used (subst (λ h. CanRebalance told free h left key right b rs used) one can) l r reads also in
       never test (is_ascending (keys_of (l ++ r))) e fails t
@@ -207,7 +212,8 @@ module _ (told : Option (List (List ℕ))) (free : ℕ → Bool) where
       never : (x y : Bool) → x ≡ y → x ≡ false → y ≡ true → ⊥
       never x y e f g = cc
 
-  pub leaves_taken : (was : ℕ → Bool) (left : ℕ) (key : Key) (right height : ℕ) (b : Bounds) (rs : List Record) (used : List ℕ) → height ≡ 1 → was ≡ free → CanRebalance told free height left key right b rs used → (was left ≡ false) × (was right ≡ false)
+  pub leaves_taken : (was : ℕ → Bool) (left : ℕ) (key : Key) (right height : ℕ) (b : Bounds) (rs : List Record) (used : List ℕ) → height ≡ 1
+      → was ≡ free → CanRebalance told free height left key right b rs used → (was left ≡ false) × (was right ≡ false)
   leaves_taken was left key right height b rs used one e can =
       let m = subst (λ h. CanRebalance told free h left key right b rs used) one can in
       let s : Subtree m.pages 1 true (left, record { low = b.low; high = Some key }) m.first m.first_used = m.is_left.subtree in

@@ -63,7 +63,8 @@ map_remove f (x ∷ xs) zero = refl
 map_remove f (x ∷ xs) (suc i) = ap (λ l. f x ∷ l) (map_remove f xs i)
 
 -- the records that are left lie within the same bounds
-pub removed_within : (b : Bounds) (rs : List Record) (i : ℕ) → are_within b (map (λ r. r.key) rs) ≡ true → are_within b (map (λ r. r.key) (remove rs i)) ≡ true
+pub removed_within : (b : Bounds) (rs : List Record) (i : ℕ) → are_within b (map (λ r. r.key) rs) ≡ true
+    → are_within b (map (λ r. r.key) (remove rs i)) ≡ true
 removed_within b rs i h =
     subst (λ l. are_within b l ≡ true) (sym (map_remove (λ (r : Record). r.key) rs i))
     (all_removed (λ k. is_above b.low k && is_below b.high k) (map (λ r. r.key) rs) i h)
@@ -95,14 +96,6 @@ leaf_same told free page is_root b rs leaf used can reads =
     let mine = s.page in
     cc
 
-pub leaf_missing : (k : Key) (told now_told : Option (List (List ℕ))) (free now : ℕ → Bool) (page height i : ℕ) (is_root : Bool) (b : Bounds)
-    (rs leaf : List Record) (used : List ℕ) → height ≡ 1
-    → ReadsLeaf told page leaf → IsGap k leaf i → CanEdit told free page height is_root b rs used
-    → DidRemove k told now_told free now page height is_root b rs used removed.Missing
-leaf_missing k told now_told free now page height i is_root b rs leaf used one reads gap can =
-    subst (λ l. list_any (has_key k) l ≡ false)
-    (leaf_same told free page is_root b rs leaf used (subst (λ h. CanEdit told free page h is_root b rs used) one can) reads) (gap_any k leaf i gap)
-
 -- a leaf with one record alone
 no_one : {X : Type 0} (xs : List X) (i : ℕ) → i < length xs → length xs ≡ 1 → remove xs i ≡ []
 no_one [] i h e = absurd (omega arith)
@@ -110,34 +103,40 @@ no_one (x ∷ []) zero h e = refl
 no_one (x ∷ []) (suc i) h e = absurd (omega arith)
 no_one (x ∷ y ∷ xs) i h e = absurd (omega arith)
 
-pub leaf_emptied : (k : Key) (told now_told : Option (List (List ℕ))) (free now : ℕ → Bool) (page height i : ℕ) (is_root : Bool) (b : Bounds)
-    (rs leaf : List Record) (used : List ℕ) → height ≡ 1
-    → ReadsLeaf told page leaf → IsFound k leaf i → length leaf ≡ 1 → now_told ≡ told → now ≡ free → CanEdit told free page height is_root b rs used
-    → DidRemove k told now_told free now page height is_root b rs used removed.Emptied
-leaf_emptied k told now_told free now page height i is_root b rs leaf used one reads found alone t f can =
-    let can1 = subst (λ h. CanEdit told free page h is_root b rs used) one can in
-    let same = leaf_same told free page is_root b rs leaf used can1 reads in
-    let s : Subtree can1.pages 1 is_root (page, b) rs used = can1.subtree in
-    let few : length rs < 72 = subst (λ l. length l < 72) same (one_few (length leaf) alone) in (
-      subst (λ l. list_any (has_key k) l ≡ true) same (found_any k leaf i found.found found found.here),
-      record {
-        pages = can1.pages;
-        news = can1.pages;
-        was = can1.is_told;
-        is = t ∙ can1.is_told;
-        left = record {
-          root = few_root is_root 72 (length rs) s.enough few;
-          is_leaf = one;
-          none = ap (without k) (sym same) ∙ sym (without_found k leaf i found.found found found.here) ∙ no_one leaf i found.in_range alone;
-          stays = refl;
-          frees = f;
-          is_used = s.is_used;
-        };
-      },
-    )
-  where
-    one_few : (n : ℕ) → n ≡ 1 → n < 72
-    one_few n e = omega arith
+module _ (k : Key) (told now_told : Option (List (List ℕ))) (free now : ℕ → Bool) (page height i : ℕ) (is_root : Bool) (b : Bounds)
+    (rs leaf : List Record) (used : List ℕ) (one : height ≡ 1) (reads : ReadsLeaf told page leaf) where
+  pub leaf_missing : IsGap k leaf i → CanEdit told free page height is_root b rs used
+      → DidRemove k told now_told free now page height is_root b rs used removed.Missing
+  leaf_missing gap can =
+      subst (λ l. list_any (has_key k) l ≡ false)
+      (leaf_same told free page is_root b rs leaf used (subst (λ h. CanEdit told free page h is_root b rs used) one can) reads) (gap_any k leaf i gap)
+
+  pub leaf_emptied : IsFound k leaf i → length leaf ≡ 1 → now_told ≡ told → now ≡ free → CanEdit told free page height is_root b rs used
+      → DidRemove k told now_told free now page height is_root b rs used removed.Emptied
+  leaf_emptied found alone t f can =
+      let can1 = subst (λ h. CanEdit told free page h is_root b rs used) one can in
+      let same = leaf_same told free page is_root b rs leaf used can1 reads in
+      let s : Subtree can1.pages 1 is_root (page, b) rs used = can1.subtree in
+      let few : length rs < 72 = subst (λ l. length l < 72) same (one_few (length leaf) alone) in (
+        subst (λ l. list_any (has_key k) l ≡ true) same (found_any k leaf i found.found found found.here),
+        record {
+          pages = can1.pages;
+          news = can1.pages;
+          was = can1.is_told;
+          is = t ∙ can1.is_told;
+          left = record {
+            root = few_root is_root 72 (length rs) s.enough few;
+            is_leaf = one;
+            none = ap (without k) (sym same) ∙ sym (without_found k leaf i found.found found found.here) ∙ no_one leaf i found.in_range alone;
+            stays = refl;
+            frees = f;
+            is_used = s.is_used;
+          };
+        },
+      )
+    where
+      one_few : (n : ℕ) → n ≡ 1 → n < 72
+      one_few n e = omega arith
 
 -- what is known where a leaf was written without a record
 pub record LeafCut (k : Key) (told mid now_told : Option (List (List ℕ))) (free now : ℕ → Bool) (page size i : ℕ) (leaf all : List Record)
@@ -187,43 +186,41 @@ leaf_after k told mid now_told free now page size i is_root r b rs leaf all used
       page_is = ap leaf_of (get_or-set_same can.pages page bytes [] inside) ∙ c.written;
     }
 
-pub leaf_done : (k : Key) (told mid now_told : Option (List (List ℕ))) (free now : ℕ → Bool) (page height size i : ℕ) (is_root : Bool) (b : Bounds)
-    (rs leaf all : List Record) (used bytes : List ℕ)
-    → height ≡ 1 → LeafCut k told mid now_told free now page size i leaf all bytes → 72 ≤ length all → CanEdit told free page height is_root b rs used
-    → DidRemove k told now_told free now page height is_root b rs used removed.Done
-leaf_done k told mid now_told free now page height size i is_root b rs leaf all used bytes one c enough can =
-    let can1 = subst (λ h. CanEdit told free page h is_root b rs used) one can in
-    let a = leaf_after k told mid now_told free now page size i is_root is_root b rs leaf all used bytes c (many_enough is_root 72 (length all) enough) can1 in
-    subst (λ h. DidRemove k told now_told free now page h is_root b rs used removed.Done) (sym one)
-    (a.had, record { pages = a.pages; news = a.news; was = a.was; is = a.is; left = a.becomes })
-
 pub one_fewer : {X : Type 0} (xs : List X) (i : ℕ) → i < length xs → suc (length (remove xs i)) ≡ length xs
 one_fewer [] i h = absurd (omega arith)
 one_fewer (x ∷ xs) zero h = refl
 one_fewer (x ∷ xs) (suc i) h = ap suc (one_fewer xs i (omega arith))
 
-pub leaf_underfull : (k : Key) (told mid now_told : Option (List (List ℕ))) (free now : ℕ → Bool) (page height size i : ℕ) (is_root : Bool)
-    (b : Bounds) (rs leaf all : List Record) (used bytes : List ℕ)
-    → height ≡ 1 → LeafCut k told mid now_told free now page size i leaf all bytes → CanEdit told free page height is_root b rs used
-    → DidRemove k told now_told free now page height is_root b rs used removed.Underfull
-leaf_underfull k told mid now_told free now page height size i is_root b rs leaf all used bytes one c can =
-    let can1 = subst (λ h. CanEdit told free page h is_root b rs used) one can in
-    let a = leaf_after k told mid now_told free now page size i is_root true b rs leaf all used bytes c refl can1 in
-    let same = leaf_same told free page is_root b rs leaf used can1 c.reads in
-    let s : Subtree can1.pages 1 is_root (page, b) rs used = can1.subtree in
-    let fewer : suc (length all) ≡ length rs = ap (λ l. suc (length l)) c.all_is ∙ one_fewer leaf i c.found.in_range ∙ ap length same in
-    let nearly : is_root ≡ false → IsNearlyFull a.news 1 page = λ r ss e.
-    let many = not_root is_root 72 (length rs) s.enough r in
-    let is : ss ≡ all = some_same ss all (sym e ∙ a.page_is) in
-    subst (λ l. 71 ≤ length l) (sym is) (less (length all) (length rs) fewer many) in
-    subst (λ h. DidRemove k told now_told free now page h is_root b rs used removed.Underfull) (sym one)
-    (a.had, record { pages = a.pages; news = a.news; was = a.was; is = a.is; left = (nearly, a.becomes) })
-  where
-    less : (m n : ℕ) → suc m ≡ n → 72 ≤ n → 71 ≤ m
-    less m n e h = omega arith
+module _ (k : Key) (told mid now_told : Option (List (List ℕ))) (free now : ℕ → Bool) (page height size i : ℕ) (is_root : Bool) (b : Bounds)
+    (rs leaf all : List Record) (used bytes : List ℕ) (one : height ≡ 1) (c : LeafCut k told mid now_told free now page size i leaf all bytes) where
+  pub leaf_done : 72 ≤ length all → CanEdit told free page height is_root b rs used
+      → DidRemove k told now_told free now page height is_root b rs used removed.Done
+  leaf_done enough can =
+      let can1 = subst (λ h. CanEdit told free page h is_root b rs used) one can in
+      let a = leaf_after k told mid now_told free now page size i is_root is_root b rs leaf all used bytes c (many_enough is_root 72 (length all) enough) can1 in
+      subst (λ h. DidRemove k told now_told free now page h is_root b rs used removed.Done) (sym one)
+      (a.had, record { pages = a.pages; news = a.news; was = a.was; is = a.is; left = a.becomes })
 
-    some_same : (x y : List Record) → Some x ≡ Some y → x ≡ y
-    some_same x y e = cc
+  pub leaf_underfull : CanEdit told free page height is_root b rs used
+      → DidRemove k told now_told free now page height is_root b rs used removed.Underfull
+  leaf_underfull can =
+      let can1 = subst (λ h. CanEdit told free page h is_root b rs used) one can in
+      let a = leaf_after k told mid now_told free now page size i is_root true b rs leaf all used bytes c refl can1 in
+      let same = leaf_same told free page is_root b rs leaf used can1 c.reads in
+      let s : Subtree can1.pages 1 is_root (page, b) rs used = can1.subtree in
+      let fewer : suc (length all) ≡ length rs = ap (λ l. suc (length l)) c.all_is ∙ one_fewer leaf i c.found.in_range ∙ ap length same in
+      let nearly : is_root ≡ false → IsNearlyFull a.news 1 page = λ r ss e.
+      let many = not_root is_root 72 (length rs) s.enough r in
+      let is : ss ≡ all = some_same ss all (sym e ∙ a.page_is) in
+      subst (λ l. 71 ≤ length l) (sym is) (less (length all) (length rs) fewer many) in
+      subst (λ h. DidRemove k told now_told free now page h is_root b rs used removed.Underfull) (sym one)
+      (a.had, record { pages = a.pages; news = a.news; was = a.was; is = a.is; left = (nearly, a.becomes) })
+    where
+      less : (m n : ℕ) → suc m ≡ n → 72 ≤ n → 71 ≤ m
+      less m n e h = omega arith
+
+      some_same : (x y : List Record) → Some x ≡ Some y → x ≡ y
+      some_same x y e = cc
 
 module _ (told : Option (List (List ℕ))) (free : ℕ → Bool) (page height : ℕ) (is_root : Bool) (b : Bounds) (rs : List Record) (used : List ℕ) where
   -- the leaf is read, and is not free

@@ -45,37 +45,6 @@ pub record AtInner (told : Option (List (List ℕ))) (free : ℕ → Bool) (page
   pub is_used : used ≡ under ++ page ∷ []
   pub apart : AreApart free used
 
-pub at_inner : (told : Option (List (List ℕ))) (free : ℕ → Bool) (page height : ℕ) (inner : Inner) (i : ℕ) (k : Key) (is_root : Bool) (b : Bounds)
-    (rs : List Record) (used : List ℕ) → 1 ≤ height → height ≢ 1 → ReadsInner told page inner → IsPlace inner.keys k i
-    → CanEdit told free page height is_root b rs used → AtInner told free page height inner i k is_root b rs used
-at_inner told free page height inner i k is_root b rs used some ne reads place can =
-    let e = height_above height some ne in
-    let s = subst (λ n. Subtree can.pages n is_root (page, b) rs used) e.1 can.subtree in
-    let there = reads can.pages can.is_told in
-    let same : s.inner ≡ inner = some_same s.inner inner (sym s.page ∙ there) in
-    let list = inner_list (length can.pages) (slice_index_or can.pages page []) inner there in
-    let within = subst (λ (x : Inner). are_within b x.keys ≡ true) same s.within in
-    let row = subst (λ (x : Inner). Row (Subtree can.pages (suc e.0) false) (bounded x.children x.keys b) rs s.under) same s.children in
-    record {
-      pages = can.pages;
-      is_told = can.is_told;
-      below = e.0;
-      is_height = e.1;
-      page_is = there;
-      list = list;
-      inner_height = ap (λ (x : Inner). x.height) (sym same) ∙ s.is_height;
-      enough = subst (λ (x : Inner). (is_root || nat_le 127 (length x.children)) ≡ true) same s.enough;
-      within = within;
-      under = s.under;
-      down = leads_down can.pages e.0 inner (slice_index_or can.pages page []) b i k rs s.under list within place row;
-      in_range = place_in inner k i place list.keys;
-      is_used = s.is_used;
-      apart = can.apart;
-    }
-  where
-    some_same : (x y : Inner) → Some x ≡ Some y → x ≡ y
-    some_same x y e = cc
-
 -- the places before, at and behind the child
 pub places_cut : (inner : Inner) (b : Bounds) (i : ℕ) → i < length inner.children → length inner.children ≡ length inner.keys + 1
     → bounded inner.children inner.keys b ≡ front (take i inner.children) (take i inner.keys) b
@@ -116,11 +85,42 @@ child_edit told mid free was page height child i inner k is_root b rs used a t f
     inside : (u l h f p : ℕ) → u ≡ l + h + f + p → h ≤ u
     inside u l h f p e = omega arith
 
--- the key is among the child's records
-pub among_child : (told : Option (List (List ℕ))) (free : ℕ → Bool) (page height i : ℕ) (inner : Inner) (k : Key) (is_root : Bool) (b : Bounds)
-    (rs : List Record) (used : List ℕ) → (a : AtInner told free page height inner i k is_root b rs used)
-    → IsAmong k a.down.at.first a.down.at.here a.down.at.last rs
-among_child told free page height i inner k is_root b rs used a = record { records = a.down.at.records; lower = a.down.lower; higher = a.down.higher }
+module _ (told : Option (List (List ℕ))) (free : ℕ → Bool) (page height : ℕ) where
+  pub at_inner : (inner : Inner) (i : ℕ) (k : Key) (is_root : Bool) (b : Bounds) (rs : List Record) (used : List ℕ) → 1 ≤ height → height ≢ 1
+      → ReadsInner told page inner → IsPlace inner.keys k i → CanEdit told free page height is_root b rs used
+      → AtInner told free page height inner i k is_root b rs used
+  at_inner inner i k is_root b rs used some ne reads place can =
+      let e = height_above height some ne in
+      let s = subst (λ n. Subtree can.pages n is_root (page, b) rs used) e.1 can.subtree in
+      let there = reads can.pages can.is_told in
+      let same : s.inner ≡ inner = some_same s.inner inner (sym s.page ∙ there) in
+      let list = inner_list (length can.pages) (slice_index_or can.pages page []) inner there in
+      let within = subst (λ (x : Inner). are_within b x.keys ≡ true) same s.within in
+      let row = subst (λ (x : Inner). Row (Subtree can.pages (suc e.0) false) (bounded x.children x.keys b) rs s.under) same s.children in
+      record {
+        pages = can.pages;
+        is_told = can.is_told;
+        below = e.0;
+        is_height = e.1;
+        page_is = there;
+        list = list;
+        inner_height = ap (λ (x : Inner). x.height) (sym same) ∙ s.is_height;
+        enough = subst (λ (x : Inner). (is_root || nat_le 127 (length x.children)) ≡ true) same s.enough;
+        within = within;
+        under = s.under;
+        down = leads_down can.pages e.0 inner (slice_index_or can.pages page []) b i k rs s.under list within place row;
+        in_range = place_in inner k i place list.keys;
+        is_used = s.is_used;
+        apart = can.apart;
+      }
+    where
+      some_same : (x y : Inner) → Some x ≡ Some y → x ≡ y
+      some_same x y e = cc
+
+  -- the key is among the child's records
+  pub among_child : (i : ℕ) (inner : Inner) (k : Key) (is_root : Bool) (b : Bounds) (rs : List Record) (used : List ℕ)
+      (a : AtInner told free page height inner i k is_root b rs used) → IsAmong k a.down.at.first a.down.at.here a.down.at.last rs
+  among_child i inner k is_root b rs used a = record { records = a.down.at.records; lower = a.down.lower; higher = a.down.higher }
 
 -- what is known where the child was edited
 pub record ChildEdited (k : Key) (told mid : Option (List (List ℕ))) (free was : ℕ → Bool) (page height child i : ℕ) (inner : Inner) : Type 0 where
@@ -144,16 +144,6 @@ pub sound_child : (e : Stop) (k : Key) (told mid : Option (List (List ℕ))) (fr
 sound_child e k told mid free was page height child i inner c f is_root b rs used can =
     let a = at_inner told free page height inner i k is_root b rs used c.some c.above c.reads c.place can in
     f false (child_bounds inner b i) a.down.at.here a.down.at.here_used
-    (child_edit told mid free was page height child i inner k is_root b rs used a c.is_mid c.is_free c.is_child)
-
-pub missing_child : (k : Key) (told mid between : Option (List (List ℕ))) (free was then : ℕ → Bool) (page height child i : ℕ) (inner : Inner)
-    → ChildEdited k told mid free was page height child i inner
-    → Removes k mid between was then child (height - 1) removed.Missing
-    → (is_root : Bool) (b : Bounds) (rs : List Record) (used : List ℕ) → CanEdit told free page height is_root b rs used → list_any (has_key k) rs ≡ false
-missing_child k told mid between free was then page height child i inner c f is_root b rs used can =
-    let a = at_inner told free page height inner i k is_root b rs used c.some c.above c.reads c.place can in
-    any_between k a.down.at.first a.down.at.here a.down.at.last rs (among_child told free page height i inner k is_root b rs used a)
-    ∙ f false (child_bounds inner b i) a.down.at.here a.down.at.here_used
     (child_edit told mid free was page height child i inner k is_root b rs used a c.is_mid c.is_free c.is_child)
 
 -- what the children are where the child became another subtree
@@ -191,42 +181,49 @@ same_subtree : (pages : List (List ℕ)) (h : ℕ) (c : ℕ × Bounds) (ss : Lis
     → Subtree pages (suc h) false c ss u
 same_subtree pages h c ss u s = s
 
-pub done_child : (k : Key) (told mid between : Option (List (List ℕ))) (free was then : ℕ → Bool) (page height child i : ℕ) (inner : Inner)
-    → ChildEdited k told mid free was page height child i inner
-    → Removes k mid between was then child (height - 1) removed.Done
-    → (is_root : Bool) (b : Bounds) (rs : List Record) (used : List ℕ) → CanEdit told free page height is_root b rs used
-    → DidRemove k told between free then page height is_root b rs used removed.Done
-done_child k told mid between free was then page height child i inner c f is_root b rs used can =
-    let a = at_inner told free page height inner i k is_root b rs used c.some c.above c.reads c.place can in
-    let at = a.down.at in
-    let among = among_child told free page height i inner k is_root b rs used a in
-    let did = f false (child_bounds inner b i) at.here at.here_used
-    (child_edit told mid free was page height child i inner k is_root b rs used a c.is_mid c.is_free c.is_child) in
-    let l = child_left k told mid between free was
-    then page height child i inner is_root false b rs used a c.is_mid c.is_free c.is_child did.1.pages did.1.news did.1.was did.1.is did.1.left in
-    let S = Subtree l.news (suc a.below) false in
-    let changed = middle_changed S a.pages l.news free
-    then a.below page (same_subtree l.news a.below) (front (take i inner.children) (take i inner.keys) b)
-    ((slice_index inner.children i, child_bounds inner b i) ∷ [])
-    (tail_places (drop (suc i) inner.children) (drop i inner.keys) (from_keys (take i inner.keys) b)) at.first
-    (without k at.here) at.last at.first_used at.here_used at.last_used l.uses a.under (subst (AreApart free) a.is_used a.apart) at.is_used
-    at.row_before at.row_behind (row_one S (slice_index inner.children i, child_bounds inner b i) (without k at.here) l.uses l.subtree) l.moves in
-    let row = subst (λ x. Row S x (at.first ++ (without k at.here ++ at.last)) changed.uses) (sym (places_cut inner b i a.in_range a.list.keys)) changed.row in
-    let becomes = parent_stays a.pages l.news free
-    then a.below page is_root b inner a.under (at.first ++ (without k at.here ++ at.last)) a.page_is a.inner_height a.enough a.within
-    (record { uses = changed.uses; row = row; moves = changed.moves; page_stays = changed.page_stays }) in (
-      any_between k at.first at.here at.last rs among ∙ did.0,
-      record {
-        pages = a.pages;
-        news = l.news;
-        was = a.is_told;
-        is = l.is;
-        left = subst (λ h. Becomes a.pages l.news free then page h is_root b used (without k rs)) (sym a.is_height)
-            (subst (λ u. Becomes a.pages l.news free then page (suc (suc a.below)) is_root b u (without k rs)) (sym a.is_used)
-            (subst (λ x. Becomes a.pages l.news free then page (suc (suc a.below)) is_root b (a.under ++ page ∷ []) x)
-            (sym (without_between k at.first at.here at.last rs among)) becomes));
-      },
-    )
+module _ (k : Key) (told mid between : Option (List (List ℕ))) (free was then : ℕ → Bool) (page height child i : ℕ) (inner : Inner)
+    (c : ChildEdited k told mid free was page height child i inner) where
+  pub missing_child : Removes k mid between was then child (height - 1) removed.Missing → (is_root : Bool) (b : Bounds) (rs : List Record)
+      (used : List ℕ) → CanEdit told free page height is_root b rs used → list_any (has_key k) rs ≡ false
+  missing_child f is_root b rs used can =
+      let a = at_inner told free page height inner i k is_root b rs used c.some c.above c.reads c.place can in
+      any_between k a.down.at.first a.down.at.here a.down.at.last rs (among_child told free page height i inner k is_root b rs used a)
+      ∙ f false (child_bounds inner b i) a.down.at.here a.down.at.here_used
+      (child_edit told mid free was page height child i inner k is_root b rs used a c.is_mid c.is_free c.is_child)
+
+  pub done_child : Removes k mid between was then child (height - 1) removed.Done → (is_root : Bool) (b : Bounds) (rs : List Record) (used : List ℕ)
+      → CanEdit told free page height is_root b rs used → DidRemove k told between free then page height is_root b rs used removed.Done
+  done_child f is_root b rs used can =
+      let a = at_inner told free page height inner i k is_root b rs used c.some c.above c.reads c.place can in
+      let at = a.down.at in
+      let among = among_child told free page height i inner k is_root b rs used a in
+      let did = f false (child_bounds inner b i) at.here at.here_used
+      (child_edit told mid free was page height child i inner k is_root b rs used a c.is_mid c.is_free c.is_child) in
+      let l = child_left k told mid between free was
+      then page height child i inner is_root false b rs used a c.is_mid c.is_free c.is_child did.1.pages did.1.news did.1.was did.1.is did.1.left in
+      let S = Subtree l.news (suc a.below) false in
+      let changed = middle_changed S a.pages l.news free
+      then a.below page (same_subtree l.news a.below) (front (take i inner.children) (take i inner.keys) b)
+      ((slice_index inner.children i, child_bounds inner b i) ∷ [])
+      (tail_places (drop (suc i) inner.children) (drop i inner.keys) (from_keys (take i inner.keys) b)) at.first
+      (without k at.here) at.last at.first_used at.here_used at.last_used l.uses a.under (subst (AreApart free) a.is_used a.apart) at.is_used
+      at.row_before at.row_behind (row_one S (slice_index inner.children i, child_bounds inner b i) (without k at.here) l.uses l.subtree) l.moves in
+      let row = subst (λ x. Row S x (at.first ++ (without k at.here ++ at.last)) changed.uses) (sym (places_cut inner b i a.in_range a.list.keys)) changed.row in
+      let becomes = parent_stays a.pages l.news free
+      then a.below page is_root b inner a.under (at.first ++ (without k at.here ++ at.last)) a.page_is a.inner_height a.enough a.within
+      (record { uses = changed.uses; row = row; moves = changed.moves; page_stays = changed.page_stays }) in (
+        any_between k at.first at.here at.last rs among ∙ did.0,
+        record {
+          pages = a.pages;
+          news = l.news;
+          was = a.is_told;
+          is = l.is;
+          left = subst (λ h. Becomes a.pages l.news free then page h is_root b used (without k rs)) (sym a.is_height)
+              (subst (λ u. Becomes a.pages l.news free then page (suc (suc a.below)) is_root b u (without k rs)) (sym a.is_used)
+              (subst (λ x. Becomes a.pages l.news free then page (suc (suc a.below)) is_root b (a.under ++ page ∷ []) x)
+              (sym (without_between k at.first at.here at.last rs among)) becomes));
+        },
+      )
 
 to_partly : (pages : List (List ℕ)) (h underfull : ℕ) (c : ℕ × Bounds) (ss : List Record) (u : List ℕ) → Subtree pages (suc h) false c ss u
     → Partly pages (suc h) underfull c ss u

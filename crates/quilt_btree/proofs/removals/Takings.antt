@@ -22,7 +22,8 @@ other_key j k r lt h = gt_not_eq j r.key (lt_le j k r.key lt (turned (key_cmp r.
     turned Greater p e h = cc
 
 module _ (p q : Record → Bool) where
-  other_step : (r : Record) (rs : List Record) (b c : Bool) → q r ≡ b → p r ≡ c → (p r ≡ true → q r ≡ true) → list_any p (filter q rs) ≡ list_any p rs → list_any p (cond (q r) (r ∷ filter q rs) (filter q rs)) ≡ (p r || list_any p rs)
+  other_step : (r : Record) (rs : List Record) (b c : Bool) → q r ≡ b → p r ≡ c → (p r ≡ true → q r ≡ true) → list_any p (filter q rs) ≡ list_any p rs
+      → list_any p (cond (q r) (r ∷ filter q rs) (filter q rs)) ≡ (p r || list_any p rs)
   other_step r rs true c e g f h = ap (λ l. list_any p l) (filter_cond q r (filter q rs) (filter q rs) true e) ∙ ap (λ b. p r || b) h
   other_step r rs false true e g f h = let k = f g in cc
   other_step r rs false false e g f h =

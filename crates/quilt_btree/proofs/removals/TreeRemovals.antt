@@ -81,7 +81,8 @@ whole_none k told free size t rs e w =
     (sym (ap (list_any (has_key k)) none), subst (λ l. IsWhole told free size t l) (none ∙ sym (without_none k) ∙ ap (without k) (sym none)) w)
 
 module _ (k : Key) (told now_told : Option (List (List ℕ))) (free now : ℕ → Bool) (size : ℕ) (t : Tree) (rs : List Record) where
-  pub whole_missing : IsRemoving free size t → UnderRoot k told now_told free now t removed.Missing → now_told ≡ told → now ≡ free → IsWhole told free size t rs → (false ≡ list_any (has_key k) rs) × IsWhole now_told now size t (without k rs)
+  pub whole_missing : IsRemoving free size t → UnderRoot k told now_told free now t removed.Missing → now_told ≡ told → now ≡ free
+      → IsWhole told free size t rs → (false ≡ list_any (has_key k) rs) × IsWhole now_told now size t (without k rs)
   whole_missing i f same same_free w =
       let a = at_root told free size t rs i w in
       let none = f true everywhere rs a.used a.can in (
@@ -91,20 +92,27 @@ module _ (k : Key) (told now_told : Option (List (List ℕ))) (free now : ℕ �
       )
 
   -- the root is as it was, or has one record or child fewer
-  root_became : (a : AtRoot told free size t rs) (pages news : List (List ℕ)) → t.height ≢ 0 → list_any (has_key k) rs ≡ true → now_told ≡ Some news → Becomes pages news free now t.root t.height true everywhere a.used (without k rs) → (true ≡ list_any (has_key k) rs) × IsWhole now_told now size (record { root = t.root; height = t.height; records = t.records - 1 }) (without k rs)
+  root_became : (a : AtRoot told free size t rs) (pages news : List (List ℕ)) → t.height ≢ 0 → list_any (has_key k) rs ≡ true → now_told ≡ Some news
+      → Becomes pages news free now t.root t.height true everywhere a.used (without k rs)
+      → (true ≡ list_any (has_key k) rs) × IsWhole now_told now size (record { root = t.root; height = t.height; records = t.records - 1 })
+      (without k rs)
   root_became a pages news ne had is becomes = (
     sym had,
     whole_again pages news now_told free now size t.root t.height (t.records - 1) a.used becomes.uses (without k rs) is
         (some_height t.height ne) becomes.subtree becomes.moves a.can.apart a.balance (a.fewer k had),
   )
 
-  pub whole_done : IsRemoving free size t → UnderRoot k told now_told free now t removed.Done → IsWhole told free size t rs → (true ≡ list_any (has_key k) rs) × IsWhole now_told now size (record { root = t.root; height = t.height; records = t.records - 1 }) (without k rs)
+  pub whole_done : IsRemoving free size t → UnderRoot k told now_told free now t removed.Done → IsWhole told free size t rs
+      → (true ≡ list_any (has_key k) rs) × IsWhole now_told now size (record { root = t.root; height = t.height; records = t.records - 1 })
+      (without k rs)
   whole_done i f w =
       let a = at_root told free size t rs i w in
       let did = f true everywhere rs a.used a.can in
       root_became a did.1.pages did.1.news i.above did.0 did.1.is did.1.left
 
-  pub whole_underfull : IsRemoving free size t → UnderRoot k told now_told free now t removed.Underfull → IsWhole told free size t rs → (true ≡ list_any (has_key k) rs) × IsWhole now_told now size (record { root = t.root; height = t.height; records = t.records - 1 }) (without k rs)
+  pub whole_underfull : IsRemoving free size t → UnderRoot k told now_told free now t removed.Underfull → IsWhole told free size t rs
+      → (true ≡ list_any (has_key k) rs) × IsWhole now_told now size (record { root = t.root; height = t.height; records = t.records - 1 })
+      (without k rs)
   whole_underfull i f w =
       let a = at_root told free size t rs i w in
       let did = f true everywhere rs a.used a.can in
@@ -119,7 +127,8 @@ two_left news height r at rs used n s e = let some = subtree_some news height r 
     many : (a m n : ℕ) → a ≡ suc m → suc a ≡ n → 2 ≤ n
     many a m n e f = omega arith
 
-module _ (k : Key) (told now_told : Option (List (List ℕ))) (free now : ℕ → Bool) (size : ℕ) (t : Tree) (rs : List Record) (i : IsRemoving free size t) where
+module _ (k : Key) (told now_told : Option (List (List ℕ))) (free now : ℕ → Bool) (size : ℕ) (t : Tree) (rs : List Record)
+    (i : IsRemoving free size t) where
   pub many_done : UnderRoot k told now_told free now t removed.Done → IsWhole told free size t rs → 2 ≤ t.records
   many_done f w =
       let a = at_root told free size t rs i w in
@@ -147,26 +156,6 @@ module _ (k : Key) (told now_told : Option (List (List ℕ))) (free now : ℕ �
 pub empty_walk : (pages : List (List ℕ)) → walk_of pages 0 0 ≡ Whole [] []
 unfolding walk_of
 empty_walk pages = refl
-
-pub whole_emptied : (k : Key) (told mid now_told : Option (List (List ℕ))) (free between now : ℕ → Bool) (size : ℕ) (t : Tree) (rs : List Record)
-    → IsRemoving free size t → UnderRoot k told mid free between t removed.Emptied
-    → Goes (HasGiven t.root) mid now_told → FreesOnly t.root true between now → IsWhole told free size t rs
-    → (true ≡ list_any (has_key k) rs) × IsWhole now_told now size (record { root = 0; height = 0; records = t.records - 1 }) (without k rs)
-whole_emptied k told mid now_told free between now size t rs i f tells frees w =
-    let a = at_root told free size t rs i w in
-    let did = f true everywhere rs a.used a.can in
-    let left = did.1.left in
-    let one = one_emptied k told mid free between size t rs i f w in
-    let on = tells_on (HasGiven t.root) mid now_told did.1.news did.1.is tells in
-    let moves = moves_given did.1.news on.0 between now [] t.root on.2.size on.2.others one.0 frees in (
-      sym did.0,
-      record {
-        tree = record { pages = on.0; is_told = on.1; visited = []; walk = empty_walk on.0 ∙ ap (λ l. Whole l []) (sym left.none) };
-        number = a.fewer k did.0;
-        balance = λ p low high. moves.balance p ∙ ap (λ g. account g (t.root ∷ []) p) left.frees ∙ ap (λ u. account free u p) (sym left.is_used)
-            ∙ a.balance p low high;
-      },
-    )
 
 -- the root had one child left
 pub last_used : (p : ℕ) (uses : List ℕ) → times p (uses ++ p ∷ []) ≡ suc (times p uses)
@@ -247,20 +236,40 @@ regrown_only told mid now_told pages mids free between now t all used child mid_
     down : (h below : ℕ) → h ≡ suc below → below ≡ h - 1
     down h below e = omega arith
 
-pub whole_only : (k : Key) (told mid now_told : Option (List (List ℕ))) (free between now : ℕ → Bool) (size child : ℕ) (t : Tree) (rs : List Record)
-    → IsRemoving free size t → UnderRoot k told mid free between t (removed.Only child)
-    → Goes (HasGiven t.root) mid now_told → FreesOnly t.root true between now → IsWhole told free size t rs
-    → (true ≡ list_any (has_key k) rs) × IsWhole now_told now size (record { root = child; height = t.height - 1; records = t.records - 1 }) (without k rs)
-whole_only k told mid now_told free between now size child t rs i f tells frees w =
-    let a = at_root told free size t rs i w in
-    let did = f true everywhere rs a.used a.can in
-    let only = did.1.left.1 in
-    let grown = regrown_only told mid now_told did.1.pages did.1.news free between now t (without k rs) a.used child did.1.is only a.can.apart tells frees in (
-      sym did.0,
-      whole_again did.1.pages grown.news now_told free now size child (t.height - 1) (t.records - 1) a.used grown.uses (without k rs) grown.is
-          (tall_above did.1.news t.height child (without k rs) only.below only.uses only.is_height only.subtree)
-          grown.subtree grown.moves a.can.apart a.balance (a.fewer k did.0),
-    )
+module _ (k : Key) (told mid now_told : Option (List (List ℕ))) (free between now : ℕ → Bool) (size : ℕ) where
+  pub whole_emptied : (t : Tree) (rs : List Record) → IsRemoving free size t → UnderRoot k told mid free between t removed.Emptied
+      → Goes (HasGiven t.root) mid now_told → FreesOnly t.root true between now → IsWhole told free size t rs
+      → (true ≡ list_any (has_key k) rs) × IsWhole now_told now size (record { root = 0; height = 0; records = t.records - 1 }) (without k rs)
+  whole_emptied t rs i f tells frees w =
+      let a = at_root told free size t rs i w in
+      let did = f true everywhere rs a.used a.can in
+      let left = did.1.left in
+      let one = one_emptied k told mid free between size t rs i f w in
+      let on = tells_on (HasGiven t.root) mid now_told did.1.news did.1.is tells in
+      let moves = moves_given did.1.news on.0 between now [] t.root on.2.size on.2.others one.0 frees in (
+        sym did.0,
+        record {
+          tree = record { pages = on.0; is_told = on.1; visited = []; walk = empty_walk on.0 ∙ ap (λ l. Whole l []) (sym left.none) };
+          number = a.fewer k did.0;
+          balance = λ p low high. moves.balance p ∙ ap (λ g. account g (t.root ∷ []) p) left.frees ∙ ap (λ u. account free u p) (sym left.is_used)
+              ∙ a.balance p low high;
+        },
+      )
+
+  pub whole_only : (child : ℕ) (t : Tree) (rs : List Record) → IsRemoving free size t → UnderRoot k told mid free between t (removed.Only child)
+      → Goes (HasGiven t.root) mid now_told → FreesOnly t.root true between now → IsWhole told free size t rs
+      → (true ≡ list_any (has_key k) rs) × IsWhole now_told now size (record { root = child; height = t.height - 1; records = t.records - 1 })
+      (without k rs)
+  whole_only child t rs i f tells frees w =
+      let a = at_root told free size t rs i w in
+      let did = f true everywhere rs a.used a.can in
+      let only = did.1.left.1 in
+      let grown = regrown_only told mid now_told did.1.pages did.1.news free between now t (without k rs) a.used child did.1.is only a.can.apart tells frees in (
+        sym did.0,
+        whole_again did.1.pages grown.news now_told free now size child (t.height - 1) (t.records - 1) a.used grown.uses (without k rs) grown.is
+            (tall_above did.1.news t.height child (without k rs) only.below only.uses only.is_height only.subtree)
+            grown.subtree grown.moves a.can.apart a.balance (a.fewer k did.0),
+      )
 
 -- the tree with one record fewer
 pub shrunk : (r : Result Bool Stop) (k : Key) (told now_told : Option (List (List ℕ))) (free now : ℕ → Bool) (size : ℕ) (t new less : Tree)

@@ -67,13 +67,15 @@ full_nearly pages (suc (suc h)) at rs used s = λ inner e.
     less_one n h = omega arith
 
 module _ (pages : List (List ℕ)) (height underfull : ℕ) where
-  near_case : (at : ℕ × Bounds) (rs : List Record) (used : List ℕ) (r : Bool) → (at.0 == underfull) ≡ r → Subtree pages height r at rs used → IsNearlyFull pages height underfull → IsNear pages height at rs used
+  near_case : (at : ℕ × Bounds) (rs : List Record) (used : List ℕ) (r : Bool) → (at.0 == underfull) ≡ r → Subtree pages height r at rs used
+      → IsNearlyFull pages height underfull → IsNear pages height at rs used
   near_case at rs used true e s n =
       record { subtree = s; nearly = subst (IsNearlyFull pages height) (sym (equal_pages at.0 underfull e)) n }
   near_case at rs used false e s n =
       record { subtree = weaker pages height false at rs used s; nearly = full_nearly pages height at rs used s }
 
-  pub near_partly : (at : ℕ × Bounds) (rs : List Record) (used : List ℕ) → Partly pages height underfull at rs used → IsNearlyFull pages height underfull → IsNear pages height at rs used
+  pub near_partly : (at : ℕ × Bounds) (rs : List Record) (used : List ℕ) → Partly pages height underfull at rs used
+      → IsNearlyFull pages height underfull → IsNear pages height at rs used
   near_partly at rs used s n = near_case at rs used (at.0 == underfull) refl s n
 
 -- a subtree uses its own page
@@ -90,7 +92,8 @@ page_used pages (suc (suc h)) r at rs used s = subst (λ u. 1 ≤ times at.0 u) 
     last p under = let e = times_here p [] in let f = times-append p under (p ∷ []) in omega arith
 
 module _ (pages : List (List ℕ)) (height underfull : ℕ) where
-  whole_case : (at : ℕ × Bounds) (rs : List Record) (used : List ℕ) (r : Bool) → (at.0 == underfull) ≡ r → times underfull used ≡ 0 → Subtree pages height r at rs used → Subtree pages height false at rs used
+  whole_case : (at : ℕ × Bounds) (rs : List Record) (used : List ℕ) (r : Bool) → (at.0 == underfull) ≡ r → times underfull used ≡ 0
+      → Subtree pages height r at rs used → Subtree pages height false at rs used
   whole_case at rs used true e none s =
       let some = page_used pages height true at rs used s in
       absurd (never (times at.0 used) some (ap (λ p. times p used) (equal_pages at.0 underfull e) ∙ none))
@@ -100,7 +103,8 @@ module _ (pages : List (List ℕ)) (height underfull : ℕ) where
   whole_case at rs used false e none s = s
 
   -- where the underfull page is not used, all is whole
-  pub whole_row : (cs : List (ℕ × Bounds)) (rs : List Record) (used : List ℕ) → times underfull used ≡ 0 → Row (Partly pages height underfull) cs rs used → Row (Subtree pages height false) cs rs used
+  pub whole_row : (cs : List (ℕ × Bounds)) (rs : List Record) (used : List ℕ) → times underfull used ≡ 0
+      → Row (Partly pages height underfull) cs rs used → Row (Subtree pages height false) cs rs used
   whole_row [] rs used none row = row
   whole_row (c ∷ cs) rs used none row =
       let total = ap (times underfull) row.is_used ∙ times-append underfull row.rest_used row.first_used in

@@ -43,12 +43,15 @@ abbrev pub gap_bounds : List Key → List Key → Bounds → Bounds
 gap_bounds ka kb b = record { low = (from_keys ka b).low; high = head_or kb b.high }
 
 module _ (ca : List ℕ) (c : ℕ) where
-  pub bounded_one : (cb : List ℕ) (ka kb : List Key) (b : Bounds) → length ca ≡ length ka → length cb ≡ length kb → bounded (ca ++ c ∷ cb) (ka ++ kb) b ≡ front ca ka b ++ (((c, gap_bounds ka kb b) ∷ []) ++ rear cb kb b.high)
+  pub bounded_one : (cb : List ℕ) (ka kb : List Key) (b : Bounds) → length ca ≡ length ka → length cb ≡ length kb → bounded (ca ++ c ∷ cb)
+      (ka ++ kb) b ≡ front ca ka b ++ (((c, gap_bounds ka kb b) ∷ []) ++ rear cb kb b.high)
   bounded_one cb ka kb b n m =
       bounded_front ca (c ∷ cb) ka kb b n ∙ ap (λ l. front ca ka b ++ l) (bounded_rear c cb kb (from_keys ka b) m
       ∙ ap (λ h. (c, record { low = (from_keys ka b).low; high = head_or kb h }) ∷ rear cb kb h) (high_from ka b))
 
-  pub bounded_two : (d : ℕ) (cb : List ℕ) (ka : List Key) (key : Key) (kb : List Key) (b : Bounds) → length ca ≡ length ka → length cb ≡ length kb → bounded (ca ++ c ∷ d ∷ cb) (ka ++ key ∷ kb) b ≡ front ca ka b ++ (((c, record { low = (gap_bounds ka kb b).low; high = Some key }) ∷ (d, record { low = Some key; high = (gap_bounds ka kb b).high }) ∷ []) ++ rear cb kb b.high)
+  pub bounded_two : (d : ℕ) (cb : List ℕ) (ka : List Key) (key : Key) (kb : List Key) (b : Bounds) → length ca ≡ length ka → length cb ≡ length kb
+      → bounded (ca ++ c ∷ d ∷ cb)
+      (ka ++ key ∷ kb) b ≡ front ca ka b ++ (((c, record { low = (gap_bounds ka kb b).low; high = Some key }) ∷ (d, record { low = Some key; high = (gap_bounds ka kb b).high }) ∷ []) ++ rear cb kb b.high)
   bounded_two d cb ka key kb b n m = bounded_one (d ∷ cb) ka (key ∷ kb) b n (ap suc m)
 
 -- a list of children and one of keys, cut at two neighbours

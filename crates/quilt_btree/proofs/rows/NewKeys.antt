@@ -43,7 +43,8 @@ above_from low (x ∷ ka) b k w f h =
     let t = and_parts (is_above low x) (list_all (is_above low) ka) w in
     above_from low ka (record { low = Some x; high = b.high }) k t.1 (λ g. above_on low x k t.0 g) h
 
-below_from : (kb : List Key) (high : Option Key) (k : Key) → list_all (is_below high) kb ≡ true → is_below (head_or kb high) k ≡ true → is_below high k ≡ true
+below_from : (kb : List Key) (high : Option Key) (k : Key) → list_all (is_below high) kb ≡ true → is_below (head_or kb high) k ≡ true
+    → is_below high k ≡ true
 below_from [] high k w h = h
 below_from (x ∷ kb) high k w h = below_on high x k (and_parts (is_below high x) (list_all (is_below high) kb) w).0 h
 
@@ -53,7 +54,9 @@ pub record FitsBetween (ka : List Key) (k : Key) (kb : List Key) (b : Bounds) : 
   pub within : are_within b (ka ++ k ∷ kb) ≡ true
 
 module _ (ka : List Key) (old : Key) where
-  pub fits_between : (k : Key) (kb : List Key) (b : Bounds) → is_ascending (ka ++ old ∷ kb) ≡ true → are_within b (ka ++ old ∷ kb) ≡ true → ((l : Key) → (from_keys ka b).low ≡ Some l → is_lt (key_cmp l k) ≡ true) → is_above (from_keys ka b).low k ≡ true → is_below (head_or kb b.high) k ≡ true → FitsBetween ka k kb b
+  pub fits_between : (k : Key) (kb : List Key) (b : Bounds) → is_ascending (ka ++ old ∷ kb) ≡ true → are_within b (ka ++ old ∷ kb) ≡ true
+      → ((l : Key) → (from_keys ka b).low ≡ Some l → is_lt (key_cmp l k) ≡ true) → is_above (from_keys ka b).low k ≡ true
+      → is_below (head_or kb b.high) k ≡ true → FitsBetween ka k kb b
   fits_between k kb b a w strict low high =
       let w_parts = all_parts (λ m. is_above b.low m && is_below b.high m) ka (old ∷ kb) w in
       let w_rest = (and_parts (is_above b.low old && is_below b.high old) (are_within b kb) w_parts.1).1 in

@@ -140,7 +140,8 @@ Rises S = (c : ℕ × Bounds) (rs : List Record) (used : List ℕ) → S c rs us
 
 module _ (S : Reading) (one : Rises S) (past before : Key → Bool) (side : IsSide past before) where
   -- records before keys that are passed
-  pub front_before : (ca : List ℕ) (ka : List Key) (b : Bounds) (rs : List Record) (used : List ℕ) → list_all past ka ≡ true → Row S (front ca ka b) rs used → list_all (λ r. before r.key) rs ≡ true
+  pub front_before : (ca : List ℕ) (ka : List Key) (b : Bounds) (rs : List Record) (used : List ℕ) → list_all past ka ≡ true
+      → Row S (front ca ka b) rs used → list_all (λ r. before r.key) rs ≡ true
   front_before [] ka b rs used h row = subst (λ l. list_all (λ (r : Record). before r.key) l ≡ true) (sym row.0) refl
   front_before (c ∷ ca) [] b rs used h row = subst (λ l. list_all (λ (r : Record). before r.key) l ≡ true) (sym row.0) refl
   front_before (c ∷ ca) (k ∷ ka) b rs used h row =
@@ -154,7 +155,9 @@ module _ (S : Reading) (one : Rises S) (past before : Key → Bool) (side : IsSi
       (front_before ca ka (record { low = Some k; high = b.high }) row.rest row.rest_used t.1 row.after))
 
   -- records behind keys that are not passed
-  pub tail_behind : (cs : List ℕ) (ks : List Key) (b : Bounds) (rs : List Record) (used : List ℕ) → length cs ≡ length ks → is_ascending ks ≡ true → are_within b ks ≡ true → list_all (λ l. not (past l)) ks ≡ true → Row S (tail_places cs ks b) rs used → list_all (λ r. not (past r.key)) rs ≡ true
+  pub tail_behind : (cs : List ℕ) (ks : List Key) (b : Bounds) (rs : List Record) (used : List ℕ) → length cs ≡ length ks → is_ascending ks ≡ true
+      → are_within b ks ≡ true → list_all (λ l. not (past l)) ks ≡ true → Row S (tail_places cs ks b) rs used
+      → list_all (λ r. not (past r.key)) rs ≡ true
   tail_behind [] [] b rs used n a w h row = subst (λ l. list_all (λ (r : Record). not (past r.key)) l ≡ true) (sym row.0) refl
   tail_behind (c ∷ cs) [] b rs used n a w h row = absurd (omega arith)
   tail_behind cs (k ∷ ks) b rs used n a w h row =

@@ -80,7 +80,8 @@ are_written pages free left right bytes others apart inside also =
 
 module _ (pages news : List (List ℕ)) (free now : ℕ → Bool) (left right : ℕ) where
   -- the pages below the two stay as they are
-  pub under_stays : (uses under used : List ℕ) → ArePair left right under used → AreApart free used → Moves pages news free now (right ∷ left ∷ []) uses → SameOn pages news under
+  pub under_stays : (uses under used : List ℕ) → ArePair left right under used → AreApart free used
+      → Moves pages news free now (right ∷ left ∷ []) uses → SameOn pages news under
   under_stays uses under used pair apart moves =
       stays_on pages news free now (right ∷ left ∷ []) uses under used moves apart
       (λ p. parts (times p used) (times p under) (times p (right ∷ left ∷ [])) (pair.count p))
@@ -89,6 +90,7 @@ module _ (pages news : List (List ℕ)) (free now : ℕ → Bool) (left right : 
       parts u n t e = omega arith
 
   -- and count as before
-  pub pair_moves : (here under used uses : List ℕ) → ArePair left right under used → ((p : ℕ) → times p uses ≡ times p under + times p here) → Moves pages news free now (right ∷ left ∷ []) here → Moves pages news free now used uses
+  pub pair_moves : (here under used uses : List ℕ) → ArePair left right under used → ((p : ℕ) → times p uses ≡ times p under + times p here)
+      → Moves pages news free now (right ∷ left ∷ []) here → Moves pages news free now used uses
   pair_moves here under used uses pair also moves =
       moves_among pages news free now (right ∷ left ∷ []) here used uses (λ p. times p under) pair.count also moves

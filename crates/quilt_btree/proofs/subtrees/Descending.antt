@@ -66,7 +66,8 @@ module _ (told : Option (List (List ℕ))) (page height : ℕ) (rs : List Record
       }
 
   -- the child's subtree
-  pub child_spells : (i : ℕ) (s : Spells told page height rs) (up : IsAbove told page height inner rs s) (at : AtChild (Subtree s.pages (suc up.h) false) inner s.bounds i rs up.under) → Spells told (slice_index inner.children i) (height - 1) at.here
+  pub child_spells : (i : ℕ) (s : Spells told page height rs) (up : IsAbove told page height inner rs s)
+      (at : AtChild (Subtree s.pages (suc up.h) false) inner s.bounds i rs up.under) → Spells told (slice_index inner.children i) (height - 1) at.here
   child_spells i s up at =
       let n : height - 1 ≡ suc up.h = let e = up.is_h in omega arith in
       record {
@@ -137,92 +138,93 @@ key_below : (ks : List Key) (b : Bounds) (k : Key) → list_all (λ l. is_lt (ke
 key_below [] b k p h = h
 key_below (l ∷ ks) b k p h = (and_parts (is_lt (key_cmp k l)) (list_all (λ m. is_lt (key_cmp k m)) ks) p).0
 
-pub leads_below : (told : Option (List (List ℕ))) (page height : ℕ) (rs : List Record) (inner : Inner) (i : ℕ) (k : Key) → 1 ≤ height → height ≢ 1
-    → (s : Spells told page height rs) → ReadsInner told page inner
-    → IsPlace inner.keys k i → LeadsBelow told height inner i k rs s.bounds.high
-unfolding child_spells
-leads_below told page height rs inner i k some ne s reads p =
-    let up = inner_spells told page height rs inner some ne s reads in
-    let S = Subtree s.pages (suc up.h) false in
-    let rises : Rises S = λ c ss u t. subtree_rises s.pages (suc up.h) false c ss u t in
-    let down = leads_down s.pages up.h inner (slice_index_or s.pages page []) s.bounds i k rs up.under up.list up.within p up.row in
-    let at = down.at in
-    let ka = take i inner.keys in
-    let kb = drop i inner.keys in
-    let behind = keys_behind ka kb s.bounds (subst (λ l. is_ascending l ≡ true) (sym (take-append-drop i inner.keys)) up.list.ascends)
-    (subst (λ l. are_within s.bounds l ≡ true) (sym (take-append-drop i inner.keys)) up.within) in
-    record {
-      first = at.first;
-      here = at.here;
-      last = at.last;
-      among = record { records = at.records; lower = down.lower; higher = down.higher };
-      spells = child_spells told page height rs inner i s up at;
-      high = (child_bounds inner s.bounds i).high;
-      is_high = refl;
-      is_next = head_high inner.keys i (from_keys ka s.bounds) ∙ ap (λ o. option_or (slice_get inner.keys i) o) (high_from ka s.bounds);
-      past = tail_past S rises (drop (suc i) inner.children) kb (from_keys ka s.bounds) at.last at.last_used
-          (behind_many inner.children inner.keys i up.list.keys) behind.ascend behind.within at.row_behind;
-      nearer = λ m h. head_nearer kb (from_keys ka s.bounds) behind.within m (subst (λ o. is_past o m ≡ true) (sym (high_from ka s.bounds)) h);
-      key_under = λ h. key_below kb (from_keys ka s.bounds) k p.behind (subst (λ o. is_below o k ≡ true) (sym (high_from ka s.bounds)) h);
-      ascend = up.list.ascends;
-      keys_under = all_follow (λ m. is_above s.bounds.low m && is_below s.bounds.high m) (is_below s.bounds.high)
-          (λ m h. (and_parts (is_above s.bounds.low m) (is_below s.bounds.high m) h).1) inner.keys up.within;
-      from_low = λ j d e is.
-          let child = one_row S (slice_index inner.children i, child_bounds inner s.bounds i) at.here at.here_used at.row_here in
-          let low : (child_bounds inner s.bounds i).low ≡ Some d =
-          head_low kb (from_keys ka s.bounds) ∙ ap (λ n. (from_keys (take n inner.keys) s.bounds).low) e ∙ low_from inner.keys j d s.bounds is in
-          let rises = rises (slice_index inner.children i, child_bounds inner s.bounds i) at.here at.here_used child in
-          all_map (λ (r : Record). r.key) (λ m. is_le (key_cmp d m)) at.here
-          (all_follow (λ m. is_above (child_bounds inner s.bounds i).low m && is_below (child_bounds inner s.bounds i).high m) (λ m. is_le (key_cmp d m))
-          (λ m h. subst (λ o. is_above o m ≡ true) low
-          (and_parts (is_above (child_bounds inner s.bounds i).low m) (is_below (child_bounds inner s.bounds i).high m) h).0)
-          (map (λ r. r.key) at.here) rises.within);
-      none_before = λ e. let row =
-          subst (λ n. Row S (front (take n inner.children) (take n inner.keys) s.bounds) at.first at.first_used) e at.row_before in row.0;
-      before = λ j e.
-          let lt : j < length inner.children = let q = place_in inner k i p up.list.keys in omega arith in
-          let lk : j < length inner.keys = let q = p.in_range in omega arith in
-          let f = front_last S inner.children inner.keys s.bounds j at.first at.first_used lt lk
-          (subst (λ n. Row S (front (take n inner.children) (take n inner.keys) s.bounds) at.first at.first_used) e at.row_before) in
-          let n : height - 1 ≡ suc up.h = let z = up.is_h in omega arith in (
-            f.0,
-            f.1,
-            f.4,
-            record {
-              pages = s.pages;
-              is_told = s.is_told;
-              is_root = false;
-              bounds = f.2;
-              used = f.3;
-              subtree = subst (λ m. Subtree s.pages m false (slice_index inner.children j, f.2) f.1 f.3) (sym n) f.5;
-            },
-          );
-    }
-
-pub along_told : (old new : Option (List (List ℕ))) (page height : ℕ) (rs : List Record) → new ≡ old → Spells old page height rs → Spells new page height rs
+pub along_told : (old new : Option (List (List ℕ))) (page height : ℕ) (rs : List Record) → new ≡ old → Spells old page height rs
+    → Spells new page height rs
 along_told old new page height rs e s =
     record { pages = s.pages; is_told = e ∙ s.is_told; is_root = s.is_root; bounds = s.bounds; used = s.used; subtree = s.subtree }
 
-pub leaf_leads : (told : Option (List (List ℕ))) (page height : ℕ) (k : Key) (leaf : List Record) (high : Option Key) → height ≡ 1 → ReadsLeaf told page leaf
-    → (rs : List Record) (s : Spells told page height rs) → s.bounds.high ≡ high → LeadsTo k rs leaf high high
-leaf_leads told page height k leaf high one reads rs s e =
-    let same = leaf_spells told page height rs leaf one s reads in
-    let rises = subtree_rises s.pages height s.is_root (page, s.bounds) rs s.used s.subtree in
-    record {
-      before = [];
-      behind = [];
-      records = sym same ∙ sym (append-nil leaf);
-      lower = refl;
-      higher = refl;
-      bounded = refl;
-      nearer = λ m h. h;
-      key_under = λ h. h;
-      here_under = subst (λ o. list_all (λ (r : Record). is_below o r.key) leaf ≡ true) e
-          (subst (λ l. list_all (λ (r : Record). is_below s.bounds.high r.key) l ≡ true) (sym same)
-          (all_map (λ (r : Record). r.key) (is_below s.bounds.high) rs
-          (all_follow (λ m. is_above s.bounds.low m && is_below s.bounds.high m) (is_below s.bounds.high)
-          (λ m h. (and_parts (is_above s.bounds.low m) (is_below s.bounds.high m) h).1) (map (λ r. r.key) rs) rises.within)));
-    }
+module _ (told : Option (List (List ℕ))) (page height : ℕ) where
+  pub leads_below : (rs : List Record) (inner : Inner) (i : ℕ) (k : Key) → 1 ≤ height → height ≢ 1 → (s : Spells told page height rs)
+      → ReadsInner told page inner → IsPlace inner.keys k i → LeadsBelow told height inner i k rs s.bounds.high
+  unfolding child_spells
+  leads_below rs inner i k some ne s reads p =
+      let up = inner_spells told page height rs inner some ne s reads in
+      let S = Subtree s.pages (suc up.h) false in
+      let rises : Rises S = λ c ss u t. subtree_rises s.pages (suc up.h) false c ss u t in
+      let down = leads_down s.pages up.h inner (slice_index_or s.pages page []) s.bounds i k rs up.under up.list up.within p up.row in
+      let at = down.at in
+      let ka = take i inner.keys in
+      let kb = drop i inner.keys in
+      let behind = keys_behind ka kb s.bounds (subst (λ l. is_ascending l ≡ true) (sym (take-append-drop i inner.keys)) up.list.ascends)
+      (subst (λ l. are_within s.bounds l ≡ true) (sym (take-append-drop i inner.keys)) up.within) in
+      record {
+        first = at.first;
+        here = at.here;
+        last = at.last;
+        among = record { records = at.records; lower = down.lower; higher = down.higher };
+        spells = child_spells told page height rs inner i s up at;
+        high = (child_bounds inner s.bounds i).high;
+        is_high = refl;
+        is_next = head_high inner.keys i (from_keys ka s.bounds) ∙ ap (λ o. option_or (slice_get inner.keys i) o) (high_from ka s.bounds);
+        past = tail_past S rises (drop (suc i) inner.children) kb (from_keys ka s.bounds) at.last at.last_used
+            (behind_many inner.children inner.keys i up.list.keys) behind.ascend behind.within at.row_behind;
+        nearer = λ m h. head_nearer kb (from_keys ka s.bounds) behind.within m (subst (λ o. is_past o m ≡ true) (sym (high_from ka s.bounds)) h);
+        key_under = λ h. key_below kb (from_keys ka s.bounds) k p.behind (subst (λ o. is_below o k ≡ true) (sym (high_from ka s.bounds)) h);
+        ascend = up.list.ascends;
+        keys_under = all_follow (λ m. is_above s.bounds.low m && is_below s.bounds.high m) (is_below s.bounds.high)
+            (λ m h. (and_parts (is_above s.bounds.low m) (is_below s.bounds.high m) h).1) inner.keys up.within;
+        from_low = λ j d e is.
+            let child = one_row S (slice_index inner.children i, child_bounds inner s.bounds i) at.here at.here_used at.row_here in
+            let low : (child_bounds inner s.bounds i).low ≡ Some d =
+            head_low kb (from_keys ka s.bounds) ∙ ap (λ n. (from_keys (take n inner.keys) s.bounds).low) e ∙ low_from inner.keys j d s.bounds is in
+            let rises = rises (slice_index inner.children i, child_bounds inner s.bounds i) at.here at.here_used child in
+            all_map (λ (r : Record). r.key) (λ m. is_le (key_cmp d m)) at.here
+            (all_follow (λ m. is_above (child_bounds inner s.bounds i).low m && is_below (child_bounds inner s.bounds i).high m) (λ m. is_le (key_cmp d m))
+            (λ m h. subst (λ o. is_above o m ≡ true) low
+            (and_parts (is_above (child_bounds inner s.bounds i).low m) (is_below (child_bounds inner s.bounds i).high m) h).0)
+            (map (λ r. r.key) at.here) rises.within);
+        none_before = λ e. let row =
+            subst (λ n. Row S (front (take n inner.children) (take n inner.keys) s.bounds) at.first at.first_used) e at.row_before in row.0;
+        before = λ j e.
+            let lt : j < length inner.children = let q = place_in inner k i p up.list.keys in omega arith in
+            let lk : j < length inner.keys = let q = p.in_range in omega arith in
+            let f = front_last S inner.children inner.keys s.bounds j at.first at.first_used lt lk
+            (subst (λ n. Row S (front (take n inner.children) (take n inner.keys) s.bounds) at.first at.first_used) e at.row_before) in
+            let n : height - 1 ≡ suc up.h = let z = up.is_h in omega arith in (
+              f.0,
+              f.1,
+              f.4,
+              record {
+                pages = s.pages;
+                is_told = s.is_told;
+                is_root = false;
+                bounds = f.2;
+                used = f.3;
+                subtree = subst (λ m. Subtree s.pages m false (slice_index inner.children j, f.2) f.1 f.3) (sym n) f.5;
+              },
+            );
+      }
+
+  pub leaf_leads : (k : Key) (leaf : List Record) (high : Option Key) → height ≡ 1 → ReadsLeaf told page leaf → (rs : List Record)
+      (s : Spells told page height rs) → s.bounds.high ≡ high → LeadsTo k rs leaf high high
+  leaf_leads k leaf high one reads rs s e =
+      let same = leaf_spells told page height rs leaf one s reads in
+      let rises = subtree_rises s.pages height s.is_root (page, s.bounds) rs s.used s.subtree in
+      record {
+        before = [];
+        behind = [];
+        records = sym same ∙ sym (append-nil leaf);
+        lower = refl;
+        higher = refl;
+        bounded = refl;
+        nearer = λ m h. h;
+        key_under = λ h. h;
+        here_under = subst (λ o. list_all (λ (r : Record). is_below o r.key) leaf ≡ true) e
+            (subst (λ l. list_all (λ (r : Record). is_below s.bounds.high r.key) l ≡ true) (sym same)
+            (all_map (λ (r : Record). r.key) (is_below s.bounds.high) rs
+            (all_follow (λ m. is_above s.bounds.low m && is_below s.bounds.high m) (is_below s.bounds.high)
+            (λ m h. (and_parts (is_above s.bounds.low m) (is_below s.bounds.high m) h).1) (map (λ r. r.key) rs) rises.within)));
+      }
 
 leads_on : (told : Option (List (List ℕ))) (height i : ℕ) (k : Key) (inner : Inner) (rs : List Record) (start : Option Key)
     (at : LeadsBelow told height inner i k rs start) (leaf : List Record) (high : Option Key)
@@ -325,7 +327,9 @@ pub record AtFloor (old new : Option (List (List ℕ))) (page height child i : �
   pub is_child : child ≡ slice_index inner.children i
 
 module _ (old new : Option (List (List ℕ))) (page height child i : ℕ) (k : Key) (inner : Inner) where
-  pub floor_here : (r : Record) → AtFloor old new page height child i k inner → ((rs : List Record) → Spells new child (height - 1) rs → Some r ≡ floor_of k rs) → (rs : List Record) → Spells old page height rs → Some r ≡ floor_of k rs
+  pub floor_here : (r : Record) → AtFloor old new page height child i k inner
+      → ((rs : List Record) → Spells new child (height - 1) rs → Some r ≡ floor_of k rs) → (rs : List Record) → Spells old page height rs
+      → Some r ≡ floor_of k rs
   floor_here r a f rs s =
       let at = leads_below old page height rs inner i k a.some a.above s a.reads a.place in
       let here =
@@ -333,7 +337,9 @@ module _ (old new : Option (List (List ℕ))) (page height child i : ℕ) (k : K
       (along_told old new (slice_index inner.children i) (height - 1) at.here a.told at.spells)) in
       ap (λ o. option_or o (last_or None at.first)) here ∙ sym (floor_between k at.first at.here at.last rs at.among)
 
-  pub floor_none : AtFloor old new page height child i k inner → i ≡ 0 → ((rs : List Record) → Spells new child (height - 1) rs → None ≡ floor_of k rs) → (rs : List Record) → Spells old page height rs → None ≡ floor_of k rs
+  pub floor_none : AtFloor old new page height child i k inner → i ≡ 0
+      → ((rs : List Record) → Spells new child (height - 1) rs → None ≡ floor_of k rs) → (rs : List Record) → Spells old page height rs
+      → None ≡ floor_of k rs
   floor_none a zero_place f rs s =
       let at = leads_below old page height rs inner i k a.some a.above s a.reads a.place in
       let here =

@@ -81,7 +81,11 @@ leaf_found pages is_root at visited rs now (Some ss) page seen h =
     }
 
 module _ (S : Reading) (visit : ℕ × Bounds → List ℕ → Walk) where
-  row_step : (c : ℕ × Bounds) (cs : List (ℕ × Bounds)) (before : List Record) (visited : List ℕ) (rs : List Record) (now : List ℕ) → ((ss : List Record) (later : List ℕ) → visit c visited ≡ Whole ss later → Found (S c) visited ss later) → ((ss : List Record) (later : List ℕ) → each_child visit cs (Whole ss later) ≡ Whole rs now → FoundBehind (Row S cs) ss later rs now) → (w : Walk) → visit c visited ≡ w → each_child visit cs (and_then (Whole before visited) (λ v. w)) ≡ Whole rs now → FoundBehind (Row S (c ∷ cs)) before visited rs now
+  row_step : (c : ℕ × Bounds) (cs : List (ℕ × Bounds)) (before : List Record) (visited : List ℕ) (rs : List Record) (now : List ℕ)
+      → ((ss : List Record) (later : List ℕ) → visit c visited ≡ Whole ss later → Found (S c) visited ss later)
+      → ((ss : List Record) (later : List ℕ) → each_child visit cs (Whole ss later) ≡ Whole rs now → FoundBehind (Row S cs) ss later rs now)
+      → (w : Walk) → visit c visited ≡ w → each_child visit cs (and_then (Whole before visited) (λ v. w)) ≡ Whole rs now
+      → FoundBehind (Row S (c ∷ cs)) before visited rs now
   row_step c cs before visited rs now one others (Damaged p) e h =
       let stays = damaged_stays visit cs p in cc
   row_step c cs before visited rs now one others (Whole ss later) e h =
@@ -107,7 +111,9 @@ module _ (S : Reading) (visit : ℕ × Bounds → List ℕ → Walk) where
         };
       }
 
-  row_found : ((c : ℕ × Bounds) (visited : List ℕ) (rs : List Record) (now : List ℕ) → visit c visited ≡ Whole rs now → Found (S c) visited rs now) → (cs : List (ℕ × Bounds)) (before : List Record) (visited : List ℕ) (rs : List Record) (now : List ℕ) → each_child visit cs (Whole before visited) ≡ Whole rs now → FoundBehind (Row S cs) before visited rs now
+  row_found : ((c : ℕ × Bounds) (visited : List ℕ) (rs : List Record) (now : List ℕ) → visit c visited ≡ Whole rs now → Found (S c) visited rs now)
+      → (cs : List (ℕ × Bounds)) (before : List Record) (visited : List ℕ) (rs : List Record) (now : List ℕ)
+      → each_child visit cs (Whole before visited) ≡ Whole rs now → FoundBehind (Row S cs) before visited rs now
   row_found one [] before visited rs now h =
       let same : rs ≡ before = cc in
       let later : now ≡ visited = cc in
@@ -121,34 +127,45 @@ same_number m n h = grind (arith, nat_tests)
 pub number_test : (m n : ℕ) → m ≡ n → (m == n) ≡ true
 number_test m n h = grind (arith, nat_tests)
 
-inner_found : (S : Reading) (visit : ℕ × Bounds → List ℕ → Walk) (pages : List (List ℕ)) (height : ℕ) (is_root : Bool) (at : ℕ × Bounds)
-    (visited : List ℕ) (rs : List Record) (now : List ℕ)
-    → ((c : ℕ × Bounds) (v : List ℕ) (ss : List Record) (later : List ℕ) → visit c v ≡ Whole ss later → Found (S c) v ss later)
-    → (o : Option Inner) → inner_of (length pages) (slice_index_or pages at.0 []) ≡ o
-    → list_any (λ v. v == at.0) visited ≡ false
-    → inner_walk visit height is_root at.1 at.0 visited o ≡ Whole rs now → Found (IsInner S pages height is_root at) visited rs now
-inner_found S visit pages height is_root at visited rs now one None page seen h = cc
-inner_found S visit pages height is_root at visited rs now one (Some inner) page seen h =
-    let t = then_whole _ _ _ _ _ h in
-    let all = and_parts ((inner.height == height) && (is_root || nat_le 127 (length inner.children))) (are_within at.1 inner.keys) t.0 in
-    let both = and_parts (inner.height == height) (is_root || nat_le 127 (length inner.children)) all.0 in
-    let row = row_found S visit one (bounded inner.children inner.keys at.1) [] (at.0 ∷ visited) rs now t.1 in
-    let same : rs ≡ row.more = row.is_rs in
-    record {
-      used = row.found.used ++ at.0 ∷ [];
-      spells = record {
-        inner = inner;
-        page = page;
-        is_height = same_number inner.height height both.0;
-        enough = both.1;
-        within = all.1;
-        under = row.found.used;
-        children = along_list (λ l. Row S (bounded inner.children inner.keys at.1) l row.found.used) (sym same) row.found.spells;
-        is_used = refl;
-      };
-      fresh = fresh_join row.found.used (at.0 ∷ []) visited row.found.fresh (seen, tt);
-      is_now = row.found.is_now ∙ sym (append_assoc row.found.used (at.0 ∷ []) visited);
-    }
+module _ (S : Reading) (visit : ℕ × Bounds → List ℕ → Walk) where
+  inner_found : (pages : List (List ℕ)) (height : ℕ) (is_root : Bool) (at : ℕ × Bounds) (visited : List ℕ) (rs : List Record) (now : List ℕ)
+      → ((c : ℕ × Bounds) (v : List ℕ) (ss : List Record) (later : List ℕ) → visit c v ≡ Whole ss later → Found (S c) v ss later) → (o : Option Inner)
+      → inner_of (length pages) (slice_index_or pages at.0 []) ≡ o → list_any (λ v. v == at.0) visited ≡ false
+      → inner_walk visit height is_root at.1 at.0 visited o ≡ Whole rs now → Found (IsInner S pages height is_root at) visited rs now
+  inner_found pages height is_root at visited rs now one None page seen h = cc
+  inner_found pages height is_root at visited rs now one (Some inner) page seen h =
+      let t = then_whole _ _ _ _ _ h in
+      let all = and_parts ((inner.height == height) && (is_root || nat_le 127 (length inner.children))) (are_within at.1 inner.keys) t.0 in
+      let both = and_parts (inner.height == height) (is_root || nat_le 127 (length inner.children)) all.0 in
+      let row = row_found S visit one (bounded inner.children inner.keys at.1) [] (at.0 ∷ visited) rs now t.1 in
+      let same : rs ≡ row.more = row.is_rs in
+      record {
+        used = row.found.used ++ at.0 ∷ [];
+        spells = record {
+          inner = inner;
+          page = page;
+          is_height = same_number inner.height height both.0;
+          enough = both.1;
+          within = all.1;
+          under = row.found.used;
+          children = along_list (λ l. Row S (bounded inner.children inner.keys at.1) l row.found.used) (sym same) row.found.spells;
+          is_used = refl;
+        };
+        fresh = fresh_join row.found.used (at.0 ∷ []) visited row.found.fresh (seen, tt);
+        is_now = row.found.is_now ∙ sym (append_assoc row.found.used (at.0 ∷ []) visited);
+      }
+
+  row_walked : ((c : ℕ × Bounds) (visited : List ℕ) (rs : List Record) (used : List ℕ) → S c rs used → IsFresh used visited → visit c visited ≡ Whole rs (used ++ visited))
+      → (cs : List (ℕ × Bounds)) (before : List Record) (visited : List ℕ) (rs : List Record) (used : List ℕ) → Row S cs rs used
+      → IsFresh used visited → each_child visit cs (Whole before visited) ≡ Whole (before ++ rs) (used ++ visited)
+  row_walked one [] before visited rs used row fresh = rw (row.0, row.1, append-nil) refl
+  row_walked one (c ∷ cs) before visited rs used row fresh =
+      let parts : IsFresh (row.rest_used ++ row.first_used) visited = rw row.is_used at fresh in
+      let here : visit c visited ≡ Whole row.first (row.first_used ++ visited) = one c visited row.first row.first_used row.here (fresh_early _ _ _ parts) in
+      let after = row_walked one cs (before ++ row.first) (row.first_used ++ visited) row.rest row.rest_used row.after (fresh_late _ _ _ parts) in
+      ap (λ w. each_child visit cs (and_then (Whole before visited) (λ v. w))) here ∙ after
+      ∙ ap (λ l. Whole l (row.rest_used ++ (row.first_used ++ visited))) (append_assoc before row.first row.rest ∙ ap (λ l. before ++ l) (sym row.records))
+      ∙ ap (λ l. Whole (before ++ rs) l) (sym (append_assoc row.rest_used row.first_used visited) ∙ ap (λ l. l ++ visited) (sym row.is_used))
 
 -- What a walk has found whole is a subtree, of pages that were not visited before.
 pub walk_found : (pages : List (List ℕ)) (height : ℕ) (is_root : Bool) (at : ℕ × Bounds) (visited : List ℕ) (rs : List Record) (now : List ℕ)
@@ -169,20 +186,6 @@ if_true false v w h = cc
 pub if_false : (b : Bool) (v w : Walk) → b ≡ false → (if b then v else w) ≡ w
 if_false true v w h = cc
 if_false false v w h = refl
-
-row_walked : (S : Reading) (visit : ℕ × Bounds → List ℕ → Walk)
-    → ((c : ℕ × Bounds) (visited : List ℕ) (rs : List Record) (used : List ℕ) → S c rs used → IsFresh used visited
-    → visit c visited ≡ Whole rs (used ++ visited))
-    → (cs : List (ℕ × Bounds)) (before : List Record) (visited : List ℕ) (rs : List Record) (used : List ℕ)
-    → Row S cs rs used → IsFresh used visited → each_child visit cs (Whole before visited) ≡ Whole (before ++ rs) (used ++ visited)
-row_walked S visit one [] before visited rs used row fresh = rw (row.0, row.1, append-nil) refl
-row_walked S visit one (c ∷ cs) before visited rs used row fresh =
-    let parts : IsFresh (row.rest_used ++ row.first_used) visited = rw row.is_used at fresh in
-    let here : visit c visited ≡ Whole row.first (row.first_used ++ visited) = one c visited row.first row.first_used row.here (fresh_early _ _ _ parts) in
-    let after = row_walked S visit one cs (before ++ row.first) (row.first_used ++ visited) row.rest row.rest_used row.after (fresh_late _ _ _ parts) in
-    ap (λ w. each_child visit cs (and_then (Whole before visited) (λ v. w))) here ∙ after
-    ∙ ap (λ l. Whole l (row.rest_used ++ (row.first_used ++ visited))) (append_assoc before row.first row.rest ∙ ap (λ l. before ++ l) (sym row.records))
-    ∙ ap (λ l. Whole (before ++ rs) l) (sym (append_assoc row.rest_used row.first_used visited) ∙ ap (λ l. l ++ visited) (sym row.is_used))
 
 -- and a subtree of such pages is found whole
 pub walk_again : (pages : List (List ℕ)) (height : ℕ) (is_root : Bool) (at : ℕ × Bounds) (visited : List ℕ) (rs : List Record) (used : List ℕ)

@@ -20,7 +20,9 @@ last_splits pages height page child n inner some ne here many is =
     ap (λ m. last_pages pages m page) up.1 ∙ ap (λ o. page ∷ last_below (last_pages pages (suc up.0)) o) here
     ∙ ap (λ c. page ∷ last_pages pages (suc up.0) c) (sym same) ∙ ap (λ m. page ∷ last_pages pages m child) (one_less height up.0 up.1)
 
-module _ (pages : List (List ℕ)) (k : Key) (height page child i : ℕ) (inner : Inner) (some : 1 ≤ height) (ne : height ≢ 1) (here : inner_of (length pages) (slice_index_or pages page []) ≡ Some inner) (place : i ≡ place_of k inner) (is : child ≡ slice_index inner.children i) where
+module _ (pages : List (List ℕ)) (k : Key) (height page child i : ℕ) (inner : Inner) (some : 1 ≤ height) (ne : height ≢ 1)
+    (here : inner_of (length pages) (slice_index_or pages page []) ≡ Some inner) (place : i ≡ place_of k inner)
+    (is : child ≡ slice_index inner.children i) where
   -- and with that to which a key leads
   pub floor_splits : floor_pages pages k height page ≡ page ∷ (floor_pages pages k (height - 1) child ++ before_child (finds_floor pages k (height - 1)) (last_pages pages (height - 1)) inner i)
   floor_splits =
@@ -59,7 +61,9 @@ module _ (pages : List (List ℕ)) (k : Key) (height : ℕ) where
       either b i e = grind (arith, nat_tests)
 
   -- and else the pages of the last record there
-  pub child_before : (child prior i : ℕ) (inner : Inner) → child ≡ slice_index inner.children i → prior ≡ slice_index inner.children (i - 1) → finds_floor pages k height child ≡ false → i ≢ 0 → before_child (finds_floor pages k height) (last_pages pages height) inner i ≡ last_pages pages height prior
+  pub child_before : (child prior i : ℕ) (inner : Inner) → child ≡ slice_index inner.children i → prior ≡ slice_index inner.children (i - 1)
+      → finds_floor pages k height child ≡ false → i ≢ 0 → before_child (finds_floor pages k height)
+      (last_pages pages height) inner i ≡ last_pages pages height prior
   child_before child prior i inner is was h ne =
       ap (λ b. if b then [] else last_pages pages height (slice_index inner.children (i - 1)))
       (either (finds_floor pages k height (slice_index inner.children i)) i (ap (finds_floor pages k height) (sym is) ∙ h) ne)

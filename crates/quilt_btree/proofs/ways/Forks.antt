@@ -88,7 +88,9 @@ pub record Forked (old new : Option (List (List ℕ))) (page height : ℕ) (k : 
   pub later : (p : ℕ) → prior ≡ Some p → HasPrior old height inner i p
 
 module _ (old new : Option (List (List ℕ))) (page height size : ℕ) (bytes : List ℕ) where
-  pub forked : (k : Key) (child : ℕ) (prior : Option ℕ) (rs : List Record) → IsRead old new page height size bytes → ((inner : Inner) → inner_of size bytes ≡ Some inner → IsFork k inner child prior) → Spells old page height rs → Forked old new page height k child prior rs
+  pub forked : (k : Key) (child : ℕ) (prior : Option ℕ) (rs : List Record) → IsRead old new page height size bytes
+      → ((inner : Inner) → inner_of size bytes ≡ Some inner → IsFork k inner child prior) → Spells old page height rs
+      → Forked old new page height k child prior rs
   forked k child prior rs r fork s =
       let h = page_here old new page height size bytes rs r s in
       let f = fork h.inner h.is in
@@ -114,7 +116,8 @@ module _ (old new : Option (List (List ℕ))) (page height size : ℕ) (bytes : 
       }
 
   -- a page above the leaves forks
-  pub forks : (e : Stop) → IsRead old new page height size bytes → ((inner : Inner) → inner_of size bytes ≡ Some inner → ⊥) → (rs : List Record) → Spells old page height rs → IsSound e
+  pub forks : (e : Stop) → IsRead old new page height size bytes → ((inner : Inner) → inner_of size bytes ≡ Some inner → ⊥) → (rs : List Record)
+      → Spells old page height rs → IsSound e
   forks e r none rs s = let h = page_here old new page height size bytes rs r s in absurd (none h.inner h.is)
 
 pub leaf_led : (told : Option (List (List ℕ))) (page height : ℕ) (bytes : List ℕ) (k : Key) → height ≡ 1 → AreOf told page bytes → (rs : List Record)
@@ -129,7 +132,8 @@ leaf_led told page height bytes k one are rs s = record {
   higher = refl;
 }
 
-led_up : (k : Key) (before here behind rs : List Record) (bytes : List ℕ) → IsAmong k before here behind rs → IsLeafFor k here bytes → IsLeafFor k rs bytes
+led_up : (k : Key) (before here behind rs : List Record) (bytes : List ℕ) → IsAmong k before here behind rs → IsLeafFor k here bytes
+    → IsLeafFor k rs bytes
 led_up k before here behind rs bytes a l = record {
   here = l.here;
   is_leaf = l.is_leaf;
@@ -154,7 +158,8 @@ led_page (Ok leaf) old new page height size bytes k child prior r fork f = λ rs
     led_up k a.before a.here a.behind rs last a.among (f a.here a.spells last (λ pages is. are pages (sym r.told ∙ is)))
 
 -- what a lent page shows
-pub are_of : (told : Option (List (List ℕ))) (page : ℕ) (bytes : List ℕ) → IfSome told (λ pages. bytes ≡ slice_index_or pages page []) → AreOf told page bytes
+pub are_of : (told : Option (List (List ℕ))) (page : ℕ) (bytes : List ℕ) → IfSome told (λ pages. bytes ≡ slice_index_or pages page [])
+    → AreOf told page bytes
 are_of told page bytes shown = λ pages is. subst (λ o. IfSome o (λ ps. bytes ≡ slice_index_or ps page [])) is shown
 
 pub sound_on : {T : Type 0} (r : Result T Stop) (old new : Option (List (List ℕ))) (page height size : ℕ) (bytes : List ℕ) (k : Key) (child : ℕ)
@@ -182,7 +187,8 @@ pub record Ended (old new : Option (List (List ℕ))) (page height child : ℕ) 
 some_same : (c d : ℕ) → Some c ≡ Some d → c ≡ d
 some_same c d h = cc
 
-pub ended : (old new : Option (List (List ℕ))) (page height size : ℕ) (bytes : List ℕ) (child : ℕ) (rs : List Record) → IsRead old new page height size bytes
+pub ended : (old new : Option (List (List ℕ))) (page height size : ℕ) (bytes : List ℕ) (child : ℕ) (rs : List Record)
+    → IsRead old new page height size bytes
     → ((inner : Inner) → inner_of size bytes ≡ Some inner → Some child ≡ Some (slice_index inner.children (length inner.children - 1)))
     → Spells old page height rs → Ended old new page height child
 ended old new page height size bytes child rs r f s =
@@ -226,15 +232,6 @@ touched_last (Err e) old new page height size bytes child h0 h1 h2 r is t f = f
 touched_last (Ok x) old new page height size bytes child h0 h1 h2 r is t f = λ rs s.
     let a = ended old new page height size bytes child rs r is s in
     last_touched (Ok x) old new page height child (length a.inner.children) a.inner h0 h1 h2 a.at t (f a.here a.spells)
-
-pub again_last : (old new : Option (List (List ℕ))) (page height size : ℕ) (bytes : List ℕ) (child : ℕ) (h0 h1 : Option (List ℕ)) (a b c : Option ℕ)
-    → IsRead old new page height size bytes → IsLast size bytes child
-    → Goes (Touches page) h0 h1 → OneFree page h0 a b
-    → ((rs : List Record) → Spells new child (height - 1) rs → ReadsNone (λ pages. last_pages pages (height - 1) child) new h1 b c)
-    → (rs : List Record) → Spells old page height rs → ReadsNone (λ pages. last_pages pages height page) old h0 a c
-again_last old new page height size bytes child h0 h1 a b c r is t f g = λ rs s.
-    let at = ended old new page height size bytes child rs r is s in
-    last_again old new page height child (length at.inner.children) at.inner h0 h1 a b c at.at t f (g at.here at.spells)
 
 -- a child of a well formed page is a page
 pub child_page : (size : ℕ) (cs : List ℕ) (i : ℕ) → are_pages size cs ≡ true → i < length cs → (1 ≤ slice_index cs i) × (slice_index cs i < size)
@@ -295,7 +292,8 @@ module _ (k : Key) (inner : Inner) (i child : ℕ) where
       differ : (q : ℕ) → None ≡ Some q → ⊥
       differ q h = cc
 
-  pub later_fork : (prior : ℕ) → IsPlace inner.keys k i → i ≡ place_of k inner → child ≡ slice_index inner.children i → i ≢ 0 → prior ≡ slice_index inner.children (i - 1) → IsFork k inner child (Some prior)
+  pub later_fork : (prior : ℕ) → IsPlace inner.keys k i → i ≡ place_of k inner → child ≡ slice_index inner.children i → i ≢ 0
+      → prior ≡ slice_index inner.children (i - 1) → IsFork k inner child (Some prior)
   later_fork prior p n e ne is = record {
     place = i;
     is_place = p;
@@ -311,15 +309,24 @@ module _ (k : Key) (inner : Inner) (i child : ℕ) where
 pub gap_before : (k : Key) (rs : List Record) (i : ℕ) → IsGap k rs i → i ≢ 0 → i - 1 < length rs
 gap_before k rs i g ne = omega (arith, g.in_range)
 
-pub read_ok : (old new : Option (List (List ℕ))) (page height size n : ℕ) (bytes : List ℕ) → 1 ≤ height → height ≢ 1 → new ≡ old
-    → IfSome old (λ pages. length pages ≡ n) → size ≡ n → AreOf old page bytes → IsRead old new page height size bytes
-read_ok old new page height size n bytes some above told many e are = record {
-  some = some;
-  above = above;
-  told = told;
-  many = subst (λ m. IfSome old (λ pages. length pages ≡ m)) (sym e) many;
-  are = are;
-}
+module _ (old new : Option (List (List ℕ))) (page height size : ℕ) where
+  pub again_last : (bytes : List ℕ) (child : ℕ) (h0 h1 : Option (List ℕ)) (a b c : Option ℕ) → IsRead old new page height size bytes
+      → IsLast size bytes child → Goes (Touches page) h0 h1 → OneFree page h0 a b
+      → ((rs : List Record) → Spells new child (height - 1) rs → ReadsNone (λ pages. last_pages pages (height - 1) child) new h1 b c)
+      → (rs : List Record) → Spells old page height rs → ReadsNone (λ pages. last_pages pages height page) old h0 a c
+  again_last bytes child h0 h1 a b c r is t f g = λ rs s.
+      let at = ended old new page height size bytes child rs r is s in
+      last_again old new page height child (length at.inner.children) at.inner h0 h1 a b c at.at t f (g at.here at.spells)
+
+  pub read_ok : (n : ℕ) (bytes : List ℕ) → 1 ≤ height → height ≢ 1 → new ≡ old → IfSome old (λ pages. length pages ≡ n) → size ≡ n
+      → AreOf old page bytes → IsRead old new page height size bytes
+  read_ok n bytes some above told many e are = record {
+    some = some;
+    above = above;
+    told = told;
+    many = subst (λ m. IfSome old (λ pages. length pages ≡ m)) (sym e) many;
+    are = are;
+  }
 
 -- a leaf has a last record
 pub leaf_has_last : (bytes : List ℕ) → ((rs : List Record) → leaf_of bytes ≡ Some rs → None ≡ last_or None rs) → (rs : List Record)

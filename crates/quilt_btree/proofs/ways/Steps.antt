@@ -110,7 +110,8 @@ step_above (Ok v) k start next g f = λ h. f (g h)
 
 module _ (told : Option (List (List ℕ))) (page height : ℕ) (bytes : List ℕ) where
   -- the leaf itself
-  here_led : (k : Key) (high : Option Key) → height ≡ 1 → AreOf told page bytes → (rs : List Record) (s : Spells told page height rs) → s.bounds.high ≡ high → LeadsTo k rs (records_of bytes) high high
+  here_led : (k : Key) (high : Option Key) → height ≡ 1 → AreOf told page bytes → (rs : List Record) (s : Spells told page height rs)
+      → s.bounds.high ≡ high → LeadsTo k rs (records_of bytes) high high
   here_led k high one are rs s top =
       let is = leaf_here told page height bytes rs one are s in
       subst (λ l. LeadsTo k rs l high high) (sym (leaf_records bytes rs is))
@@ -170,7 +171,8 @@ first_over k next (l ∷ ks) zero h is =
     one l next h = cc
 first_over k next (l ∷ ks) (suc i) h is = first_over k next ks i h is
 
-pub next_is_above : (inner : Inner) (k next : Key) (i : ℕ) → IsPlace inner.keys k i → slice_get inner.keys i ≡ Some next → is_lt (key_cmp k next) ≡ false → ⊥
+pub next_is_above : (inner : Inner) (k next : Key) (i : ℕ) → IsPlace inner.keys k i → slice_get inner.keys i ≡ Some next
+    → is_lt (key_cmp k next) ≡ false → ⊥
 next_is_above inner k next i p is not = let h = first_over k next inner.keys i p.behind is in no (is_lt (key_cmp k next)) h not
   where
     no : (b : Bool) → b ≡ true → b ≡ false → ⊥

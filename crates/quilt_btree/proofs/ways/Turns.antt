@@ -24,10 +24,18 @@ pub record AtLast (old new : Option (List (List ℕ))) (page height child n : �
   pub many : n ≡ length inner.children
   pub is_child : child ≡ slice_index inner.children (n - 1)
 
-last_parts : (old new : Option (List (List ℕ))) (page height child n : ℕ) (inner : Inner) → AtLast old new page height child n inner
-    → (pages : List (List ℕ)) → old ≡ Some pages
-    → last_pages pages height page ≡ page ∷ last_pages pages (height - 1) child
-last_parts old new page height child n inner a pages is = last_splits pages height page child n inner a.some a.above (a.reads pages is) a.many a.is_child
+module _ (old new : Option (List (List ℕ))) (page height child n : ℕ) (inner : Inner) where
+  last_parts : AtLast old new page height child n inner → (pages : List (List ℕ)) → old ≡ Some pages
+      → last_pages pages height page ≡ page ∷ last_pages pages (height - 1) child
+  last_parts a pages is = last_splits pages height page child n inner a.some a.above (a.reads pages is) a.many a.is_child
+
+  pub last_again : (h0 h1 : Option (List ℕ)) (a b c : Option ℕ) → AtLast old new page height child n inner → Goes (Touches page) h0 h1
+      → OneFree page h0 a b → ReadsNone (λ pages. last_pages pages (height - 1) child) new h1 b c
+      → ReadsNone (λ pages. last_pages pages height page) old h0 a c
+  last_again h0 h1 a b c at t f g = λ pages is.
+      more_free (last_pages pages height page) (page ∷ []) (last_pages pages (height - 1) child) h0 h1 a b c
+      (last_parts at pages is)
+      (one_turn (page ∷ []) page h0 h1 refl t) (one_free (page ∷ []) [] page h0 a b refl f) (g pages (at.told ∙ is))
 
 pub last_touched : (r : Result Record Stop) (old new : Option (List (List ℕ))) (page height child n : ℕ) (inner : Inner) (h0 h1 h2 : Option (List ℕ))
     → AtLast old new page height child n inner
@@ -39,33 +47,30 @@ last_touched (Ok x) old new page height child n inner h0 h1 h2 a t f = λ pages 
     (last_parts old new page height child n inner a pages is)
     (one_turn (page ∷ []) page h0 h1 refl t) (f pages (a.told ∙ is))
 
-pub last_again : (old new : Option (List (List ℕ))) (page height child n : ℕ) (inner : Inner) (h0 h1 : Option (List ℕ)) (a b c : Option ℕ)
-    → AtLast old new page height child n inner
-    → Goes (Touches page) h0 h1 → OneFree page h0 a b → ReadsNone (λ pages. last_pages pages (height - 1) child) new h1 b c
-    → ReadsNone (λ pages. last_pages pages height page) old h0 a c
-last_again old new page height child n inner h0 h1 a b c at t f g = λ pages is.
-    more_free (last_pages pages height page) (page ∷ []) (last_pages pages (height - 1) child) h0 h1 a b c
-    (last_parts old new page height child n inner at pages is)
-    (one_turn (page ∷ []) page h0 h1 refl t) (one_free (page ∷ []) [] page h0 a b refl f) (g pages (at.told ∙ is))
-
 -- the child to which the key leads
 abbrev before_in : List (List ℕ) → Key → ℕ → Inner → ℕ → List ℕ
 before_in pages k height inner i = before_child (finds_floor pages k (height - 1)) (last_pages pages (height - 1)) inner i
 
 module _ (old new : Option (List (List ℕ))) (page height child i : ℕ) (k : Key) (inner : Inner) where
-  floor_parts : AtFloor old new page height child i k inner → i ≡ place_of k inner → (pages : List (List ℕ)) → old ≡ Some pages → floor_pages pages k height page ≡ page ∷ (floor_pages pages k (height - 1) child ++ before_in pages k height inner i)
+  floor_parts : AtFloor old new page height child i k inner → i ≡ place_of k inner → (pages : List (List ℕ)) → old ≡ Some pages
+      → floor_pages pages k height page ≡ page ∷ (floor_pages pages k (height - 1) child ++ before_in pages k height inner i)
   floor_parts a place pages is =
       floor_splits pages k height page child i inner a.some a.above (a.reads pages is) place a.is_child
 
   -- no more is read than under it
-  pub floor_touched : (h0 h1 h2 : Option (List ℕ)) → AtFloor old new page height child i k inner → i ≡ place_of k inner → Goes (Touches page) h0 h1 → TouchesInTurn (λ pages. floor_pages pages k (height - 1) child) new h1 h2 → ((pages : List (List ℕ)) → new ≡ Some pages → before_in pages k height inner i ≡ []) → TouchesInTurn (λ pages. floor_pages pages k height page) old h0 h2
+  pub floor_touched : (h0 h1 h2 : Option (List ℕ)) → AtFloor old new page height child i k inner → i ≡ place_of k inner → Goes (Touches page) h0 h1
+      → TouchesInTurn (λ pages. floor_pages pages k (height - 1) child) new h1 h2
+      → ((pages : List (List ℕ)) → new ≡ Some pages → before_in pages k height inner i ≡ [])
+      → TouchesInTurn (λ pages. floor_pages pages k height page) old h0 h2
   floor_touched h0 h1 h2 a place t f none = λ pages is.
       let under = floor_pages pages k (height - 1) child in
       let parts : floor_pages pages k height page ≡ page ∷ under = floor_parts a place pages is
       ∙ ap (λ l. page ∷ (under ++ l)) (none pages (a.told ∙ is)) ∙ ap (λ l. page ∷ l) (append-nil under) in
       more_turns (floor_pages pages k height page) (page ∷ []) under h0 h1 h2 parts (one_turn (page ∷ []) page h0 h1 refl t) (f pages (a.told ∙ is))
 
-  pub floor_again : (h0 h1 : Option (List ℕ)) (a b c : Option ℕ) → AtFloor old new page height child i k inner → i ≡ place_of k inner → Goes (Touches page) h0 h1 → OneFree page h0 a b → ReadsNone (λ pages. floor_pages pages k (height - 1) child) new h1 b c → ReadsNone (λ pages. floor_pages pages k height page) old h0 a c
+  pub floor_again : (h0 h1 : Option (List ℕ)) (a b c : Option ℕ) → AtFloor old new page height child i k inner → i ≡ place_of k inner
+      → Goes (Touches page) h0 h1 → OneFree page h0 a b → ReadsNone (λ pages. floor_pages pages k (height - 1) child) new h1 b c
+      → ReadsNone (λ pages. floor_pages pages k height page) old h0 a c
   floor_again h0 h1 a b c at place t f g = λ pages is.
       let under = floor_pages pages k (height - 1) child in
       let more = before_in pages k height inner i in
@@ -111,7 +116,8 @@ floor_again_more old new newer page height child prior i k inner h0 h1 h2 a b c 
 abbrev pub Finds : Option (List (List ℕ)) → Key → ℕ → ℕ → Bool → Type 0
 Finds told k height page b = (pages : List (List ℕ)) → told ≡ Some pages → finds_floor pages k height page ≡ b
 
-module _ (old new : Option (List (List ℕ))) (page height child i : ℕ) (k : Key) (inner : Inner) (a : AtFloor old new page height child i k inner) (place : i ≡ place_of k inner) where
+module _ (old new : Option (List (List ℕ))) (page height child i : ℕ) (k : Key) (inner : Inner) (a : AtFloor old new page height child i k inner)
+    (place : i ≡ place_of k inner) where
   finds_parts : (pages : List (List ℕ)) → old ≡ Some pages → finds_floor pages k height page ≡ (nat_lt 0 i || finds_floor pages k (height - 1) child)
   finds_parts pages is =
       finds_splits pages k height page child i inner a.some a.above (a.reads pages is) place a.is_child

@@ -10,12 +10,15 @@ use Rattle.quilt_btree.specs.Trees.{Spells, ReadsInner}
 use Rattle.quilt_btree.proofs.ways.Forks.{IsRead, page_here}
 
 module _ (told : Option (List (List ℕ))) (page size : ℕ) (bytes : List ℕ) where
-  reads_inner : (inner : Inner) → IfSome told (λ pages. length pages ≡ size) → AreOf told page bytes → inner_of size bytes ≡ Some inner → ReadsInner told page inner
+  reads_inner : (inner : Inner) → IfSome told (λ pages. length pages ≡ size) → AreOf told page bytes → inner_of size bytes ≡ Some inner
+      → ReadsInner told page inner
   reads_inner inner many are is = λ pages t.
       let long : length pages ≡ size = subst (λ o. IfSome o (λ pages. length pages ≡ size)) t many in
       ap (λ m. inner_of m (slice_index_or pages page [])) long ∙ ap (inner_of size) (sym (are pages t)) ∙ is
 
-  pub is_way : (k : Key) (place child : ℕ) → IfSome told (λ pages. length pages ≡ size) → AreOf told page bytes → ((inner : Inner) → inner_of size bytes ≡ Some inner → (place ≡ place_of k inner) × IsPlace inner.keys k place × (child ≡ slice_index inner.children place)) → (inner : Inner) → inner_of size bytes ≡ Some inner → IsWay told page k place child inner
+  pub is_way : (k : Key) (place child : ℕ) → IfSome told (λ pages. length pages ≡ size) → AreOf told page bytes
+      → ((inner : Inner) → inner_of size bytes ≡ Some inner → (place ≡ place_of k inner) × IsPlace inner.keys k place × (child ≡ slice_index inner.children place))
+      → (inner : Inner) → inner_of size bytes ≡ Some inner → IsWay told page k place child inner
   is_way k place child many are f inner is =
       let w = f inner is in
       record { reads = reads_inner inner many are is; is_place = w.1; child_is = w.2 }
