@@ -203,58 +203,49 @@ least_first [] k e a some = absurd (omega arith)
 least_first (x ∷ run) k e a some =
     subst (λ m. list_all (λ x. is_le (key_cmp m x)) (edit_keys (x ∷ run)) ≡ true) (sym e) (first_least (edit_keys (x ∷ run)) a (omega arith))
 
--- a step down
-pub step_edited : (r : Result ℕ Stop) (old new now_told : Option (List (List ℕ))) (free then_free now : ℕ → Bool)
-    (size then_size page height count : ℕ) (bytes : List ℕ) (child : ℕ) (k : Key) (high next : Option Key) (run : List Edit) (is_root : Bool)
-    → IsRead old new page height count bytes → IsSame old new free then_free size then_size → StepsTo count bytes k high child next
-    → list_all (λ x. is_le (key_cmp k x)) (edit_keys run) ≡ true
-    → IfOk r (λ n. 1 ≤ n → (b : Bounds) (rs : List Record) (used : List ℕ) → b.high ≡ next → list_all (is_above b.low) (edit_keys run) ≡ true
-    → CanEdit new then_free child (height - 1) false b rs used
-    → DidEdit (take n run) new now_told then_free now child (height - 1) false b rs used)
-    → IfOk r (λ n. 1 ≤ n → (b : Bounds) (rs : List Record) (used : List ℕ) → b.high ≡ high → list_all (is_above b.low) (edit_keys run) ≡ true
-    → CanEdit old free page height is_root b rs used
-    → DidEdit (take n run) old now_told free now page height is_root b rs used)
-step_edited (Err e) old new now_told free then_free now size then_size page height count bytes child k high next run is_root is same step from f = f
-step_edited (Ok n) old new now_told free then_free now size then_size page height count bytes child k high next run is_root is same step from f =
-    λ one b rs used top above can.
-    let h = page_here old new page height count bytes rs is (edit_spells old free page height is_root b rs used can) in
-    let st = step h.inner h.is in
-    under_edited old new now_told free then_free now size then_size page height child st.place k h.inner high next run (take n run) is_root b rs used
-    (record { same = same; some = is.some; above = is.above; reads = h.reads; place = st.is_place; is_child = st.child_is })
-    st.next_is from (all_first (λ x. is_le (key_cmp k x)) n run from) (f one) top above can
+module _ (old new : Option (List (List ℕ))) (free then_free : ℕ → Bool) (size then_size page height count : ℕ) (bytes : List ℕ) (child : ℕ) (k : Key)
+    (high next : Option Key) (run : List Edit) (is_root : Bool) where
+  -- a step down
+  pub step_edited : (r : Result ℕ Stop) (now_told : Option (List (List ℕ))) (now : ℕ → Bool) → IsRead old new page height count bytes
+      → IsSame old new free then_free size then_size → StepsTo count bytes k high child next → list_all (λ x. is_le (key_cmp k x))
+      (edit_keys run) ≡ true
+      → IfOk r (λ n. 1 ≤ n → (b : Bounds) (rs : List Record) (used : List ℕ) → b.high ≡ next → list_all (is_above b.low) (edit_keys run) ≡ true → CanEdit new then_free child (height - 1) false b rs used → DidEdit (take n run) new now_told then_free now child (height - 1) false b rs used)
+      → IfOk r (λ n. 1 ≤ n → (b : Bounds) (rs : List Record) (used : List ℕ) → b.high ≡ high → list_all (is_above b.low) (edit_keys run) ≡ true → CanEdit old free page height is_root b rs used → DidEdit (take n run) old now_told free now page height is_root b rs used)
+  step_edited (Err e) now_told now is same step from f = f
+  step_edited (Ok n) now_told now is same step from f =
+      λ one b rs used top above can.
+      let h = page_here old new page height count bytes rs is (edit_spells old free page height is_root b rs used can) in
+      let st = step h.inner h.is in
+      under_edited old new now_told free then_free now size then_size page height child st.place k h.inner high next run (take n run) is_root b rs used
+      (record { same = same; some = is.some; above = is.above; reads = h.reads; place = st.is_place; is_child = st.child_is })
+      st.next_is from (all_first (λ x. is_le (key_cmp k x)) n run from) (f one) top above can
 
-pub step_fails : (r : Result ℕ Stop) (old new : Option (List (List ℕ))) (free then_free : ℕ → Bool) (size then_size page height count : ℕ)
-    (bytes : List ℕ) (child : ℕ) (k : Key) (high next : Option Key) (run : List Edit) (is_root : Bool)
-    → IsRead old new page height count bytes → IsSame old new free then_free size then_size → StepsTo count bytes k high child next
-    → list_all (λ x. is_le (key_cmp k x)) (edit_keys run) ≡ true
-    → IfErr r (λ e. (b : Bounds) (rs : List Record) (used : List ℕ) → b.high ≡ next → CanEdit new then_free child (height - 1) false b rs used
-    → (q : ℕ) → e ≡ Damaged q → (q ≡ 0) × Fails run b.high rs)
-    → IfErr r (λ e. (b : Bounds) (rs : List Record) (used : List ℕ) → b.high ≡ high → CanEdit old free page height is_root b rs used → (q : ℕ)
-    → e ≡ Damaged q → (q ≡ 0) × Fails run b.high rs)
-step_fails (Ok n) old new free then_free size then_size page height count bytes child k high next run is_root is same step from f = f
-step_fails (Err e) old new free then_free size then_size page height count bytes child k high next run is_root is same step from f =
-    λ b rs used top can q damaged.
-    let h = page_here old new page height count bytes rs is (edit_spells old free page height is_root b rs used can) in
-    let st = step h.inner h.is in
-    under_fails old new free then_free size then_size page height child st.place k h.inner high next run is_root b rs used e q
-    (record { same = same; some = is.some; above = is.above; reads = h.reads; place = st.is_place; is_child = st.child_is })
-    st.next_is from f top can damaged
+  pub step_fails : (r : Result ℕ Stop) → IsRead old new page height count bytes → IsSame old new free then_free size then_size
+      → StepsTo count bytes k high child next → list_all (λ x. is_le (key_cmp k x)) (edit_keys run) ≡ true
+      → IfErr r (λ e. (b : Bounds) (rs : List Record) (used : List ℕ) → b.high ≡ next → CanEdit new then_free child (height - 1) false b rs used → (q : ℕ) → e ≡ Damaged q → (q ≡ 0) × Fails run b.high rs)
+      → IfErr r (λ e. (b : Bounds) (rs : List Record) (used : List ℕ) → b.high ≡ high → CanEdit old free page height is_root b rs used → (q : ℕ) → e ≡ Damaged q → (q ≡ 0) × Fails run b.high rs)
+  step_fails (Ok n) is same step from f = f
+  step_fails (Err e) is same step from f =
+      λ b rs used top can q damaged.
+      let h = page_here old new page height count bytes rs is (edit_spells old free page height is_root b rs used can) in
+      let st = step h.inner h.is in
+      under_fails old new free then_free size then_size page height child st.place k h.inner high next run is_root b rs used e q
+      (record { same = same; some = is.some; above = is.above; reads = h.reads; place = st.is_place; is_child = st.child_is })
+      st.next_is from f top can damaged
 
-pub fails_leaf : (r : Result ℕ Stop) (told : Option (List (List ℕ))) (free : ℕ → Bool) (page height : ℕ) (high : Option Key) (run : List Edit)
-    (is_root : Bool) → height ≡ 1
-    → IfErr r (λ e. (b : Bounds) (rs : List Record) (used : List ℕ) → b.high ≡ high → CanEdit told free page 1 is_root b rs used → (q : ℕ)
-    → e ≡ Damaged q → (q ≡ 0) × Fails run b.high rs)
-    → IfErr r (λ e. (b : Bounds) (rs : List Record) (used : List ℕ) → b.high ≡ high → CanEdit told free page height is_root b rs used → (q : ℕ)
-    → e ≡ Damaged q → (q ≡ 0) × Fails run b.high rs)
-fails_leaf (Ok n) told free page height high run is_root one f = f
-fails_leaf (Err e) told free page height high run is_root one f =
-    λ b rs used top can. f b rs used top (subst (λ h. CanEdit told free page h is_root b rs used) one can)
+module _ (high : Option Key) (run : List Edit) where
+  pub fails_leaf : (r : Result ℕ Stop) (told : Option (List (List ℕ))) (free : ℕ → Bool) (page height : ℕ) (is_root : Bool) → height ≡ 1
+      → IfErr r (λ e. (b : Bounds) (rs : List Record) (used : List ℕ) → b.high ≡ high → CanEdit told free page 1 is_root b rs used → (q : ℕ) → e ≡ Damaged q → (q ≡ 0) × Fails run b.high rs)
+      → IfErr r (λ e. (b : Bounds) (rs : List Record) (used : List ℕ) → b.high ≡ high → CanEdit told free page height is_root b rs used → (q : ℕ) → e ≡ Damaged q → (q ≡ 0) × Fails run b.high rs)
+  fails_leaf (Ok n) told free page height is_root one f = f
+  fails_leaf (Err e) told free page height is_root one f =
+      λ b rs used top can. f b rs used top (subst (λ h. CanEdit told free page h is_root b rs used) one can)
 
--- the edits that the leaf does not take
-pub fails_here : (high top : Option Key) (run : List Edit) (leaf rs : List Record) (n : ℕ) → top ≡ high → leaf ≡ rs
-    → are_due (take n run) leaf ≡ false → list_all (is_below high) (edit_keys (take n run)) ≡ true → Fails run top rs
-fails_here high top run leaf rs n e same missing under = record {
-  number = n;
-  missing = subst (λ (l : List Record). are_due (take n run) l ≡ false) same missing;
-  under = subst (λ o. list_all (is_below o) (edit_keys (take n run)) ≡ true) (sym e) under;
-}
+  -- the edits that the leaf does not take
+  pub fails_here : (top : Option Key) (leaf rs : List Record) (n : ℕ) → top ≡ high → leaf ≡ rs → are_due (take n run) leaf ≡ false
+      → list_all (is_below high) (edit_keys (take n run)) ≡ true → Fails run top rs
+  fails_here top leaf rs n e same missing under = record {
+    number = n;
+    missing = subst (λ (l : List Record). are_due (take n run) l ≡ false) same missing;
+    under = subst (λ o. list_all (is_below o) (edit_keys (take n run)) ≡ true) (sym e) under;
+  }

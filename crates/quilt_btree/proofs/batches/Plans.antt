@@ -132,29 +132,29 @@ pub record IsMade (bytes : List ℕ) (leaf : List Record) (run : List Edit) (i :
 pub made_none : (bytes : List ℕ) (leaf : List Record) (run : List Edit) → leaf_of bytes ≡ Some leaf → IsMade bytes leaf run 0
 made_none bytes leaf run is = record { now = leaf; is_leaf = is; edited = record { is = refl; due = refl }; many = refl }
 
-pub made_next : (first bytes new : List ℕ) (leaf : List Record) (run : List Edit) (i : ℕ) → leaf_of first ≡ Some leaf → i < length run
-    → (m : IsMade bytes leaf run i) → is_due (edit_at run i) m.now ≡ true → leaf_of new ≡ Some (edited (edit_at run i) m.now)
-    → IsMade new leaf run (i + 1)
-made_next first bytes new leaf run i was lt m due is =
-    let e = edited_next leaf m.now (edited (edit_at run i) m.now) run i lt m.edited due refl in
-    record {
-      now = edited (edit_at run i) m.now;
-      is_leaf = is;
-      edited = e;
-      many = ap length e.is ∙ size_all (take (i + 1) run) leaf (leaf_list first leaf was).ascends e.due;
-    }
-
 -- there is room for the next edit
 pub room_next : (bytes : List ℕ) (leaf : List Record) (run : List Edit) (i : ℕ) → i < length run → HasRoomFor run (length leaf)
     → (m : IsMade bytes leaf run i) → HasRoom (edit_at run i) (length m.now)
 room_next bytes leaf run i lt h m = subst (HasRoom (edit_at run i)) (sym m.many) (room_at run i (length leaf) lt h)
 
--- what the planned edits make of a leaf
-pub leaf_planned : (bytes new : List ℕ) (rs : List Record) (run : List Edit) (n many least : ℕ) → leaf_of bytes ≡ Some rs → many ≡ length rs
-    → (1 ≤ n → least ≤ size_after (take n run) many) → (leaf_of new ≡ Some (edit_all (take n run) rs)) × (are_due (take n run) rs ≡ true)
-    → EditsLeaf least run n rs new
-leaf_planned bytes new rs run n many least was is enough made = record {
-  is = made.0;
-  due = made.1;
-  enough = λ one. subst (λ k. least ≤ k) (ap (size_after (take n run)) is ∙ sym (size_all (take n run) rs (leaf_list bytes rs was).ascends made.1)) (enough one);
-}
+module _ (bytes new : List ℕ) (run : List Edit) where
+  pub made_next : (first : List ℕ) (leaf : List Record) (i : ℕ) → leaf_of first ≡ Some leaf → i < length run → (m : IsMade bytes leaf run i)
+      → is_due (edit_at run i) m.now ≡ true → leaf_of new ≡ Some (edited (edit_at run i) m.now) → IsMade new leaf run (i + 1)
+  made_next first leaf i was lt m due is =
+      let e = edited_next leaf m.now (edited (edit_at run i) m.now) run i lt m.edited due refl in
+      record {
+        now = edited (edit_at run i) m.now;
+        is_leaf = is;
+        edited = e;
+        many = ap length e.is ∙ size_all (take (i + 1) run) leaf (leaf_list first leaf was).ascends e.due;
+      }
+
+  -- what the planned edits make of a leaf
+  pub leaf_planned : (rs : List Record) (n many least : ℕ) → leaf_of bytes ≡ Some rs → many ≡ length rs
+      → (1 ≤ n → least ≤ size_after (take n run) many) → (leaf_of new ≡ Some (edit_all (take n run) rs)) × (are_due (take n run) rs ≡ true)
+      → EditsLeaf least run n rs new
+  leaf_planned rs n many least was is enough made = record {
+    is = made.0;
+    due = made.1;
+    enough = λ one. subst (λ k. least ≤ k) (ap (size_after (take n run)) is ∙ sym (size_all (take n run) rs (leaf_list bytes rs was).ascends made.1)) (enough one);
+  }

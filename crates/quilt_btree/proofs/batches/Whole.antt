@@ -203,16 +203,6 @@ fails_all run high rs l =
     ap (λ m. are_due m rs) (sym (take-append-drop l.number run)) ∙ are_due-append (take l.number run) (drop l.number run) rs
     ∙ ap (λ b. b && are_due (drop l.number run) (edit_all (take l.number run) rs)) l.missing
 
-pub whole_fails : (e : Stop) (told : Option (List (List ℕ))) (free : ℕ → Bool) (size : ℕ) (t : Tree) (rs : List Record) (run : List Edit)
-    → IsRemoving free size t
-    → ((b : Bounds) (rs : List Record) (used : List ℕ) → b.high ≡ None → CanEdit told free t.root t.height true b rs used → (q : ℕ) → e ≡ Damaged q
-    → (q ≡ 0) × Fails run b.high rs)
-    → IsWhole told free size t rs → (q : ℕ) → e ≡ Damaged q → (q ≡ 0) × (are_due run rs ≡ false)
-whole_fails e told free size t rs run i f w q is =
-    let a = at_root told free size t rs i w in
-    let h = f everywhere rs a.used refl a.can q is in
-    (h.0, fails_all run None rs h.1)
-
 -- nothing changed before
 pub stays_edited : (r : Result ℕ Stop) (told mid now_told : Option (List (List ℕ))) (free was now : ℕ → Bool) (size at : ℕ) (t u : Tree)
     (run : List Edit) → mid ≡ told → was ≡ free → at ≡ size
@@ -298,10 +288,6 @@ rest_fails e told mid free was size at i t u run same made f rs w page is =
     late true b h = h
     late false b h = refl
 
-pub made_all : (told now_told : Option (List (List ℕ))) (free now : ℕ → Bool) (size i : ℕ) (t u : Tree) (run : List Edit) → length run ≤ i
-    → IsMade told now_told free now size t u (take i run) → IsMade told now_told free now size t u run
-made_all told now_told free now size i t u run le made = subst (IsMade told now_told free now size t u) (take_all i run le) made
-
 pub rest_cost : (run : List Edit) (i n : ℕ) → cost (take (i + n) run) ≡ cost (take i run) + cost (take n (rest run i))
 rest_cost run i n =
     ap cost (take-add i n run) ∙ cost-append (take i run) (take n (drop i run)) ∙ ap (λ l. cost (take i run) + cost (take n l)) (sym (take_rest run i))
@@ -313,14 +299,27 @@ rest_looks run i n =
 pub rest_cost_all : (run : List Edit) (i : ℕ) → cost (take i run) + cost (rest run i) ≡ cost run
 rest_cost_all run i = ap (λ l. cost (take i run) + cost l) (take_rest run i) ∙ cost_take i run
 
-pub rest_room : (told mid : Option (List (List ℕ))) (free was : ℕ → Bool) (size i : ℕ) (t u : Tree) (run : List Edit)
-    → IsMade told mid free was size t u (take i run) → t.records + more run ≤ quota size → u.records + more (rest run i) ≤ quota size
-rest_room told mid free was size i t u run made room =
-    enough u.records (more (rest run i)) t.records (more run) (fewer (take i run)) (more (take i run)) (quota size) made.count
-    (ap (λ l. more (take i run) + more l) (take_rest run i) ∙ more_take i run) room
-  where
-    enough : (u r t m f a q : ℕ) → u + f ≡ t + a → a + r ≡ m → t + m ≤ q → u + r ≤ q
-    enough u r t m f a q e g h = omega arith
+module _ (told : Option (List (List ℕ))) (free : ℕ → Bool) (size : ℕ) (t : Tree) (run : List Edit) where
+  pub whole_fails : (e : Stop) (rs : List Record) → IsRemoving free size t
+      → ((b : Bounds) (rs : List Record) (used : List ℕ) → b.high ≡ None → CanEdit told free t.root t.height true b rs used → (q : ℕ) → e ≡ Damaged q → (q ≡ 0) × Fails run b.high rs)
+      → IsWhole told free size t rs → (q : ℕ) → e ≡ Damaged q → (q ≡ 0) × (are_due run rs ≡ false)
+  whole_fails e rs i f w q is =
+      let a = at_root told free size t rs i w in
+      let h = f everywhere rs a.used refl a.can q is in
+      (h.0, fails_all run None rs h.1)
+
+  pub made_all : (now_told : Option (List (List ℕ))) (now : ℕ → Bool) (i : ℕ) (u : Tree) → length run ≤ i
+      → IsMade told now_told free now size t u (take i run) → IsMade told now_told free now size t u run
+  made_all now_told now i u le made = subst (IsMade told now_told free now size t u) (take_all i run le) made
+
+  pub rest_room : (mid : Option (List (List ℕ))) (was : ℕ → Bool) (i : ℕ) (u : Tree) → IsMade told mid free was size t u (take i run)
+      → t.records + more run ≤ quota size → u.records + more (rest run i) ≤ quota size
+  rest_room mid was i u made room =
+      enough u.records (more (rest run i)) t.records (more run) (fewer (take i run)) (more (take i run)) (quota size) made.count
+      (ap (λ l. more (take i run) + more l) (take_rest run i) ∙ more_take i run) room
+    where
+      enough : (u r t m f a q : ℕ) → u + f ≡ t + a → a + r ≡ m → t + m ≤ q → u + r ≤ q
+      enough u r t m f a q e g h = omega arith
 
 pub more_next : (run : List Edit) (i : ℕ) → i < length run → more (take (i + 1) run) ≡ more (take i run) + more_of (edit_at run i)
 more_next run i lt =

@@ -95,7 +95,7 @@ module _ (told : Option (List (List ℕ))) (free : ℕ → Bool) (page height : 
       let list = inner_list (length can.pages) (slice_index_or can.pages page []) inner there in
       let within = subst (λ (x : Inner). are_within b x.keys ≡ true) same s.within in
       let row = subst (λ (x : Inner). Row (Subtree can.pages (suc n.0) false) (bounded x.children x.keys b) rs s.under) same s.children in
-      let down = leads_down can.pages n.0 inner (slice_index_or can.pages page []) b i k rs s.under list within p row in
+      let down = leads_down inner b i rs s.under can.pages n.0 (slice_index_or can.pages page []) k list within p row in
       let at = down.at in
       let inside : (p : ℕ) → times p at.here_used ≤ times p used = λ p.
       part (times p used) (times p s.under) (times p (page ∷ [])) (times p at.last_used) (times p at.here_used) (times p at.first_used)

@@ -128,7 +128,7 @@ put_split told now_told free now size page new height inner left right key is_ro
         under = row.first_used;
         children =
             rows_stay pages news p.below size_same (bounded (take 127 cs) (take 126 ks) (record { low = b.low; high = Some key })) row.first row.first_used
-            (both_same pages news free now (under ++ page ∷ []) page new left right row.first_used both page_none.1 new_none.1) row.here;
+            (both_same pages free now (under ++ page ∷ []) page new left right news row.first_used both page_none.1 new_none.1) row.here;
         is_used = refl;
       };
       is_right = record {
@@ -141,7 +141,7 @@ put_split told now_told free now size page new height inner left right key is_ro
         under = row.rest_used;
         children =
             rows_stay pages news p.below size_same (bounded (drop 127 cs) (drop 127 ks) (record { low = Some key; high = b.high })) row.rest row.rest_used
-            (both_same pages news free now (under ++ page ∷ []) page new left right row.rest_used both page_none.0 new_none.0) row.after;
+            (both_same pages free now (under ++ page ∷ []) page new left right news row.rest_used both page_none.0 new_none.0) row.after;
         is_used = refl;
       };
       records = row.records;

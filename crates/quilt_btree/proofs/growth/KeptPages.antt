@@ -64,21 +64,22 @@ kept_again pages news now_told free now root height records used uses all is som
       apart = λ p. subst (λ u. account now u p ≤ 1) (sym (append-nil uses)) (still p);
     }
 
-pub same_tree : (told now_told : Option (List (List ℕ))) (free now : ℕ → Bool) (t : Tree) (rs : List Record) → now_told ≡ told → now ≡ free
-    → HasItsPages told free t rs → HasItsPages now_told now t rs
-same_tree told now_told free now t rs p q w = subst (λ o. HasItsPages o now t rs) (sym p) (subst (λ g. HasItsPages told g t rs) (sym q) w)
-
 -- An insertion.
 pub insert_can : (told : Option (List (List ℕ))) (free : ℕ → Bool) (size : ℕ) (t : Tree) (k : Key) (rs : List Record)
     → t.height < count_free free size → (a : AtRoot told free t rs) → CanInsert told free size t.root t.height true everywhere k rs a.used
 insert_can told free size t k rs room a = record { can_edit = a.can; low = refl; high = refl; room = omega arith }
 
-pub sound_kept : (e : Stop) (told : Option (List (List ℕ))) (free : ℕ → Bool) (size : ℕ) (t : Tree) (k : Key) (rs : List Record) → t.height ≢ 0
-    → ((is_root : Bool) (b : Bounds) (rs : List Record) (used : List ℕ) → CanInsert told free size t.root t.height is_root b k rs used → AreFew rs → IsSound e)
-    → AreFew rs → t.height < count_free free size → HasItsPages told free t rs → IsSound e
-sound_kept e told free size t k rs ne f few room w =
-    let a = at_root told free t rs ne w in
-    f true everywhere rs a.used (insert_can told free size t k rs room a) few
+module _ (told : Option (List (List ℕ))) (free : ℕ → Bool) (t : Tree) (rs : List Record) where
+  pub same_tree : (now_told : Option (List (List ℕ))) (now : ℕ → Bool) → now_told ≡ told → now ≡ free → HasItsPages told free t rs
+      → HasItsPages now_told now t rs
+  same_tree now_told now p q w = subst (λ o. HasItsPages o now t rs) (sym p) (subst (λ g. HasItsPages told g t rs) (sym q) w)
+
+  pub sound_kept : (e : Stop) (size : ℕ) (k : Key) → t.height ≢ 0
+      → ((is_root : Bool) (b : Bounds) (rs : List Record) (used : List ℕ) → CanInsert told free size t.root t.height is_root b k rs used → AreFew rs → IsSound e)
+      → AreFew rs → t.height < count_free free size → HasItsPages told free t rs → IsSound e
+  sound_kept e size k ne f few room w =
+      let a = at_root told free t rs ne w in
+      f true everywhere rs a.used (insert_can told free size t k rs room a) few
 
 pub kept_split : (r : Record) (told mid_told now_told : Option (List (List ℕ))) (free mid now : ℕ → Bool) (size : ℕ) (t : Tree) (rs : List Record)
     (key : Key) (right new : ℕ) (bytes : List ℕ) (h : ℕ) → IsRooted size t → TellsAll told size → t.height ≡ suc h
@@ -182,7 +183,7 @@ module _ (k : Key) (told now_told : Option (List (List ℕ))) (free now : ℕ �
   out_missing ne f same same_free w =
       let a = at_root told free t rs ne w in
       let none = f true everywhere rs a.used a.can in
-      subst (λ l. HasItsPages now_told now t l) (sym (without_missing k rs none)) (same_tree told now_told free now t rs same same_free w)
+      subst (λ l. HasItsPages now_told now t l) (sym (without_missing k rs none)) (same_tree told free t rs now_told now same same_free w)
 
   became : (a : AtRoot told free t rs) (pages news : List (List ℕ)) → t.height ≢ 0 → now_told ≡ Some news
       → Becomes pages news free now t.root t.height true everywhere a.used (without k rs)

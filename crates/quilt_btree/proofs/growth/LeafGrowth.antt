@@ -80,42 +80,6 @@ pub record IsGrowing (told : Option (List (List ℕ))) (size page : ℕ) (r : Re
   pub many : TellsAll told size
   pub gap : IsGap r.key rs i
 
--- the one leaf was written
-pub leaf_done : (told now_told : Option (List (List ℕ))) (free now : ℕ → Bool) (size page i : ℕ) (r : Record) (bytes : List ℕ) (is_root : Bool)
-    (b : Bounds) (rs : List Record) (used : List ℕ)
-    → IsGrowing told size page r rs i → leaf_of bytes ≡ Some (insert rs i r) → Goes (λ old new. new ≡ slice_set old page bytes) told now_told → now ≡ free
-    → CanInsert told free size page 1 is_root b r.key rs used → DidInsert r told now_told free now page 1 is_root b rs used inserted.Done
-leaf_done told now_told free now size page i r bytes is_root b rs used is leaf wrote same can =
-    let pages = can.can_edit.pages in
-    let s = can.can_edit.subtree in
-    let written = tells_at (λ old new. new ≡ slice_set old page bytes) told now_told pages wrote can.can_edit.is_told in
-    let here : 1 ≤ times page used = subst (λ u. 1 ≤ times page u) (sym s.is_used) (first (times page (page ∷ [])) (times_here page [])) in
-    let is_put : insert rs i r ≡ put r rs = put_gap r rs i is.gap in
-    let grown : Becomes pages (slice_set pages page bytes) free free page 1 is_root b used (insert rs i r) = record {
-      uses = used;
-      subtree = record {
-        page = ap leaf_of (get_or-set_same pages page bytes [] (all_told told size page pages is.many can.can_edit.is_told is.inside)) ∙ leaf;
-        enough = more_enough is_root (length rs) (length (insert rs i r)) (length_insert rs i r is.gap.in_range) s.enough;
-        within = within_insert b r rs i can.low can.high s.within;
-        is_used = s.is_used;
-      };
-      moves = moves_written pages free used page bytes (used_account free used page here);
-    } in
-    record {
-      pages = pages;
-      news = slice_set pages page bytes;
-      was = can.can_edit.is_told;
-      is = written.1 ∙ ap Some written.2;
-      done = (
-        gap_any r.key rs i is.gap,
-        subst (λ l. Becomes pages (slice_set pages page bytes) free now page 1 is_root b used l) is_put
-            (subst (λ f. Becomes pages (slice_set pages page bytes) free f page 1 is_root b used (insert rs i r)) (sym same) grown),
-      );
-    }
-  where
-    first : (t : ℕ) → t ≡ 1 + 0 → 1 ≤ t
-    first t e = omega arith
-
 -- the leaf and the one to its right
 pub record AreHalves (r : Record) (rs : List Record) (i : ℕ) (left right : List ℕ) (key : Key) (start : Record) : Type 0 where
   pub full : length rs ≡ 144
@@ -209,18 +173,53 @@ leaf_split told now_told free now size page new i r left right key start is_root
     enough_right : (n t : ℕ) → n ≡ 145 → t ≡ n - 72 → 72 ≤ t
     enough_right n t e f = omega arith
 
--- the key is there
-pub leaf_there : (told now_told : Option (List (List ℕ))) (free now : ℕ → Bool) (size page i : ℕ) (r : Record) (leaf : List Record) (is_root : Bool)
-    (b : Bounds) (rs : List Record) (used : List ℕ)
-    → now_told ≡ told → leaf ≡ rs → IsFound r.key leaf i
-    → CanInsert told free size page 1 is_root b r.key rs used → DidInsert r told now_told free now page 1 is_root b rs used inserted.There
-leaf_there told now_told free now size page i r leaf is_root b rs used t same found can = record {
-  pages = can.can_edit.pages;
-  news = can.can_edit.pages;
-  was = can.can_edit.is_told;
-  is = t ∙ can.can_edit.is_told;
-  done = subst (λ l. list_any (has_key r.key) l ≡ true) same (found_any r.key leaf i found.found found found.here);
-}
+module _ (told now_told : Option (List (List ℕ))) (free now : ℕ → Bool) (size page i : ℕ) (r : Record) (is_root : Bool) (b : Bounds)
+    (rs : List Record) (used : List ℕ) where
+  -- the one leaf was written
+  pub leaf_done : (bytes : List ℕ) → IsGrowing told size page r rs i → leaf_of bytes ≡ Some (insert rs i r)
+      → Goes (λ old new. new ≡ slice_set old page bytes) told now_told → now ≡ free → CanInsert told free size page 1 is_root b r.key rs used
+      → DidInsert r told now_told free now page 1 is_root b rs used inserted.Done
+  leaf_done bytes is leaf wrote same can =
+      let pages = can.can_edit.pages in
+      let s = can.can_edit.subtree in
+      let written = tells_at (λ old new. new ≡ slice_set old page bytes) told now_told pages wrote can.can_edit.is_told in
+      let here : 1 ≤ times page used = subst (λ u. 1 ≤ times page u) (sym s.is_used) (first (times page (page ∷ [])) (times_here page [])) in
+      let is_put : insert rs i r ≡ put r rs = put_gap r rs i is.gap in
+      let grown : Becomes pages (slice_set pages page bytes) free free page 1 is_root b used (insert rs i r) = record {
+        uses = used;
+        subtree = record {
+          page = ap leaf_of (get_or-set_same pages page bytes [] (all_told told size page pages is.many can.can_edit.is_told is.inside)) ∙ leaf;
+          enough = more_enough is_root (length rs) (length (insert rs i r)) (length_insert rs i r is.gap.in_range) s.enough;
+          within = within_insert b r rs i can.low can.high s.within;
+          is_used = s.is_used;
+        };
+        moves = moves_written pages free used page bytes (used_account free used page here);
+      } in
+      record {
+        pages = pages;
+        news = slice_set pages page bytes;
+        was = can.can_edit.is_told;
+        is = written.1 ∙ ap Some written.2;
+        done = (
+          gap_any r.key rs i is.gap,
+          subst (λ l. Becomes pages (slice_set pages page bytes) free now page 1 is_root b used l) is_put
+              (subst (λ f. Becomes pages (slice_set pages page bytes) free f page 1 is_root b used (insert rs i r)) (sym same) grown),
+        );
+      }
+    where
+      first : (t : ℕ) → t ≡ 1 + 0 → 1 ≤ t
+      first t e = omega arith
+
+  -- the key is there
+  pub leaf_there : (leaf : List Record) → now_told ≡ told → leaf ≡ rs → IsFound r.key leaf i → CanInsert told free size page 1 is_root b r.key rs used
+      → DidInsert r told now_told free now page 1 is_root b rs used inserted.There
+  leaf_there leaf t same found can = record {
+    pages = can.can_edit.pages;
+    news = can.can_edit.pages;
+    was = can.can_edit.is_told;
+    is = t ∙ can.can_edit.is_told;
+    done = subst (λ l. list_any (has_key r.key) l ≡ true) same (found_any r.key leaf i found.found found found.here);
+  }
 
 module _ (told : Option (List (List ℕ))) (free : ℕ → Bool) (size page : ℕ) (k : Key) where
   -- a leaf that was read is the one that the subtree has

@@ -60,7 +60,7 @@ module _ (told then_told : Option (List (List ℕ))) (free then_free : ℕ → B
   pub child_can : (x : IsBelow told free page height is_root b k rs used inner i)
       → CanInsert then_told then_free then_size child (height - 1) false (child_bounds inner b i) k x.at.here x.at.here_used
   child_can x =
-      can_along told then_told free then_free size then_size child (height - 1) false (child_bounds inner b i) k x.at.here x.at.here_used l.same (record {
+      can_along told then_told free then_free size then_size child (height - 1) false (child_bounds inner b i) x.at.here x.at.here_used k l.same (record {
         can_edit = record {
           pages = x.pages;
           is_told = x.is_told;
@@ -91,8 +91,7 @@ module _ (r : Record) (told then_told now_told : Option (List (List ℕ))) (free
       → ((is_root : Bool) (b : Bounds) (rs : List Record) (used : List ℕ) → CanInsert then_told then_free then_size child (height - 1) is_root b r.key rs used → DidInsert r then_told now_told then_free now child (height - 1) is_root b rs used o)
       → ChildDid r x.pages now_told free now (slice_index inner.children i) (suc x.below) (child_bounds inner b i) x.at.here x.at.here_used o
   child_did o l can x f =
-      let did = did_along r told then_told now_told free then_free now size then_size child (height - 1) false
-      (child_bounds inner b i) x.at.here x.at.here_used o l.same
+      let did = did_along told then_told free then_free size then_size child (height - 1) false (child_bounds inner b i) x.at.here x.at.here_used r now_told now o l.same
       (f false (child_bounds inner b i) x.at.here x.at.here_used
       (child_can told then_told free then_free size then_size page height child i r.key inner is_root b rs used l can x)) in
       let was = did.was in

@@ -117,20 +117,6 @@ all_from k rs leaf start high l h =
     all_append (λ (r : Record). is_le (key_cmp k r.key)) leaf l.behind h
     (all_follow (λ (r : Record). is_lt (key_cmp k r.key)) (λ r. is_le (key_cmp k r.key)) (λ r g. lt_to_le (key_cmp k r.key) g) l.behind l.higher)
 
-pub range_more : (low from high : Key) (most : ℕ) (rs leaf old new : List Record) (start up : Option Key) (l : LeadsTo from rs leaf start up)
-    → list_all (λ (r : Record). is_le (key_cmp from r.key)) leaf ≡ true
-    → is_le (key_cmp low from) ≡ true → IsAsFar low high most from rs old → new ≡ take most (old ++ filter (is_from_to from high) leaf)
-    → new ≡ range_of low high most (l.before ++ leaf)
-unfolding range_of
-range_more low from high most rs leaf old new start up l starts le far is =
-    let same = same_cut from rs far.done far.rest l.before (leaf ++ l.behind) far.records l.records far.lower far.from_here l.lower
-    (all_from from rs leaf start up l starts) in
-    let P = is_from_to low high in
-    is ∙ ap (λ x. take most (x ++ filter (is_from_to from high) leaf)) (far.items_are ∙ ap (λ d. take most (filter P d)) same)
-    ∙ take_again most (filter P l.before) (filter (is_from_to from high) leaf)
-    ∙ ap (λ x. take most (filter P l.before ++ x)) (from_later low from high leaf le starts)
-    ∙ ap (take most) (sym (filter-append P l.before leaf))
-
 module _ (low high : Key) where
   pub none_below : (rs : List Record) → AreBelow low rs → filter (is_from_to low high) rs ≡ []
   none_below rs h =
@@ -145,20 +131,33 @@ module _ (low high : Key) where
       is ∙ ap (take most) (sym
       (filter-append (is_from_to low high) l.before leaf ∙ ap (λ x. x ++ filter (is_from_to low high) leaf) (none_below l.before l.lower)))
 
--- the range goes on from the next key
-pub range_next : (low from high next : Key) (most : ℕ) (rs leaf new : List Record) (start : Option Key) (l : LeadsTo from rs leaf start (Some next))
-    → is_below start from ≡ true
-    → new ≡ range_of low high most (l.before ++ leaf) → IsAsFar low high most next rs new
-range_next low from high next most rs leaf new start l under is = record {
-  done = l.before ++ leaf;
-  rest = l.behind;
-  records = l.records ∙ sym (append_assoc l.before leaf l.behind);
-  lower = all_append (λ (r : Record). is_lt (key_cmp r.key next)) l.before leaf
-      (all_follow (λ (r : Record). is_lt (key_cmp r.key from)) (λ r. is_lt (key_cmp r.key next))
-      (λ r h. lt_le r.key from next h (lt_to_le (key_cmp from next) (l.key_under under))) l.before l.lower) l.here_under;
-  from_here = l.bounded;
-  items_are = is;
-}
+module _ (low from high : Key) (most : ℕ) (rs leaf new : List Record) (start : Option Key) where
+  pub range_more : (old : List Record) (up : Option Key) (l : LeadsTo from rs leaf start up)
+      → list_all (λ (r : Record). is_le (key_cmp from r.key)) leaf ≡ true → is_le (key_cmp low from) ≡ true → IsAsFar low high most from rs old
+      → new ≡ take most (old ++ filter (is_from_to from high) leaf) → new ≡ range_of low high most (l.before ++ leaf)
+  unfolding range_of
+  range_more old up l starts le far is =
+      let same = same_cut from rs far.done far.rest l.before (leaf ++ l.behind) far.records l.records far.lower far.from_here l.lower
+      (all_from from rs leaf start up l starts) in
+      let P = is_from_to low high in
+      is ∙ ap (λ x. take most (x ++ filter (is_from_to from high) leaf)) (far.items_are ∙ ap (λ d. take most (filter P d)) same)
+      ∙ take_again most (filter P l.before) (filter (is_from_to from high) leaf)
+      ∙ ap (λ x. take most (filter P l.before ++ x)) (from_later low from high leaf le starts)
+      ∙ ap (take most) (sym (filter-append P l.before leaf))
+
+  -- the range goes on from the next key
+  pub range_next : (next : Key) (l : LeadsTo from rs leaf start (Some next)) → is_below start from ≡ true
+      → new ≡ range_of low high most (l.before ++ leaf) → IsAsFar low high most next rs new
+  range_next next l under is = record {
+    done = l.before ++ leaf;
+    rest = l.behind;
+    records = l.records ∙ sym (append_assoc l.before leaf l.behind);
+    lower = all_append (λ (r : Record). is_lt (key_cmp r.key next)) l.before leaf
+        (all_follow (λ (r : Record). is_lt (key_cmp r.key from)) (λ r. is_lt (key_cmp r.key next))
+        (λ r h. lt_le r.key from next h (lt_to_le (key_cmp from next) (l.key_under under))) l.before l.lower) l.here_under;
+    from_here = l.bounded;
+    items_are = is;
+  }
 
 module _ (low high : Key) (most : ℕ) (rs front behind new : List Record) (e : rs ≡ front ++ behind) where
   whole_range : filter (is_from_to low high) behind ≡ [] → new ≡ range_of low high most front → new ≡ range_of low high most rs

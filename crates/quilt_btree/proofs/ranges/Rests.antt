@@ -50,7 +50,7 @@ module _ (told : Option (List (List ℕ))) (t : Tree) (low from high : Key) (mos
       let s = tree_spells told t rs c.some is in
       let l = c.leads rs s.0 s.1 in (
         l,
-        range_more low from high most rs leaf old new None up l (c.cut.starts b.0 rs b.1 s.0 s.1 b.2) b.3 b.4
+        range_more low from high most rs leaf new None old up l (c.cut.starts b.0 rs b.1 s.0 s.1 b.2) b.3 b.4
             (leaf_added told t from high most leaf old new rs up c s.0),
       )
 
@@ -83,7 +83,7 @@ module _ (told : Option (List (List ℕ))) (t : Tree) (low : Key) where
         next_divides is.pages t.height t.root up next e (c.cut.ends is.pages rs s.0 is.is_told s.1 refl),
         later low from next le
             (on.0.key_under refl),
-        range_next low from high next most rs leaf new None on.0 refl on.1,
+        range_next low from high most rs leaf new None next on.0 refl on.1,
       )
 
   pub first_so_far : (high : Key) (most : ℕ) (leaf new rs : List Record) (up : Option Key) (c : CameTo told t low high most leaf [] new up)

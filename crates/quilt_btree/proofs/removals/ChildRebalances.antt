@@ -98,55 +98,54 @@ module _ (told mid : Option (List (List ℕ))) (free between : ℕ → Bool) (pa
       fits_between n.cut.ka key separator n.cut.kb b n.ascends n.within
       (strictly_above m.news (suc below) left gap.low separator m.done.first m.done.first_uses m.done.is_left) m.done.low m.done.high
 
-pub set_is : (told : Option (List (List ℕ))) (free : ℕ → Bool) (page below : ℕ) (inner : Inner) (j left : ℕ) (key : Key) (right : ℕ) (is_root : Bool)
-    (b : Bounds) (rs : List Record) (used : List ℕ) (separator : Key)
-    → (n : Neighbours told free page below inner j left key right is_root b rs used) → slice_set inner.keys j separator ≡ n.cut.ka ++ separator ∷ n.cut.kb
-set_is told free page below inner j left key right is_root b rs used separator n =
-    ap (λ x. slice_set x j separator) n.cut.keys ∙ set_middle n.cut.ka key separator n.cut.kb j n.cut.place
+module _ (told : Option (List (List ℕ))) (free : ℕ → Bool) (page below : ℕ) (inner : Inner) (j left : ℕ) (key : Key) (right : ℕ) (is_root : Bool)
+    (b : Bounds) (rs : List Record) (used : List ℕ) (separator : Key) (n : Neighbours told free page below inner j left key right is_root b rs used)
+  where
+    pub set_is : slice_set inner.keys j separator ≡ n.cut.ka ++ separator ∷ n.cut.kb
+    set_is =
+        ap (λ x. slice_set x j separator) n.cut.keys ∙ set_middle n.cut.ka key separator n.cut.kb j n.cut.place
 
-pub separated_children : (told mid : Option (List (List ℕ))) (free between : ℕ → Bool) (page below : ℕ) (inner : Inner) (j left : ℕ) (key : Key)
-    (right : ℕ) (is_root : Bool) (b : Bounds) (rs : List Record) (used : List ℕ) (separator : Key)
-    → (n : Neighbours told free page below inner j left key right is_root b rs used)
-    → DidRebalance told mid free between (suc below) left right (gap_bounds n.cut.ka n.cut.kb b) n.here n.here_used (rebalanced.Redistributed separator)
-    → ChildrenRebalanced mid free between page below n.pages (with_key inner j separator) b rs used
-separated_children told mid free between page below inner j left key right is_root b rs used separator n d =
-    let gap = gap_bounds n.cut.ka n.cut.kb b in
-    let m = rebalances told mid free between n.pages (suc below) left right gap n.here n.here_used (rebalanced.Redistributed separator) n.is_told d in
-    let apart = subst (AreApart free) n.is_used n.apart in
-    let S = Subtree m.news (suc below) false in
-    let low : ℕ × Bounds = (left, record { low = gap.low; high = Some separator }) in
-    let high : ℕ × Bounds = (right, record { low = Some separator; high = gap.high }) in
-    let uses = m.done.rest_uses ++ m.done.first_uses in
-    let two : Row S (low ∷ high ∷ []) n.here uses = row_two S low high n.here uses
-    (record {
-      first = m.done.first;
-      rest = m.done.rest;
-      first_used = m.done.first_uses;
-      rest_used = m.done.rest_uses;
-      here = m.done.is_left;
-      after = m.done.is_right;
-      records = m.done.records;
-      is_used = refl;
-    }) in
-    let changed = middle_changed S n.pages m.news free between below page (same_subtree m.news below) (front n.cut.ca n.cut.ka b) (low ∷ high ∷ [])
-    (rear n.cut.cb n.cut.kb b.high) n.first n.here n.last
-    n.first_used n.here_used n.last_used uses n.under apart n.is_under n.row_before n.row_behind two m.done.moves in
-    let keys = set_is told free page below inner j left key right is_root b rs used separator n in
-    let fits = separated_ascends told mid free between page below inner j left key right is_root b rs used separator n d in
-    let row = subst (λ x. Row S x (n.first ++ (n.here ++ n.last)) changed.uses)
-    (sym (bounded_two n.cut.ca left right n.cut.cb n.cut.ka separator n.cut.kb b n.cut.before n.cut.behind)) changed.row in
-    record {
-      news = m.news;
-      is = m.is;
-      uses = changed.uses;
-      row = subst (λ x. Row S (bounded x (slice_set inner.keys j separator) b) rs changed.uses) (sym n.cut.children)
-          (subst (λ x. Row S (bounded (n.cut.ca ++ left ∷ right ∷ n.cut.cb) x b) rs changed.uses) (sym keys)
-          (subst (λ x. Row S (bounded (n.cut.ca ++ left ∷ right ∷ n.cut.cb) (n.cut.ka ++ separator ∷ n.cut.kb) b) x changed.uses) (sym n.records) row));
-      moves = subst (λ u. Moves n.pages m.news free between u (changed.uses ++ page ∷ [])) (sym n.is_used) changed.moves;
-      apart = apart_then n.pages m.news free between (n.under ++ page ∷ []) (changed.uses ++ page ∷ []) changed.moves apart;
-      within = subst (λ x. are_within b x ≡ true) (sym keys) fits.within;
-      is_height = n.inner_height;
-    }
+    pub separated_children : (mid : Option (List (List ℕ))) (between : ℕ → Bool)
+        → DidRebalance told mid free between (suc below) left right (gap_bounds n.cut.ka n.cut.kb b) n.here n.here_used (rebalanced.Redistributed separator)
+        → ChildrenRebalanced mid free between page below n.pages (with_key inner j separator) b rs used
+    separated_children mid between d =
+        let gap = gap_bounds n.cut.ka n.cut.kb b in
+        let m = rebalances told mid free between n.pages (suc below) left right gap n.here n.here_used (rebalanced.Redistributed separator) n.is_told d in
+        let apart = subst (AreApart free) n.is_used n.apart in
+        let S = Subtree m.news (suc below) false in
+        let low : ℕ × Bounds = (left, record { low = gap.low; high = Some separator }) in
+        let high : ℕ × Bounds = (right, record { low = Some separator; high = gap.high }) in
+        let uses = m.done.rest_uses ++ m.done.first_uses in
+        let two : Row S (low ∷ high ∷ []) n.here uses = row_two S low high n.here uses
+        (record {
+          first = m.done.first;
+          rest = m.done.rest;
+          first_used = m.done.first_uses;
+          rest_used = m.done.rest_uses;
+          here = m.done.is_left;
+          after = m.done.is_right;
+          records = m.done.records;
+          is_used = refl;
+        }) in
+        let changed = middle_changed S n.pages m.news free between below page (same_subtree m.news below) (front n.cut.ca n.cut.ka b) (low ∷ high ∷ [])
+        (rear n.cut.cb n.cut.kb b.high) n.first n.here n.last
+        n.first_used n.here_used n.last_used uses n.under apart n.is_under n.row_before n.row_behind two m.done.moves in
+        let keys = set_is in
+        let fits = separated_ascends told mid free between page below inner j left key right is_root b rs used separator n d in
+        let row = subst (λ x. Row S x (n.first ++ (n.here ++ n.last)) changed.uses)
+        (sym (bounded_two n.cut.ca left right n.cut.cb n.cut.ka separator n.cut.kb b n.cut.before n.cut.behind)) changed.row in
+        record {
+          news = m.news;
+          is = m.is;
+          uses = changed.uses;
+          row = subst (λ x. Row S (bounded x (slice_set inner.keys j separator) b) rs changed.uses) (sym n.cut.children)
+              (subst (λ x. Row S (bounded (n.cut.ca ++ left ∷ right ∷ n.cut.cb) x b) rs changed.uses) (sym keys)
+              (subst (λ x. Row S (bounded (n.cut.ca ++ left ∷ right ∷ n.cut.cb) (n.cut.ka ++ separator ∷ n.cut.kb) b) x changed.uses) (sym n.records) row));
+          moves = subst (λ u. Moves n.pages m.news free between u (changed.uses ++ page ∷ [])) (sym n.is_used) changed.moves;
+          apart = apart_then n.pages m.news free between (n.under ++ page ∷ []) (changed.uses ++ page ∷ []) changed.moves apart;
+          within = subst (λ x. are_within b x ≡ true) (sym keys) fits.within;
+          is_height = n.inner_height;
+        }
 
 -- the page, written with its children rebalanced
 pub record PageRebalanced (now_told : Option (List (List ℕ))) (free now : ℕ → Bool) (page below : ℕ) (r : Bool) (pages : List (List ℕ))
@@ -156,31 +155,30 @@ pub record PageRebalanced (now_told : Option (List (List ℕ))) (free now : ℕ 
   pub becomes : Becomes pages news free now page (suc (suc below)) r b used rs
   pub page_is : inner_of (length news) (slice_index_or news page []) ≡ Some inner
 
-pub page_rebalanced : (mid now_told : Option (List (List ℕ))) (free between now : ℕ → Bool) (page below : ℕ) (r : Bool) (pages : List (List ℕ))
-    (inner : Inner) (b : Bounds) (rs : List Record) (used : List ℕ)
-    → ChildrenRebalanced mid free between page below pages inner b rs used → Writes page inner mid now_told → now ≡ between → page < length pages
-    → (r || nat_le 127 (length inner.children)) ≡ true
-    → PageRebalanced now_told free now page below r pages inner b rs used
-page_rebalanced mid now_told free between now page below r pages inner b rs used m writes f inside enough =
-    let w = writes m.news m.is in
-    let there : page < length m.news = subst (λ n. page < n) (sym m.moves.size) inside in
-    let news = slice_set m.news page w.bytes in
-    let becomes = parent_written m.news between below page r b inner w.bytes m.uses rs there w.inner_is m.is_height enough m.within m.apart m.row in
-    record {
-      news = news;
-      is = w.is;
-      becomes = subst (λ g. Becomes pages news free g page (suc (suc below)) r b used rs) (sym f)
-          (becomes_then pages m.news news free between between page (suc (suc below)) r b used (m.uses ++ page ∷ []) rs m.moves becomes);
-      page_is = ap (λ n. inner_of n (slice_index_or news page [])) (length-set m.news page w.bytes)
-          ∙ ap (inner_of (length m.news)) (get_or-set_same m.news page w.bytes [] there) ∙ w.inner_is;
-    }
-
 page_in : (p : ℕ) (under : List ℕ) → 1 ≤ times p (under ++ p ∷ [])
 page_in p under = let e = times_here p [] in let f = times-append p under (p ∷ []) in omega arith
 
-pub page_taken : (mid : Option (List (List ℕ))) (free between : ℕ → Bool) (page below : ℕ) (pages : List (List ℕ)) (inner : Inner) (b : Bounds)
-    (rs : List Record) (used : List ℕ) → ChildrenRebalanced mid free between page below pages inner b rs used → between page ≡ false
-page_taken mid free between page below pages inner b rs used m = used_not_free between (m.uses ++ page ∷ []) page m.apart (page_in page m.uses)
+module _ (mid : Option (List (List ℕ))) (free between : ℕ → Bool) (page below : ℕ) (pages : List (List ℕ)) (inner : Inner) (b : Bounds)
+    (rs : List Record) (used : List ℕ) where
+  pub page_rebalanced : (now_told : Option (List (List ℕ))) (now : ℕ → Bool) (r : Bool)
+      → ChildrenRebalanced mid free between page below pages inner b rs used → Writes page inner mid now_told → now ≡ between → page < length pages
+      → (r || nat_le 127 (length inner.children)) ≡ true → PageRebalanced now_told free now page below r pages inner b rs used
+  page_rebalanced now_told now r m writes f inside enough =
+      let w = writes m.news m.is in
+      let there : page < length m.news = subst (λ n. page < n) (sym m.moves.size) inside in
+      let news = slice_set m.news page w.bytes in
+      let becomes = parent_written m.news between below page r b inner w.bytes m.uses rs there w.inner_is m.is_height enough m.within m.apart m.row in
+      record {
+        news = news;
+        is = w.is;
+        becomes = subst (λ g. Becomes pages news free g page (suc (suc below)) r b used rs) (sym f)
+            (becomes_then pages m.news news free between between page (suc (suc below)) r b used (m.uses ++ page ∷ []) rs m.moves becomes);
+        page_is = ap (λ n. inner_of n (slice_index_or news page [])) (length-set m.news page w.bytes)
+            ∙ ap (inner_of (length m.news)) (get_or-set_same m.news page w.bytes [] there) ∙ w.inner_is;
+      }
+
+  pub page_taken : ChildrenRebalanced mid free between page below pages inner b rs used → between page ≡ false
+  page_taken m = used_not_free between (m.uses ++ page ∷ []) page m.apart (page_in page m.uses)
 
 one_child : (cs : List ℕ) (ks : List Key) (b : Bounds) (c : ℕ) → length cs ≡ 1 → length ks ≡ 0 → c ≡ slice_index cs 0 → bounded cs ks b ≡ (c, b) ∷ []
 one_child [] ks b c n m e = absurd (omega arith)
@@ -206,7 +204,7 @@ module _ (told mid now_told : Option (List (List ℕ))) (free between now : ℕ 
       let fewer = one_fewer inner.children (suc j) there in
       let enough =
       many_enough is_root 127 (length (remove inner.children (suc j))) (less (length (remove inner.children (suc j))) (length inner.children) fewer d.0) in
-      let p = page_rebalanced mid now_told free between now page below is_root n.pages (without_child inner j) b rs used m d.1 f inside enough in
+      let p = page_rebalanced mid free between page below n.pages (without_child inner j) b rs used now_told now is_root m d.1 f inside enough in
       subst (λ h. DidLeave told now_told free now page h is_root b used rs removed.Done) (sym e)
       (record { pages = n.pages; news = p.news; was = n.is_told; is = p.is; left = p.becomes })
     where
@@ -215,7 +213,7 @@ module _ (told mid now_told : Option (List (List ℕ))) (free between now : ℕ 
   left_joined removed.Underfull e n m many place inside f d =
       let there : suc j < length inner.children = omega arith in
       let fewer = one_fewer inner.children (suc j) there in
-      let p = page_rebalanced mid now_told free between now page below true n.pages (without_child inner j) b rs used m d.1 f inside refl in
+      let p = page_rebalanced mid free between page below n.pages (without_child inner j) b rs used now_told now true m d.1 f inside refl in
       let nearly : is_root ≡ false → IsNearlyFull p.news (suc (suc below)) page = λ root i is.
       let same : i ≡ without_child inner j = some_same i (without_child inner j) (sym is ∙ p.page_is) in
       let full = not_root is_root 127 (length inner.children) n.enough root in
@@ -268,6 +266,6 @@ module _ (told mid now_told : Option (List (List ℕ))) (free between now : ℕ 
       → ChildrenRebalanced mid free between page below n.pages (with_key inner j separator) b rs used → page < length n.pages → now ≡ between
       → Writes page (with_key inner j separator) mid now_told → DidLeave told now_told free now page height is_root b used rs removed.Done
   left_separated separator e n m inside f writes =
-      let p = page_rebalanced mid now_told free between now page below is_root n.pages (with_key inner j separator) b rs used m writes f inside n.enough in
+      let p = page_rebalanced mid free between page below n.pages (with_key inner j separator) b rs used now_told now is_root m writes f inside n.enough in
       subst (λ h. DidLeave told now_told free now page h is_root b used rs removed.Done) (sym e)
       (record { pages = n.pages; news = p.news; was = n.is_told; is = p.is; left = p.becomes })

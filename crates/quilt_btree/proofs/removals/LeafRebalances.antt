@@ -87,34 +87,6 @@ pub record LeavesJoin (told mid now_told : Option (List (List ℕ))) (free was n
   pub is_free : was ≡ free
   pub frees : FreesOnly right true was now
 
-pub leaves_joined : (told mid now_told : Option (List (List ℕ))) (free was now : ℕ → Bool) (size left : ℕ) (key : Key) (right height : ℕ)
-    (b : Bounds) (rs : List Record) (used : List ℕ) (l r all : List Record) (bytes : List ℕ) → height ≡ 1
-    → LeavesJoin told mid now_told free was now size left right l r all bytes → CanRebalance told free height left key right b rs used
-    → DidRebalance told now_told free now height left right b rs used rebalanced.Joined
-leaves_joined told mid now_told free was now size left key right height b rs used l r all bytes one c can =
-    let m = subst (λ h. CanRebalance told free h left key right b rs used) one can in
-    let a = are_leaves told free left key right b rs used m l r c.reads c.also in
-    let on = tells_on (λ old new. HasGiven right (slice_set old left bytes) new) mid now_told m.pages (c.is_mid ∙ m.is_told) c.tells in
-    let j = is_joined m.pages on.0 free now left right bytes a.apart (has_many told m.pages size left c.many m.is_told c.inside) on.2
-    (subst (λ f. FreesOnly right true f now) c.is_free c.frees) in
-    let same : all ≡ rs = c.all_is ∙ sym a.records in
-    let many : 72 ≤ length all = enough (length all) (length l) (length r) (ap length c.all_is ∙ length-append l r) a.first_many a.rest_many in
-    subst (λ h. DidRebalance told now_told free now h left right b rs used rebalanced.Joined) (sym one) (record {
-      pages = m.pages;
-      news = on.0;
-      was = m.is_told;
-      is = on.1;
-      done = record {
-        uses = left ∷ [];
-        subtree = subst (λ x. Subtree on.0 1 false (left, b) x (left ∷ [])) same
-            (one_leaf on.0 left bytes b all j.here c.written many (subst (λ x. are_within b (keys_of x) ≡ true) (sym same) a.rises.within));
-        moves = subst (λ u. Moves m.pages on.0 free now u (left ∷ [])) (sym a.pages) j.moves;
-      };
-    })
-  where
-    enough : (n x y : ℕ) → n ≡ x + y → 71 ≤ x → 71 ≤ y → 72 ≤ n
-    enough n x y e f g = omega arith
-
 -- what is known of a call that parts the records of two leaves
 pub record LeavesPart (told mid now_told : Option (List (List ℕ))) (free now : ℕ → Bool) (size left right : ℕ) (l r first rest : List Record)
     (start : Record) (bytes others : List ℕ) : Type 0 where
@@ -137,44 +109,72 @@ begins : (rest : List Record) (x : Record) → slice_get rest 0 ≡ Some x → (
 begins [] x h = cc
 begins (y ∷ ys) x h = let same : y ≡ x = cc in (ys, ap (λ z. z ∷ ys) same)
 
-pub leaves_separated : (told mid now_told : Option (List (List ℕ))) (free now : ℕ → Bool) (size left : ℕ) (key : Key) (right height : ℕ) (b : Bounds)
-    (rs : List Record) (used : List ℕ) (l r first rest : List Record) (start : Record) (bytes others : List ℕ) → height ≡ 1
-    → LeavesPart told mid now_told free now size left right l r first rest start bytes others → CanRebalance told free height left key right b rs used
-    → DidRebalance told now_told free now height left right b rs used (rebalanced.Redistributed start.key)
-leaves_separated told mid now_told free now size left key right height b rs used l r first rest start bytes others one c can =
-    let m = subst (λ h. CanRebalance told free h left key right b rs used) one can in
-    let a = are_leaves told free left key right b rs used m l r c.reads c.also in
-    let on = tells_on (λ old new. new ≡ slice_set (slice_set old left bytes) right others) mid now_told m.pages (c.is_mid ∙ m.is_told) c.tells in
-    let w = are_written m.pages free left right bytes others a.apart (has_many told m.pages size left c.many m.is_told c.inside)
-    (has_many told m.pages size right c.many m.is_told c.inside_too) in
-    let news = slice_set (slice_set m.pages left bytes) right others in
-    let all : rs ≡ first ++ rest = a.records ∙ sym c.records in
-    let enough = c.enough a.first_many a.rest_many in
-    let from = begins rest start c.starts in
-    let rises : IsRising b (keys_of first ++ start.key ∷ keys_of from.0) =
-    subst (IsRising b) (ap (λ x. keys_of first ++ keys_of x) from.1)
-    (subst (IsRising b) (keys_append first rest) (subst (λ x. IsRising b (keys_of x)) all a.rises)) in
-    let parts = rises_apart b (keys_of first) start.key (keys_of from.0) rises in
-    subst (λ h. DidRebalance told now_told free now h left right b rs used (rebalanced.Redistributed start.key)) (sym one) (record {
-      pages = m.pages;
-      news = news;
-      was = m.is_told;
-      is = on.1 ∙ ap Some on.2;
-      done = record {
-        first = first;
-        rest = rest;
-        first_uses = left ∷ [];
-        rest_uses = right ∷ [];
-        is_left = one_leaf news left bytes (record { low = b.low; high = Some start.key }) first w.here c.written enough.0 parts.before.within;
-        is_right = one_leaf news right others (record { low = Some start.key; high = b.high }) rest w.there c.written_too enough.1
-            (subst (λ x. are_within (record { low = Some start.key; high = b.high }) (keys_of x) ≡ true) (sym from.1) parts.from_here.within);
-        records = all;
-        low = parts.low;
-        high = parts.high;
-        moves = subst (λ u. Moves m.pages news free now u (right ∷ left ∷ [])) (sym a.pages)
-            (subst (λ f. Moves m.pages news free f (right ∷ left ∷ []) (right ∷ left ∷ [])) (sym c.frees) w.moves);
-      };
-    })
+module _ (told mid now_told : Option (List (List ℕ))) (free now : ℕ → Bool) (size left : ℕ) (key : Key) (right height : ℕ) (b : Bounds)
+    (rs : List Record) (used : List ℕ) (l r : List Record) (bytes : List ℕ) where
+  pub leaves_joined : (was : ℕ → Bool) (all : List Record) → height ≡ 1 → LeavesJoin told mid now_told free was now size left right l r all bytes
+      → CanRebalance told free height left key right b rs used → DidRebalance told now_told free now height left right b rs used rebalanced.Joined
+  leaves_joined was all one c can =
+      let m = subst (λ h. CanRebalance told free h left key right b rs used) one can in
+      let a = are_leaves told free left key right b rs used m l r c.reads c.also in
+      let on = tells_on (λ old new. HasGiven right (slice_set old left bytes) new) mid now_told m.pages (c.is_mid ∙ m.is_told) c.tells in
+      let j = is_joined m.pages free left right bytes on.0 now a.apart (has_many told m.pages size left c.many m.is_told c.inside) on.2
+      (subst (λ f. FreesOnly right true f now) c.is_free c.frees) in
+      let same : all ≡ rs = c.all_is ∙ sym a.records in
+      let many : 72 ≤ length all = enough (length all) (length l) (length r) (ap length c.all_is ∙ length-append l r) a.first_many a.rest_many in
+      subst (λ h. DidRebalance told now_told free now h left right b rs used rebalanced.Joined) (sym one) (record {
+        pages = m.pages;
+        news = on.0;
+        was = m.is_told;
+        is = on.1;
+        done = record {
+          uses = left ∷ [];
+          subtree = subst (λ x. Subtree on.0 1 false (left, b) x (left ∷ [])) same
+              (one_leaf on.0 left bytes b all j.here c.written many (subst (λ x. are_within b (keys_of x) ≡ true) (sym same) a.rises.within));
+          moves = subst (λ u. Moves m.pages on.0 free now u (left ∷ [])) (sym a.pages) j.moves;
+        };
+      })
+    where
+      enough : (n x y : ℕ) → n ≡ x + y → 71 ≤ x → 71 ≤ y → 72 ≤ n
+      enough n x y e f g = omega arith
+
+  pub leaves_separated : (first rest : List Record) (start : Record) (others : List ℕ) → height ≡ 1
+      → LeavesPart told mid now_told free now size left right l r first rest start bytes others
+      → CanRebalance told free height left key right b rs used
+      → DidRebalance told now_told free now height left right b rs used (rebalanced.Redistributed start.key)
+  leaves_separated first rest start others one c can =
+      let m = subst (λ h. CanRebalance told free h left key right b rs used) one can in
+      let a = are_leaves told free left key right b rs used m l r c.reads c.also in
+      let on = tells_on (λ old new. new ≡ slice_set (slice_set old left bytes) right others) mid now_told m.pages (c.is_mid ∙ m.is_told) c.tells in
+      let w = are_written m.pages free left right bytes others a.apart (has_many told m.pages size left c.many m.is_told c.inside)
+      (has_many told m.pages size right c.many m.is_told c.inside_too) in
+      let news = slice_set (slice_set m.pages left bytes) right others in
+      let all : rs ≡ first ++ rest = a.records ∙ sym c.records in
+      let enough = c.enough a.first_many a.rest_many in
+      let from = begins rest start c.starts in
+      let rises : IsRising b (keys_of first ++ start.key ∷ keys_of from.0) =
+      subst (IsRising b) (ap (λ x. keys_of first ++ keys_of x) from.1)
+      (subst (IsRising b) (keys_append first rest) (subst (λ x. IsRising b (keys_of x)) all a.rises)) in
+      let parts = rises_apart b (keys_of first) start.key (keys_of from.0) rises in
+      subst (λ h. DidRebalance told now_told free now h left right b rs used (rebalanced.Redistributed start.key)) (sym one) (record {
+        pages = m.pages;
+        news = news;
+        was = m.is_told;
+        is = on.1 ∙ ap Some on.2;
+        done = record {
+          first = first;
+          rest = rest;
+          first_uses = left ∷ [];
+          rest_uses = right ∷ [];
+          is_left = one_leaf news left bytes (record { low = b.low; high = Some start.key }) first w.here c.written enough.0 parts.before.within;
+          is_right = one_leaf news right others (record { low = Some start.key; high = b.high }) rest w.there c.written_too enough.1
+              (subst (λ x. are_within (record { low = Some start.key; high = b.high }) (keys_of x) ≡ true) (sym from.1) parts.from_here.within);
+          records = all;
+          low = parts.low;
+          high = parts.high;
+          moves = subst (λ u. Moves m.pages news free now u (right ∷ left ∷ [])) (sym a.pages)
+              (subst (λ f. Moves m.pages news free f (right ∷ left ∷ []) (right ∷ left ∷ [])) (sym c.frees) w.moves);
+        };
+      })
 
 module _ (told : Option (List (List ℕ))) (free : ℕ → Bool) where
   -- both are read

@@ -68,11 +68,6 @@ at_root told free size t rs i w =
     less : (a l n : ℕ) → suc a ≡ l → l ≡ n → a ≡ n - 1
     less a l n e f = omega arith
 
-pub sound_root : (e : Stop) (told : Option (List (List ℕ))) (free : ℕ → Bool) (size : ℕ) (t : Tree) (rs : List Record) → IsRemoving free size t
-    → ((is_root : Bool) (b : Bounds) (rs : List Record) (used : List ℕ) → CanEdit told free t.root t.height is_root b rs used → IsSound e)
-    → IsWhole told free size t rs → IsSound e
-sound_root e told free size t rs i f w = let a = at_root told free size t rs i w in f true everywhere rs a.used a.can
-
 -- no tree
 pub whole_none : (k : Key) (told : Option (List (List ℕ))) (free : ℕ → Bool) (size : ℕ) (t : Tree) (rs : List Record) → t.height ≡ 0
     → IsWhole told free size t rs → (false ≡ list_any (has_key k) rs) × IsWhole told free size t (without k rs)
@@ -164,26 +159,6 @@ last_used p uses = let e = times-append p uses (p ∷ []) in let f = times_here 
 no_subtree : (pages : List (List ℕ)) (height : ℕ) (r : Bool) (at : ℕ × Bounds) (rs : List Record) (used : List ℕ) → height ≡ 0
     → Subtree pages height r at rs used → ⊥
 no_subtree pages height r at rs used e s = subst (λ h. Subtree pages h r at rs used) e s
-
-pub one_only : (k : Key) (told now_told : Option (List (List ℕ))) (free now : ℕ → Bool) (size child : ℕ) (t : Tree) (rs : List Record)
-    → IsRemoving free size t → UnderRoot k told now_told free now t (removed.Only child) → IsWhole told free size t rs
-    → (now t.root ≡ false) × (2 ≤ t.records) × (t.height - 1 ≢ 0)
-one_only k told now_told free now size child t rs i f w =
-    let a = at_root told free size t rs i w in
-    let did = f true everywhere rs a.used a.can in
-    let only = did.1.left.1 in
-    let apart = apart_then did.1.pages did.1.news free now a.used (only.uses ++ t.root ∷ []) only.moves a.can.apart in (
-      used_not_free now (only.uses ++ t.root ∷ []) t.root apart
-          (some (times t.root (only.uses ++ t.root ∷ [])) (times t.root only.uses) (last_used t.root only.uses)),
-      two_left did.1.news only.below false (child, everywhere) (without k rs) only.uses t.records only.subtree (a.exact k did.0),
-      λ e. no_subtree did.1.news only.below false (child, everywhere) (without k rs) only.uses (down t.height only.below only.is_height e) only.subtree,
-    )
-  where
-    some : (n m : ℕ) → n ≡ suc m → 1 ≤ n
-    some n m e = omega arith
-
-    down : (h below : ℕ) → h ≡ suc below → h - 1 ≡ 0 → below ≡ 0
-    down h below e f = omega arith
 
 given_same : (pages news : List (List ℕ)) (page : ℕ) (uses : List ℕ) → HasGiven page pages news → times page uses ≡ 0 → SameOn pages news uses
 given_same pages news page uses given none p inside =
@@ -280,8 +255,33 @@ shrunk (Err e) k told now_told free now size t new less is out f = out
 shrunk (Ok o) k told now_told free now size t new less is out f = λ rs w.
     let d = f rs w in (out ∙ d.0, subst (λ x. IsWhole now_told now size x (without k rs)) (sym is) d.1)
 
-pub shrunk_sound : (r : Result Bool Stop) (told : Option (List (List ℕ))) (free : ℕ → Bool) (size : ℕ) (t : Tree) (A B : Type 0)
-    → IfErr r (λ e. A → B → IsSound e) → ((rs : List Record) → IsWhole told free size t rs → A × B)
-    → IfErr r (λ e. (rs : List Record) → IsWhole told free size t rs → IsSound e)
-shrunk_sound (Ok o) told free size t A B s f = s
-shrunk_sound (Err e) told free size t A B s f = λ rs w. let d = f rs w in s d.0 d.1
+module _ (told : Option (List (List ℕ))) (free : ℕ → Bool) (size : ℕ) (t : Tree) where
+  pub sound_root : (e : Stop) (rs : List Record) → IsRemoving free size t
+      → ((is_root : Bool) (b : Bounds) (rs : List Record) (used : List ℕ) → CanEdit told free t.root t.height is_root b rs used → IsSound e)
+      → IsWhole told free size t rs → IsSound e
+  sound_root e rs i f w = let a = at_root told free size t rs i w in f true everywhere rs a.used a.can
+
+  pub one_only : (k : Key) (now_told : Option (List (List ℕ))) (now : ℕ → Bool) (child : ℕ) (rs : List Record) → IsRemoving free size t
+      → UnderRoot k told now_told free now t (removed.Only child) → IsWhole told free size t rs
+      → (now t.root ≡ false) × (2 ≤ t.records) × (t.height - 1 ≢ 0)
+  one_only k now_told now child rs i f w =
+      let a = at_root told free size t rs i w in
+      let did = f true everywhere rs a.used a.can in
+      let only = did.1.left.1 in
+      let apart = apart_then did.1.pages did.1.news free now a.used (only.uses ++ t.root ∷ []) only.moves a.can.apart in (
+        used_not_free now (only.uses ++ t.root ∷ []) t.root apart
+            (some (times t.root (only.uses ++ t.root ∷ [])) (times t.root only.uses) (last_used t.root only.uses)),
+        two_left did.1.news only.below false (child, everywhere) (without k rs) only.uses t.records only.subtree (a.exact k did.0),
+        λ e. no_subtree did.1.news only.below false (child, everywhere) (without k rs) only.uses (down t.height only.below only.is_height e) only.subtree,
+      )
+    where
+      some : (n m : ℕ) → n ≡ suc m → 1 ≤ n
+      some n m e = omega arith
+
+      down : (h below : ℕ) → h ≡ suc below → h - 1 ≡ 0 → below ≡ 0
+      down h below e f = omega arith
+
+  pub shrunk_sound : (r : Result Bool Stop) (A B : Type 0) → IfErr r (λ e. A → B → IsSound e)
+      → ((rs : List Record) → IsWhole told free size t rs → A × B) → IfErr r (λ e. (rs : List Record) → IsWhole told free size t rs → IsSound e)
+  shrunk_sound (Ok o) A B s f = s
+  shrunk_sound (Err e) A B s f = λ rs w. let d = f rs w in s d.0 d.1

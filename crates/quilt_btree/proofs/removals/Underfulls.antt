@@ -174,20 +174,21 @@ pub record Neighbours (told : Option (List (List ℕ))) (free : ℕ → Bool) (p
   pub is_used : used ≡ under ++ page ∷ []
   pub apart : AreApart free used
 
--- one of the two is the underfull one
-one_underfull : (underfull left right : ℕ) (l r hu : List ℕ) → (underfull ≡ left) ⊎ (underfull ≡ right) → hu ≡ r ++ l → 1 ≤ times left l
-    → 1 ≤ times right r → 1 ≤ times underfull hu
-one_underfull underfull left right l r hu (inl e) is p q =
-    let t : times left hu ≡ times left r + times left l = ap (times left) is ∙ times-append left r l in
-    subst (λ n. 1 ≤ times n hu) (sym e) (omega arith)
-one_underfull underfull left right l r hu (inr e) is p q =
-    let t : times right hu ≡ times right r + times right l = ap (times right) is ∙ times-append right r l in
-    subst (λ n. 1 ≤ times n hu) (sym e) (omega arith)
+module _ (left right : ℕ) where
+  -- one of the two is the underfull one
+  one_underfull : (underfull : ℕ) (l r hu : List ℕ) → (underfull ≡ left) ⊎ (underfull ≡ right) → hu ≡ r ++ l → 1 ≤ times left l → 1 ≤ times right r
+      → 1 ≤ times underfull hu
+  one_underfull underfull l r hu (inl e) is p q =
+      let t : times left hu ≡ times left r + times left l = ap (times left) is ∙ times-append left r l in
+      subst (λ n. 1 ≤ times n hu) (sym e) (omega arith)
+  one_underfull underfull l r hu (inr e) is p q =
+      let t : times right hu ≡ times right r + times right l = ap (times right) is ∙ times-append right r l in
+      subst (λ n. 1 ≤ times n hu) (sym e) (omega arith)
 
-pub which_underfull : (cs : List ℕ) (i j next left right : ℕ) → (j ≡ i) ⊎ (j + 1 ≡ i) → next ≡ suc j → left ≡ slice_index cs j
-    → right ≡ slice_index cs next → (slice_index cs i ≡ left) ⊎ (slice_index cs i ≡ right)
-which_underfull cs i j next left right (inl e) n l r = inl (ap (slice_index cs) (sym e) ∙ sym l)
-which_underfull cs i j next left right (inr e) n l r = let f : i ≡ next = omega arith in inr (ap (slice_index cs) f ∙ sym r)
+  pub which_underfull : (cs : List ℕ) (i j next : ℕ) → (j ≡ i) ⊎ (j + 1 ≡ i) → next ≡ suc j → left ≡ slice_index cs j → right ≡ slice_index cs next
+      → (slice_index cs i ≡ left) ⊎ (slice_index cs i ≡ right)
+  which_underfull cs i j next (inl e) n l r = inl (ap (slice_index cs) (sym e) ∙ sym l)
+  which_underfull cs i j next (inr e) n l r = let f : i ≡ next = omega arith in inr (ap (slice_index cs) f ∙ sym r)
 
 pub neighbours : (told : Option (List (List ℕ))) (free : ℕ → Bool) (page height : ℕ) (inner : Inner) (i : ℕ) (is_root : Bool) (b : Bounds)
     (rs : List Record) (used : List ℕ) (s : HasUnderfull told free page height inner i is_root b rs used)
@@ -213,7 +214,7 @@ neighbours told free page height inner i is_root b rs used s j next left key rig
     λ p. ap (times p) s.is_used ∙ times-append p s.under (page ∷ [])
     ∙ ap (λ n. n + times p (page ∷ [])) (ap (times p) at.is_used ∙ times-three p at.last_used at.here_used at.first_used) in
     let some =
-    one_underfull underfull left right two.first_used two.rest_used at.here_used (which_underfull inner.children i j next left right one nx l r) two.is_used
+    one_underfull left right underfull two.first_used two.rest_used at.here_used (which_underfull left right inner.children i j next one nx l r) two.is_used
     (page_used s.pages (suc s.below) (left == underfull) low two.first two.first_used two.here)
     (page_used s.pages (suc s.below) (right == underfull) high two.rest two.rest_used two.after) in
     let bound = least free used underfull s.apart in

@@ -180,8 +180,8 @@ middle_changed T pages news free now h page embed before others behind first all
     record {
       uses = (lu ++ uses) ++ fu;
       row = place_back T before others behind first all last fu uses lu
-          (row_stays (Subtree pages (suc h) false) T pages news one before first fu same_first row_before) row
-          (row_stays (Subtree pages (suc h) false) T pages news one behind last lu same_last row_behind);
+          (row_stays pages news (Subtree pages (suc h) false) T one before first fu same_first row_before) row
+          (row_stays pages news (Subtree pages (suc h) false) T one behind last lu same_last row_behind);
       moves =
           moves_among pages news free now hu uses (under ++ page ∷ []) (((lu ++ uses) ++ fu) ++ page ∷ []) (λ p. times p lu + times p fu + times p (page ∷ []))
           (λ p. order (times p (under ++ page ∷ [])) (times p lu) (times p hu) (times p fu) (times p (page ∷ [])) (total p))

@@ -38,7 +38,7 @@ module _ (pages news : List (List ℕ)) where
   pub rows_stay : (h : ℕ) → length news ≡ length pages → (cs : List (ℕ × Bounds)) (rs : List Record) (used : List ℕ) → SameOn pages news used
       → Row (Subtree pages (suc h) false) cs rs used → Row (Subtree news (suc h) false) cs rs used
   rows_stay h size cs rs used same row =
-      row_stays (Subtree pages (suc h) false) (Subtree news (suc h) false) pages news
+      row_stays pages news (Subtree pages (suc h) false) (Subtree news (suc h) false)
       (λ c ss u e t. subtree_stays pages news size (suc h) false c ss u e t) cs rs used same row
 
   -- Children in the middle of a row become others by an edit of their pages.

@@ -151,7 +151,7 @@ module _ (told : Option (List (List ℕ))) (page height : ℕ) where
       let up = inner_spells told page height rs inner some ne s reads in
       let S = Subtree s.pages (suc up.h) false in
       let rises : Rises S = λ c ss u t. subtree_rises s.pages (suc up.h) false c ss u t in
-      let down = leads_down s.pages up.h inner (slice_index_or s.pages page []) s.bounds i k rs up.under up.list up.within p up.row in
+      let down = leads_down inner s.bounds i rs up.under s.pages up.h (slice_index_or s.pages page []) k up.list up.within p up.row in
       let at = down.at in
       let ka = take i inner.keys in
       let kb = drop i inner.keys in
@@ -290,7 +290,7 @@ ends_below told page height child n inner some ne reads many is rs s =
     let i = n - 1 in
     let two = up.list.least in
     let lt : i < length inner.children = omega arith in
-    let at = at_child S inner s.bounds i rs up.under lt up.list.keys up.row in
+    let at = at_child inner s.bounds i rs up.under S lt up.list.keys up.row in
     let no_key : length inner.keys ≤ i = let k = up.list.keys in omega arith in
     let no_more : length inner.children ≤ suc i = omega arith in
     let row = subst (λ l. Row S (tail_places (drop (suc i) inner.children) l (from_keys (take i inner.keys) s.bounds)) at.last at.last_used)

@@ -102,38 +102,38 @@ below_start [] i start d w h = h
 below_start (k ∷ ks) zero start d w h = below_on start k d (and_parts (is_below start k) (list_all (is_below start) ks) w).0 h
 below_start (k ∷ ks) (suc i) start d w h = below_start ks i start d (and_parts (is_below start k) (list_all (is_below start) ks) w).1 h
 
-bound_here : (pages : List (List ℕ)) (h page i : ℕ) (inner : Inner) (start high : Option Key) (o : Option Key)
-    → inner_of (length pages) (slice_index_or pages page []) ≡ Some inner → is_ascending inner.keys ≡ true
-    → list_all (is_below start) inner.keys ≡ true → slice_get inner.keys i ≡ o → high ≡ option_or o start → IsBound pages (suc (suc h)) page start high
-bound_here pages h page i inner start high None there a w e is = inl is
-bound_here pages h page i inner start high (Some d) there a w e is =
-    inr (
-      d,
-      is,
-      record { inner = inner; page_is = there; place = suc i; is_place = place_behind inner.keys i d a e; parts = inl (i, refl, e) },
-      member (is_below start) inner.keys i d e w,
-    )
+module _ (pages : List (List ℕ)) (h page i : ℕ) (inner : Inner) (start high : Option Key) where
+  bound_here : (o : Option Key) → inner_of (length pages) (slice_index_or pages page []) ≡ Some inner → is_ascending inner.keys ≡ true
+      → list_all (is_below start) inner.keys ≡ true → slice_get inner.keys i ≡ o → high ≡ option_or o start
+      → IsBound pages (suc (suc h)) page start high
+  bound_here None there a w e is = inl is
+  bound_here (Some d) there a w e is =
+      inr (
+        d,
+        is,
+        record { inner = inner; page_is = there; place = suc i; is_place = place_behind inner.keys i d a e; parts = inl (i, refl, e) },
+        member (is_below start) inner.keys i d e w,
+      )
 
-bound_up : (pages : List (List ℕ)) (h page i : ℕ) (k : Key) (inner : Inner) (start high : Option Key)
-    → inner_of (length pages) (slice_index_or pages page []) ≡ Some inner → is_ascending inner.keys ≡ true
-    → list_all (is_below start) inner.keys ≡ true → IsPlace inner.keys k i → is_below high k ≡ true
-    → IsBound pages (suc h) (slice_index inner.children i) (option_or (slice_get inner.keys i) start) high → IsBound pages (suc (suc h)) page start high
-bound_up pages h page i k inner start high there a w p under (inl e) = bound_here pages h page i inner start high (slice_get inner.keys i) there a w refl e
-bound_up pages h page i k inner start high there a w p under (inr q) =
-    let d = q.0 in
-    let le : is_le (key_cmp k d) ≡ true = lt_to_le (key_cmp k d) (subst (λ o. is_below o k ≡ true) q.1 under) in
-    inr (
-      d,
-      q.1,
-      record {
-        inner = inner;
-        page_is = there;
-        place = i;
-        is_place = place_same inner.keys k d i p le (behind_all inner.keys i d a (below_next (slice_get inner.keys i) start d q.3));
-        parts = inr q.2;
-      },
-      below_start inner.keys i start d w q.3,
-    )
+  bound_up : (k : Key) → inner_of (length pages) (slice_index_or pages page []) ≡ Some inner → is_ascending inner.keys ≡ true
+      → list_all (is_below start) inner.keys ≡ true → IsPlace inner.keys k i → is_below high k ≡ true → IsBound pages (suc h)
+      (slice_index inner.children i) (option_or (slice_get inner.keys i) start) high → IsBound pages (suc (suc h)) page start high
+  bound_up k there a w p under (inl e) = bound_here (slice_get inner.keys i) there a w refl e
+  bound_up k there a w p under (inr q) =
+      let d = q.0 in
+      let le : is_le (key_cmp k d) ≡ true = lt_to_le (key_cmp k d) (subst (λ o. is_below o k ≡ true) q.1 under) in
+      inr (
+        d,
+        q.1,
+        record {
+          inner = inner;
+          page_is = there;
+          place = i;
+          is_place = place_same inner.keys k d i p le (behind_all inner.keys i d a (below_next (slice_get inner.keys i) start d q.3));
+          parts = inr q.2;
+        },
+        below_start inner.keys i start d w q.3,
+      )
 
 starts_case : (pages : List (List ℕ)) (h height place i child : ℕ) (k : Key) (inner : Inner) (here leaf : List Record) → place ≡ i
     → child ≡ slice_index inner.children i → height - 1 ≡ suc h
@@ -224,7 +224,7 @@ cut_up old new page height child i k inner start next leaf high a is leads cut =
       let lower = subst (λ m. IsBound pages m child next high) (one_less height n.0 n.1) bound in
       let there = subst (λ c. IsBound pages (suc n.0) c next high) a.is_child lower in
       subst (λ m. IsBound pages m page start high) (sym n.1)
-      (bound_up pages n.0 page i k inner start high (a.reads pages t) at.ascend
+      (bound_up pages n.0 page i inner start high k (a.reads pages t) at.ascend
       (subst (λ o. list_all (is_below o) inner.keys ≡ true) e at.keys_under) a.place (lead.key_under under)
       (subst (λ o. IsBound pages (suc n.0) (slice_index inner.children i) o high) is there));
 }

@@ -60,39 +60,8 @@ bad_last told page height bytes one are f = bad_leaf told page height bytes one 
 one_less : (height h : ℕ) → height ≡ suc (suc h) → height - 1 ≡ suc h
 one_less height h e = omega arith
 
--- what is bad under a child is bad under its page
-pub bad_below : (old new : Option (List (List ℕ))) (page height size : ℕ) (bytes : List ℕ) (child : ℕ) (e : Stop)
-    → IsRead old new page height size bytes → HasChild size bytes child
-    → NamesBad new (height - 1) child e → NamesBad old height page e
-bad_below old new page height size bytes child Device r c f = tt
-bad_below old new page height size bytes child Memory r c f = tt
-bad_below old new page height size bytes child (Damaged q) r c f = λ pages is.
-    let n = height_above height r.some r.above in
-    let same : bytes ≡ slice_index_or pages page [] = r.are pages is in
-    let long : length pages ≡ size = subst (λ o. IfSome o (λ pages. length pages ≡ size)) is r.many in
-    let less : height - 1 ≡ suc n.0 = one_less height n.0 n.1 in
-    let under : IsBadUnder pages (suc n.0) child q = subst (λ h. IsBadUnder pages h child q) less (f pages (r.told ∙ is)) in
-    let here : HasChild (length pages) (slice_index_or pages page []) child =
-    subst (λ m. HasChild m (slice_index_or pages page []) child) (sym long) (subst (λ b. HasChild size b child) same c) in
-    subst (λ h. IsBadUnder pages h page q) (sym n.1) (inr (child, here, under))
-
-pub names_below : {T : Type 0} (r : Result T Stop) (old new : Option (List (List ℕ))) (page height size : ℕ) (bytes : List ℕ) (child : ℕ)
-    → IsRead old new page height size bytes → HasChild size bytes child
-    → IfErr r (NamesBad new (height - 1) child) → IfErr r (NamesBad old height page)
-names_below (Ok v) old new page height size bytes child r c f = f
-names_below (Err e) old new page height size bytes child r c f = bad_below old new page height size bytes child e r c f
-
 pub child_at : (size : ℕ) (bytes : List ℕ) (o : Option ℕ) (child : ℕ) → o ≡ Some child → IfSome o (HasChild size bytes) → HasChild size bytes child
 child_at size bytes o child e h = subst (λ p. IfSome p (HasChild size bytes)) e h
-
--- the page of the bytes that the search came to
-pub spoilt_below : (r : Result Found Stop) (old new : Option (List (List ℕ))) (page height size : ℕ) (bytes : List ℕ) (child : ℕ)
-    → IsRead old new page height size bytes → HasChild size bytes child
-    → IfOk r (λ found. (last : List ℕ) → AreOf new found.page last → leaf_of last ≡ None → NamesBad new (height - 1) child (Damaged found.page))
-    → IfOk r (λ found. (last : List ℕ) → AreOf old found.page last → leaf_of last ≡ None → NamesBad old height page (Damaged found.page))
-spoilt_below (Err e) old new page height size bytes child r c f = f
-spoilt_below (Ok v) old new page height size bytes child r c f = λ last are none.
-    bad_below old new page height size bytes child (Damaged v.page) r c (f last (λ pages is. are pages (sym r.told ∙ is)) none)
 
 -- page 0, or one that is bad for this reason
 pub fault_named : (told : Option (List (List ℕ))) (height page at q : ℕ) (P : Type 0) → ((q ≡ 0) ⊎ ((q ≡ at) × P))
@@ -106,14 +75,6 @@ not_none o none x is = differ x (sym none ∙ is)
   where
     differ : {A : Type 0} (x : A) → None ≡ Some x → ⊥
     differ x h = cc
-
--- page 0, or a page above the leaves that is no inner page
-pub inner_fault : (old new : Option (List (List ℕ))) (page height size q : ℕ) (bytes : List ℕ) → IsRead old new page height size bytes
-    → ((q ≡ 0) ⊎ ((q ≡ page) × (inner_of size bytes ≡ None)))
-    → Damaged q ≢ Damaged 0 → NamesBad old height page (Damaged q)
-inner_fault old new page height size q bytes r f =
-    fault_named old height page page q (inner_of size bytes ≡ None) f
-    (λ none. bad_inner old new page height size bytes r (not_none (inner_of size bytes) none))
 
 -- what names no page over 0 names no good one
 pub zero_names : (told : Option (List (List ℕ))) (height page : ℕ) (e : Stop) → NamesPage 1 e → e ≢ Damaged 0 → NamesBad told height page e
@@ -144,12 +105,47 @@ pub named_leaf : {T : Type 0} (r : Result T Stop) (told : Option (List (List ℕ
     → IfErr r (λ e. e ≢ Damaged 0 → NamesBad told 1 page e) → IfErr r (λ e. e ≢ Damaged 0 → NamesBad told height page e)
 named_leaf r told height page one f = subst (λ h. IfErr r (λ e. e ≢ Damaged 0 → NamesBad told h page e)) (sym one) f
 
--- where the store tells the same, and the way has come to a child
-pub named_below : {T : Type 0} (r : Result T Stop) (old new : Option (List (List ℕ))) (page height size : ℕ) (bytes : List ℕ) (child : ℕ)
-    → IsRead old new page height size bytes → HasChild size bytes child
-    → IfErr r (λ e. e ≢ Damaged 0 → NamesBad new (height - 1) child e) → IfErr r (λ e. e ≢ Damaged 0 → NamesBad old height page e)
-named_below (Ok v) old new page height size bytes child r c f = f
-named_below (Err e) old new page height size bytes child r c f = λ ne. bad_below old new page height size bytes child e r c (f ne)
+module _ (old new : Option (List (List ℕ))) (page height size : ℕ) (bytes : List ℕ) where
+  -- what is bad under a child is bad under its page
+  pub bad_below : (child : ℕ) (e : Stop) → IsRead old new page height size bytes → HasChild size bytes child → NamesBad new (height - 1) child e
+      → NamesBad old height page e
+  bad_below child Device r c f = tt
+  bad_below child Memory r c f = tt
+  bad_below child (Damaged q) r c f = λ pages is.
+      let n = height_above height r.some r.above in
+      let same : bytes ≡ slice_index_or pages page [] = r.are pages is in
+      let long : length pages ≡ size = subst (λ o. IfSome o (λ pages. length pages ≡ size)) is r.many in
+      let less : height - 1 ≡ suc n.0 = one_less height n.0 n.1 in
+      let under : IsBadUnder pages (suc n.0) child q = subst (λ h. IsBadUnder pages h child q) less (f pages (r.told ∙ is)) in
+      let here : HasChild (length pages) (slice_index_or pages page []) child =
+      subst (λ m. HasChild m (slice_index_or pages page []) child) (sym long) (subst (λ b. HasChild size b child) same c) in
+      subst (λ h. IsBadUnder pages h page q) (sym n.1) (inr (child, here, under))
+
+  pub names_below : {T : Type 0} (r : Result T Stop) (child : ℕ) → IsRead old new page height size bytes → HasChild size bytes child
+      → IfErr r (NamesBad new (height - 1) child) → IfErr r (NamesBad old height page)
+  names_below (Ok v) child r c f = f
+  names_below (Err e) child r c f = bad_below child e r c f
+
+  -- the page of the bytes that the search came to
+  pub spoilt_below : (r : Result Found Stop) (child : ℕ) → IsRead old new page height size bytes → HasChild size bytes child
+      → IfOk r (λ found. (last : List ℕ) → AreOf new found.page last → leaf_of last ≡ None → NamesBad new (height - 1) child (Damaged found.page))
+      → IfOk r (λ found. (last : List ℕ) → AreOf old found.page last → leaf_of last ≡ None → NamesBad old height page (Damaged found.page))
+  spoilt_below (Err e) child r c f = f
+  spoilt_below (Ok v) child r c f = λ last are none.
+      bad_below child (Damaged v.page) r c (f last (λ pages is. are pages (sym r.told ∙ is)) none)
+
+  -- page 0, or a page above the leaves that is no inner page
+  pub inner_fault : (q : ℕ) → IsRead old new page height size bytes → ((q ≡ 0) ⊎ ((q ≡ page) × (inner_of size bytes ≡ None))) → Damaged q ≢ Damaged 0
+      → NamesBad old height page (Damaged q)
+  inner_fault q r f =
+      fault_named old height page page q (inner_of size bytes ≡ None) f
+      (λ none. bad_inner old new page height size bytes r (not_none (inner_of size bytes) none))
+
+  -- where the store tells the same, and the way has come to a child
+  pub named_below : {T : Type 0} (r : Result T Stop) (child : ℕ) → IsRead old new page height size bytes → HasChild size bytes child
+      → IfErr r (λ e. e ≢ Damaged 0 → NamesBad new (height - 1) child e) → IfErr r (λ e. e ≢ Damaged 0 → NamesBad old height page e)
+  named_below (Ok v) child r c f = f
+  named_below (Err e) child r c f = λ ne. bad_below child e r c (f ne)
 
 -- where the store tells the same
 pub names_along : (told now : Option (List (List ℕ))) (height page : ℕ) (e : Stop) → now ≡ told → (e ≢ Damaged 0 → NamesBad now height page e)
@@ -225,7 +221,8 @@ least_rises top before mid now le h = omega arith
 rose : (before mid now : ℕ) → before ≤ mid → Rose mid now → Rose before now
 rose before mid now le h = least_rises causes.last before mid now le h
 
-pub run_cause : {T U : Type 0} (e stop : Stop) (done before mid now : ℕ) → StopsBehind e stop done → before ≤ mid → HasStopCause {T = U} mid now (Err e)
+pub run_cause : {T U : Type 0} (e stop : Stop) (done before mid now : ℕ) → StopsBehind e stop done → before ≤ mid
+    → HasStopCause {T = U} mid now (Err e)
     → HasStopCause {T = T} before now (Err stop)
 run_cause e stop done before mid now s le c = record {
   later = let m = c.later in omega arith;
@@ -313,7 +310,8 @@ names_beside told height inner i j left right child spare e many lt l r c other 
     }
 
 -- and it is bad at the call, since it was not written
-pub beside_named : {T : Type 0} (result : Result T Stop) (told mid now : Option (List (List ℕ))) (page height size i child : ℕ) (bytes : List ℕ) (inner : Inner)
+pub beside_named : {T : Type 0} (result : Result T Stop) (told mid now : Option (List (List ℕ))) (page height size i child : ℕ) (bytes : List ℕ)
+    (inner : Inner)
     → IsRead told mid page height size bytes → inner_of size bytes ≡ Some inner → child ≡ slice_index inner.children i
     → (height - 1 ≡ 1 → Goes (OthersStay child) mid now) → IfErr result (NamesBeside now height inner i)
     → IfErr result (λ e. e ≢ Damaged 0 → NamesBad told height page e)

@@ -120,18 +120,6 @@ module _ (old new : Option (List (List ℕ))) (page height size : ℕ) (bytes : 
       → Spells old page height rs → IsSound e
   forks e r none rs s = let h = page_here old new page height size bytes rs r s in absurd (none h.inner h.is)
 
-pub leaf_led : (told : Option (List (List ℕ))) (page height : ℕ) (bytes : List ℕ) (k : Key) → height ≡ 1 → AreOf told page bytes → (rs : List Record)
-    → Spells told page height rs → IsLeafFor k rs bytes
-leaf_led told page height bytes k one are rs s = record {
-  here = rs;
-  is_leaf = leaf_here told page height bytes rs one are s;
-  before = [];
-  behind = [];
-  records = sym (append-nil rs);
-  lower = refl;
-  higher = refl;
-}
-
 led_up : (k : Key) (before here behind rs : List Record) (bytes : List ℕ) → IsAmong k before here behind rs → IsLeafFor k here bytes
     → IsLeafFor k rs bytes
 led_up k before here behind rs bytes a l = record {
@@ -146,31 +134,30 @@ led_up k before here behind rs bytes a l = record {
   higher = all_append (λ (r : Record). is_lt (key_cmp k r.key)) l.behind behind l.higher a.higher;
 }
 
--- the leaf's page in place of its bytes
-pub led_page : (r : Result ℕ Stop) (old new : Option (List (List ℕ))) (page height size : ℕ) (bytes : List ℕ) (k : Key) (child : ℕ)
-    (prior : Option ℕ) → IsRead old new page height size bytes
-    → ((inner : Inner) → inner_of size bytes ≡ Some inner → IsFork k inner child prior)
-    → IfOk r (λ leaf. (rs : List Record) → Spells new child (height - 1) rs → (last : List ℕ) → AreOf new leaf last → IsLeafFor k rs last)
-    → IfOk r (λ leaf. (rs : List Record) → Spells old page height rs → (last : List ℕ) → AreOf old leaf last → IsLeafFor k rs last)
-led_page (Err e) old new page height size bytes k child prior r fork f = f
-led_page (Ok leaf) old new page height size bytes k child prior r fork f = λ rs s last are.
-    let a = forked old new page height size bytes k child prior rs r fork s in
-    led_up k a.before a.here a.behind rs last a.among (f a.here a.spells last (λ pages is. are pages (sym r.told ∙ is)))
-
 -- what a lent page shows
 pub are_of : (told : Option (List (List ℕ))) (page : ℕ) (bytes : List ℕ) → IfSome told (λ pages. bytes ≡ slice_index_or pages page [])
     → AreOf told page bytes
 are_of told page bytes shown = λ pages is. subst (λ o. IfSome o (λ ps. bytes ≡ slice_index_or ps page [])) is shown
 
-pub sound_on : {T : Type 0} (r : Result T Stop) (old new : Option (List (List ℕ))) (page height size : ℕ) (bytes : List ℕ) (k : Key) (child : ℕ)
-    (prior : Option ℕ) → IsRead old new page height size bytes
-    → ((inner : Inner) → inner_of size bytes ≡ Some inner → IsFork k inner child prior)
-    → IfErr r (λ e. (rs : List Record) → Spells new child (height - 1) rs → IsSound e)
-    → IfErr r (λ e. (rs : List Record) → Spells old page height rs → IsSound e)
-sound_on (Ok v) old new page height size bytes k child prior r fork f = f
-sound_on (Err e) old new page height size bytes k child prior r fork f = λ rs s.
-    let a = forked old new page height size bytes k child prior rs r fork s in
-    f a.here a.spells
+module _ (old new : Option (List (List ℕ))) (page height size : ℕ) (bytes : List ℕ) (k : Key) (child : ℕ) (prior : Option ℕ) where
+  -- the leaf's page in place of its bytes
+  pub led_page : (r : Result ℕ Stop) → IsRead old new page height size bytes
+      → ((inner : Inner) → inner_of size bytes ≡ Some inner → IsFork k inner child prior)
+      → IfOk r (λ leaf. (rs : List Record) → Spells new child (height - 1) rs → (last : List ℕ) → AreOf new leaf last → IsLeafFor k rs last)
+      → IfOk r (λ leaf. (rs : List Record) → Spells old page height rs → (last : List ℕ) → AreOf old leaf last → IsLeafFor k rs last)
+  led_page (Err e) r fork f = f
+  led_page (Ok leaf) r fork f = λ rs s last are.
+      let a = forked old new page height size bytes k child prior rs r fork s in
+      led_up k a.before a.here a.behind rs last a.among (f a.here a.spells last (λ pages is. are pages (sym r.told ∙ is)))
+
+  pub sound_on : {T : Type 0} (r : Result T Stop) → IsRead old new page height size bytes
+      → ((inner : Inner) → inner_of size bytes ≡ Some inner → IsFork k inner child prior)
+      → IfErr r (λ e. (rs : List Record) → Spells new child (height - 1) rs → IsSound e)
+      → IfErr r (λ e. (rs : List Record) → Spells old page height rs → IsSound e)
+  sound_on (Ok v) r fork f = f
+  sound_on (Err e) r fork f = λ rs s.
+      let a = forked old new page height size bytes k child prior rs r fork s in
+      f a.here a.spells
 
 pub value_led : (k : Key) (rs : List Record) (bytes : List ℕ) (v : Option (List ℕ)) → IsLeafFor k rs bytes
     → ((here : List Record) → leaf_of bytes ≡ Some here → v ≡ value_of k here) → v ≡ value_of k rs
@@ -187,41 +174,52 @@ pub record Ended (old new : Option (List (List ℕ))) (page height child : ℕ) 
 some_same : (c d : ℕ) → Some c ≡ Some d → c ≡ d
 some_same c d h = cc
 
-pub ended : (old new : Option (List (List ℕ))) (page height size : ℕ) (bytes : List ℕ) (child : ℕ) (rs : List Record)
-    → IsRead old new page height size bytes
-    → ((inner : Inner) → inner_of size bytes ≡ Some inner → Some child ≡ Some (slice_index inner.children (length inner.children - 1)))
-    → Spells old page height rs → Ended old new page height child
-ended old new page height size bytes child rs r f s =
-    let h = page_here old new page height size bytes rs r s in
-    let is = some_same child (slice_index h.inner.children (length h.inner.children - 1)) (f h.inner h.is) in
-    let e = ends_below old page height child (length h.inner.children) h.inner r.some r.above h.reads refl is rs s in
-    record {
-      inner = h.inner;
-      at = record { told = r.told; some = r.some; above = r.above; reads = h.reads; many = refl; is_child = is };
-      here = e.here;
-      spells = along_told old new child (height - 1) e.here r.told e.spells;
-    }
+module _ (page height : ℕ) (bytes : List ℕ) where
+  pub leaf_led : (told : Option (List (List ℕ))) (k : Key) → height ≡ 1 → AreOf told page bytes → (rs : List Record) → Spells told page height rs
+      → IsLeafFor k rs bytes
+  leaf_led told k one are rs s = record {
+    here = rs;
+    is_leaf = leaf_here told page height bytes rs one are s;
+    before = [];
+    behind = [];
+    records = sym (append-nil rs);
+    lower = refl;
+    higher = refl;
+  }
+
+  pub ended : (old new : Option (List (List ℕ))) (size child : ℕ) (rs : List Record) → IsRead old new page height size bytes
+      → ((inner : Inner) → inner_of size bytes ≡ Some inner → Some child ≡ Some (slice_index inner.children (length inner.children - 1)))
+      → Spells old page height rs → Ended old new page height child
+  ended old new size child rs r f s =
+      let h = page_here old new page height size bytes rs r s in
+      let is = some_same child (slice_index h.inner.children (length h.inner.children - 1)) (f h.inner h.is) in
+      let e = ends_below old page height child (length h.inner.children) h.inner r.some r.above h.reads refl is rs s in
+      record {
+        inner = h.inner;
+        at = record { told = r.told; some = r.some; above = r.above; reads = h.reads; many = refl; is_child = is };
+        here = e.here;
+        spells = along_told old new child (height - 1) e.here r.told e.spells;
+      }
 
 abbrev pub IsLast : ℕ → List ℕ → ℕ → Type 0
 IsLast size bytes child = (inner : Inner) → inner_of size bytes ≡ Some inner → Some child ≡ Some (slice_index inner.children (length inner.children - 1))
 
-pub last_on : (r : Result Record Stop) (old new : Option (List (List ℕ))) (page height size : ℕ) (bytes : List ℕ) (child : ℕ)
-    → IsRead old new page height size bytes → IsLast size bytes child
-    → IfOk r (λ x. (rs : List Record) → Spells new child (height - 1) rs → last_or None rs ≡ Some x)
-    → IfOk r (λ x. (rs : List Record) → Spells old page height rs → last_or None rs ≡ Some x)
-last_on (Err e) old new page height size bytes child r is f = f
-last_on (Ok x) old new page height size bytes child r is f = λ rs s.
-    let a = ended old new page height size bytes child rs r is s in
-    last_up (Ok x) old new page height child (length a.inner.children) a.inner r.told r.some r.above a.at.reads refl a.at.is_child f rs s
+module _ (old new : Option (List (List ℕ))) (page height size : ℕ) (bytes : List ℕ) (child : ℕ) where
+  pub last_on : (r : Result Record Stop) → IsRead old new page height size bytes → IsLast size bytes child
+      → IfOk r (λ x. (rs : List Record) → Spells new child (height - 1) rs → last_or None rs ≡ Some x)
+      → IfOk r (λ x. (rs : List Record) → Spells old page height rs → last_or None rs ≡ Some x)
+  last_on (Err e) r is f = f
+  last_on (Ok x) r is f = λ rs s.
+      let a = ended page height bytes old new size child rs r is s in
+      last_up (Ok x) old new page height child (length a.inner.children) a.inner r.told r.some r.above a.at.reads refl a.at.is_child f rs s
 
-pub sound_last : {T : Type 0} (r : Result T Stop) (old new : Option (List (List ℕ))) (page height size : ℕ) (bytes : List ℕ) (child : ℕ)
-    → IsRead old new page height size bytes → IsLast size bytes child
-    → IfErr r (λ e. (rs : List Record) → Spells new child (height - 1) rs → IsSound e)
-    → IfErr r (λ e. (rs : List Record) → Spells old page height rs → IsSound e)
-sound_last (Ok v) old new page height size bytes child r is f = f
-sound_last (Err e) old new page height size bytes child r is f = λ rs s.
-    let a = ended old new page height size bytes child rs r is s in
-    f a.here a.spells
+  pub sound_last : {T : Type 0} (r : Result T Stop) → IsRead old new page height size bytes → IsLast size bytes child
+      → IfErr r (λ e. (rs : List Record) → Spells new child (height - 1) rs → IsSound e)
+      → IfErr r (λ e. (rs : List Record) → Spells old page height rs → IsSound e)
+  sound_last (Ok v) r is f = f
+  sound_last (Err e) r is f = λ rs s.
+      let a = ended page height bytes old new size child rs r is s in
+      f a.here a.spells
 
 pub touched_last : (r : Result Record Stop) (old new : Option (List (List ℕ))) (page height size : ℕ) (bytes : List ℕ) (child : ℕ)
     (h0 h1 h2 : Option (List ℕ)) → IsRead old new page height size bytes → IsLast size bytes child
@@ -230,7 +228,7 @@ pub touched_last : (r : Result Record Stop) (old new : Option (List (List ℕ)))
     → OnOk r ((rs : List Record) → Spells old page height rs → TouchesInTurn (λ pages. last_pages pages height page) old h0 h2)
 touched_last (Err e) old new page height size bytes child h0 h1 h2 r is t f = f
 touched_last (Ok x) old new page height size bytes child h0 h1 h2 r is t f = λ rs s.
-    let a = ended old new page height size bytes child rs r is s in
+    let a = ended page height bytes old new size child rs r is s in
     last_touched (Ok x) old new page height child (length a.inner.children) a.inner h0 h1 h2 a.at t (f a.here a.spells)
 
 -- a child of a well formed page is a page
@@ -315,7 +313,7 @@ module _ (old new : Option (List (List ℕ))) (page height size : ℕ) where
       → ((rs : List Record) → Spells new child (height - 1) rs → ReadsNone (λ pages. last_pages pages (height - 1) child) new h1 b c)
       → (rs : List Record) → Spells old page height rs → ReadsNone (λ pages. last_pages pages height page) old h0 a c
   again_last bytes child h0 h1 a b c r is t f g = λ rs s.
-      let at = ended old new page height size bytes child rs r is s in
+      let at = ended page height bytes old new size child rs r is s in
       last_again old new page height child (length at.inner.children) at.inner h0 h1 a b c at.at t f (g at.here at.spells)
 
   pub read_ok : (n : ℕ) (bytes : List ℕ) → 1 ≤ height → height ≢ 1 → new ≡ old → IfSome old (λ pages. length pages ≡ n) → size ≡ n

@@ -146,20 +146,21 @@ key_missing (k ∷ ks) (suc i) le = key_missing ks i (fewer (length ks) i le)
     fewer : (n i : ℕ) → suc n ≤ suc i → n ≤ i
     fewer n i h = omega arith
 
-pub last_step : (pages : ℕ) (bytes : List ℕ) (inner : Inner) (k : Key) (i n child : ℕ) (high : Option Key) → inner_of pages bytes ≡ Some inner
-    → IsPlace inner.keys k i → n ≡ length inner.children → n ≤ i + 1 → child ≡ slice_index inner.children i → IsStep k inner high child high
-last_step pages bytes inner k i n child high is p many le c =
-    let l = inner_list pages bytes inner is in
-    let few : length inner.keys ≤ i = let e = l.keys in omega arith in
-    record { place = i; is_place = p; child_is = c; next_is = sym (ap (λ o. option_or o high) (key_missing inner.keys i few)) }
-
 pub keys_many : (pages : ℕ) (bytes : List ℕ) (inner : Inner) (i n : ℕ) → inner_of pages bytes ≡ Some inner → n ≡ length inner.children
     → i + 1 < n → i < length inner.keys
 keys_many pages bytes inner i n is many more = let e = (inner_list pages bytes inner is).keys in omega arith
 
-pub next_step : (inner : Inner) (k next : Key) (i child : ℕ) (high : Option Key) → IsPlace inner.keys k i → child ≡ slice_index inner.children i
-    → slice_get inner.keys i ≡ Some next → IsStep k inner high child (Some next)
-next_step inner k next i child high p c is = record { place = i; is_place = p; child_is = c; next_is = sym (ap (λ o. option_or o high) is) }
+module _ (inner : Inner) (k : Key) (i child : ℕ) (high : Option Key) where
+  pub last_step : (pages : ℕ) (bytes : List ℕ) (n : ℕ) → inner_of pages bytes ≡ Some inner → IsPlace inner.keys k i → n ≡ length inner.children
+      → n ≤ i + 1 → child ≡ slice_index inner.children i → IsStep k inner high child high
+  last_step pages bytes n is p many le c =
+      let l = inner_list pages bytes inner is in
+      let few : length inner.keys ≤ i = let e = l.keys in omega arith in
+      record { place = i; is_place = p; child_is = c; next_is = sym (ap (λ o. option_or o high) (key_missing inner.keys i few)) }
+
+  pub next_step : (next : Key) → IsPlace inner.keys k i → child ≡ slice_index inner.children i → slice_get inner.keys i ≡ Some next
+      → IsStep k inner high child (Some next)
+  next_step next p c is = record { place = i; is_place = p; child_is = c; next_is = sym (ap (λ o. option_or o high) is) }
 
 first_over : (k next : Key) (ks : List Key) (i : ℕ) → list_all (λ l. is_lt (key_cmp k l)) (drop i ks) ≡ true → slice_get ks i ≡ Some next
     → is_lt (key_cmp k next) ≡ true

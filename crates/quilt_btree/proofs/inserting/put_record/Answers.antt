@@ -11,9 +11,7 @@ insert-requires-clause-order g c = gap_ascends c.args.r.now c.args.leaf.now c.ar
 
 pub returns-in-Ok-clause-put : goal.returns-in-Ok-clause-put
 returns-in-Ok-clause-put g c is_root b rs used same can =
-    leaf_done (g.S.PageStore.told c.args.store.now) (g.S.PageStore.told c.write_page.new.store) (g.S.PageStore.free c.args.store.now)
-    (g.S.PageStore.free c.write_page.new.store) (g.S.PageStore.size c.args.store.now)
-    c.args.page c.args.i c.args.r.now c.bytes.result.now is_root b rs used
+    leaf_done (g.S.PageStore.told c.args.store.now) (g.S.PageStore.told c.write_page.new.store) (g.S.PageStore.free c.args.store.now) (g.S.PageStore.free c.write_page.new.store) (g.S.PageStore.size c.args.store.now) c.args.page c.args.i c.args.r.now is_root b rs used c.bytes.result.now
     (record {
       inside = c.requires.page.1;
       many = g.met.S.PageStore.as_many c.args.store.now;

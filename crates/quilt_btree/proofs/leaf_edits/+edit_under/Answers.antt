@@ -16,10 +16,7 @@ returns-in-Err-clause-bad g t c = λ ne. c.in-Err.ensures.bad c.args.height c.re
 
 pub returns-in-Ok-clause-edited : goal.returns-in-Ok-clause-edited
 returns-in-Ok-clause-edited g t c =
-    step_edited c.edit_under.result (g.S.PageStore.told c.args.store.now) (g.S.PageStore.told c.step_at.new.store)
-    (g.S.PageStore.told c.edit_under.new.store) (g.S.PageStore.free c.args.store.now) (g.S.PageStore.free c.step_at.new.store)
-    (g.S.PageStore.free c.edit_under.new.store) (g.S.PageStore.size c.args.store.now) (g.S.PageStore.size c.step_at.new.store)
-    c.args.page c.args.height (g.S.PageStore.size c.args.store.now) c.in-Ok.ensures.shows.bytes c.in-Ok.step.child c.key.result.now c.args.high.now c.in-Ok.step.high c.args.run.now c.args.is_root
+    step_edited (g.S.PageStore.told c.args.store.now) (g.S.PageStore.told c.step_at.new.store) (g.S.PageStore.free c.args.store.now) (g.S.PageStore.free c.step_at.new.store) (g.S.PageStore.size c.args.store.now) (g.S.PageStore.size c.step_at.new.store) c.args.page c.args.height (g.S.PageStore.size c.args.store.now) c.in-Ok.ensures.shows.bytes c.in-Ok.step.child c.key.result.now c.args.high.now c.in-Ok.step.high c.args.run.now c.args.is_root c.edit_under.result (g.S.PageStore.told c.edit_under.new.store) (g.S.PageStore.free c.edit_under.new.store)
     (read_of _ _ _ _ _ _ (record {
       some = c.requires.height;
       above = c.if-height-eq1.false;
@@ -31,10 +28,7 @@ returns-in-Ok-clause-edited g t c =
 
 pub returns-in-Ok-clause-fails : goal.returns-in-Ok-clause-fails
 returns-in-Ok-clause-fails g t c =
-    step_fails c.edit_under.result (g.S.PageStore.told c.args.store.now) (g.S.PageStore.told c.step_at.new.store)
-    (g.S.PageStore.free c.args.store.now) (g.S.PageStore.free c.step_at.new.store) (g.S.PageStore.size c.args.store.now)
-    (g.S.PageStore.size c.step_at.new.store) c.args.page c.args.height (g.S.PageStore.size c.args.store.now) c.in-Ok.ensures.shows.bytes c.in-Ok.step.child c.key.result.now c.args.high.now c.in-Ok.step.high c.args.run.now
-    c.args.is_root
+    step_fails (g.S.PageStore.told c.args.store.now) (g.S.PageStore.told c.step_at.new.store) (g.S.PageStore.free c.args.store.now) (g.S.PageStore.free c.step_at.new.store) (g.S.PageStore.size c.args.store.now) (g.S.PageStore.size c.step_at.new.store) c.args.page c.args.height (g.S.PageStore.size c.args.store.now) c.in-Ok.ensures.shows.bytes c.in-Ok.step.child c.key.result.now c.args.high.now c.in-Ok.step.high c.args.run.now c.args.is_root c.edit_under.result
     (read_of _ _ _ _ _ _ (record {
       some = c.requires.height;
       above = c.if-height-eq1.false;
@@ -45,8 +39,7 @@ returns-in-Ok-clause-fails g t c =
     c.in-Ok.ensures.shows.step (least_first c.args.run.now c.key.result.now c.key.ensures c.requires.order c.requires.some) c.edit_under.ensures.fails
 
 pub returns-then-height-eq1-clause-fails : goal.returns-then-height-eq1-clause-fails
-returns-then-height-eq1-clause-fails g t c = fails_leaf c.edit_leaf.result (g.S.PageStore.told c.args.store.now)
-    (g.S.PageStore.free c.args.store.now) c.args.page c.args.height c.args.high.now c.args.run.now c.args.is_root c.if-height-eq1.true
+returns-then-height-eq1-clause-fails g t c = fails_leaf c.args.high.now c.args.run.now c.edit_leaf.result (g.S.PageStore.told c.args.store.now) (g.S.PageStore.free c.args.store.now) c.args.page c.args.height c.args.is_root c.if-height-eq1.true
     c.edit_leaf.ensures.fails
 
 pub returns-then-height-eq1-clause-bad : goal.returns-then-height-eq1-clause-bad
@@ -55,8 +48,7 @@ returns-then-height-eq1-clause-bad g t c =
 
 pub returns-in-Ok-clause-bad : goal.returns-in-Ok-clause-bad
 returns-in-Ok-clause-bad g t c =
-    named_below c.edit_under.result (g.S.PageStore.told c.args.store.now) (g.S.PageStore.told c.step_at.new.store)
-    c.args.page c.args.height (g.S.PageStore.size c.args.store.now) c.in-Ok.ensures.shows.bytes c.in-Ok.step.child
+    named_below (g.S.PageStore.told c.args.store.now) (g.S.PageStore.told c.step_at.new.store) c.args.page c.args.height (g.S.PageStore.size c.args.store.now) c.in-Ok.ensures.shows.bytes c.edit_under.result c.in-Ok.step.child
     (read_of _ _ _ _ _ _ (record {
       some = c.requires.height;
       above = c.if-height-eq1.false;

@@ -26,10 +26,7 @@ returns-then-not-leaves_ascend-clause-sound g c = λ height b rs used one m page
 
 pub returns-in-Ok-clause-rebalanced : goal.returns-in-Ok-clause-rebalanced
 returns-in-Ok-clause-rebalanced g c = λ height b rs used one m.
-    leaves_joined (g.S.PageStore.told c.args.store.now) (g.S.PageStore.told c.read_leaf-2.new.store) (g.S.PageStore.told c.write_and_give.new.store)
-    (g.S.PageStore.free c.args.store.now) (g.S.PageStore.free c.read_leaf-2.new.store) (g.S.PageStore.free c.write_and_give.new.store)
-    (g.S.PageStore.size c.args.store.now) c.args.left c.args.key.now c.args.right height b rs used c.in_ok-first.first c.in_ok-rest.rest
-    c.join.new.self c.bytes.result.now one (record {
+    leaves_joined (g.S.PageStore.told c.args.store.now) (g.S.PageStore.told c.read_leaf-2.new.store) (g.S.PageStore.told c.write_and_give.new.store) (g.S.PageStore.free c.args.store.now) (g.S.PageStore.free c.write_and_give.new.store) (g.S.PageStore.size c.args.store.now) c.args.left c.args.key.now c.args.right height b rs used c.in_ok-first.first c.in_ok-rest.rest c.bytes.result.now (g.S.PageStore.free c.read_leaf-2.new.store) c.join.new.self one (record {
       reads = c.in_ok-first.ensures.leaf;
       also = λ pages t. c.in_ok-rest.ensures.leaf pages (c.in_ok-first.ensures.left.told ∙ t);
       inside = c.requires.left.1;
@@ -58,10 +55,7 @@ returns-in-Err-write_both-clause-sound g c = λ height b rs used one m.
 
 pub returns-in-Ok-write_both-clause-rebalanced : goal.returns-in-Ok-write_both-clause-rebalanced
 returns-in-Ok-write_both-clause-rebalanced g c = λ height b rs used one m.
-    leaves_separated (g.S.PageStore.told c.args.store.now) (g.S.PageStore.told c.read_leaf-2.new.store) (g.S.PageStore.told c.write_both.new.store)
-    (g.S.PageStore.free c.args.store.now) (g.S.PageStore.free c.write_both.new.store)
-    (g.S.PageStore.size c.args.store.now) c.args.left c.args.key.now c.args.right height b rs used c.in_ok-first.first c.in_ok-rest.rest
-    c.share_records.new.left c.share_records.new.right c.rec.result c.bytes-2.result.now c.bytes-3.result.now one (record {
+    leaves_separated (g.S.PageStore.told c.args.store.now) (g.S.PageStore.told c.read_leaf-2.new.store) (g.S.PageStore.told c.write_both.new.store) (g.S.PageStore.free c.args.store.now) (g.S.PageStore.free c.write_both.new.store) (g.S.PageStore.size c.args.store.now) c.args.left c.args.key.now c.args.right height b rs used c.in_ok-first.first c.in_ok-rest.rest c.bytes-2.result.now c.share_records.new.left c.share_records.new.right c.rec.result c.bytes-3.result.now one (record {
       reads = c.in_ok-first.ensures.leaf;
       also = λ pages t. c.in_ok-rest.ensures.leaf pages (c.in_ok-first.ensures.left.told ∙ t);
       inside = c.requires.left.1;

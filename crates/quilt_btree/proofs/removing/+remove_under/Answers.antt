@@ -27,9 +27,7 @@ returns-in-Err-remove_under-clause-sound g t c = λ is_root b rs used can.
     let h = c.in-Ok.ensures.here c.args.height rs c.requires.height c.if-height-eq1.false
     (leaf_reads (g.S.PageStore.told c.args.store.now) (g.S.PageStore.free c.args.store.now) c.args.page c.args.height is_root b rs used can) in
     let w = c.in-Ok.ensures.way h.inner h.is in
-    sound_child c.in-Err-remove_under.e c.args.k.now (g.S.PageStore.told c.args.store.now) (g.S.PageStore.told c.read_way.new.store)
-    (g.S.PageStore.free c.args.store.now) (g.S.PageStore.free c.read_way.new.store)
-    c.args.page c.args.height c.in-Ok.way.child c.in-Ok.way.place h.inner
+    sound_child (g.S.PageStore.told c.args.store.now) (g.S.PageStore.told c.read_way.new.store) (g.S.PageStore.free c.args.store.now) (g.S.PageStore.free c.read_way.new.store) c.args.page c.args.height c.in-Ok.way.child c.in-Ok.way.place h.inner c.args.k.now c.in-Err-remove_under.e
     (record {
       some = c.requires.height;
       above = c.if-height-eq1.false;
@@ -90,11 +88,7 @@ returns-in-Some-clause-removed g t c =
     (subst (λ n. inner_of n c.read_way.new.bytes ≡ Some c.in-Some.inner)
     (c.pages.ensures ∙ c.in-Ok-Underfull.ensures.left.size ∙ c.in-Ok.ensures.left.size) c.in-Some.ensures.inner) in
     let found = rw c.in-Ok-Underfull.field-0-is at c.in-Ok-Underfull.ensures in
-    rebalanced_child c.rebalance_child.result c.args.k.now (g.S.PageStore.told c.args.store.now) (g.S.PageStore.told c.read_way.new.store)
-    (g.S.PageStore.told c.remove_under.new.store) (g.S.PageStore.told c.rebalance_child.new.store)
-    (g.S.PageStore.free c.args.store.now) (g.S.PageStore.free c.read_way.new.store) (g.S.PageStore.free c.remove_under.new.store)
-    (g.S.PageStore.free c.rebalance_child.new.store)
-    c.args.page c.args.height c.in-Ok.way.child c.in-Ok.way.place c.in-Some.inner
+    rebalanced_child c.args.k.now (g.S.PageStore.told c.args.store.now) (g.S.PageStore.told c.read_way.new.store) (g.S.PageStore.told c.remove_under.new.store) (g.S.PageStore.free c.args.store.now) (g.S.PageStore.free c.read_way.new.store) (g.S.PageStore.free c.remove_under.new.store) c.args.page c.args.height c.in-Ok.way.child c.in-Ok.way.place c.in-Some.inner c.rebalance_child.result (g.S.PageStore.told c.rebalance_child.new.store) (g.S.PageStore.free c.rebalance_child.new.store)
     (record {
       some = c.requires.height;
       above = c.if-height-eq1.false;
@@ -113,10 +107,7 @@ returns-in-Some-clause-sound g t c =
     (subst (λ n. inner_of n c.read_way.new.bytes ≡ Some c.in-Some.inner)
     (c.pages.ensures ∙ c.in-Ok-Underfull.ensures.left.size ∙ c.in-Ok.ensures.left.size) c.in-Some.ensures.inner) in
     let found = rw c.in-Ok-Underfull.field-0-is at c.in-Ok-Underfull.ensures in
-    rebalanced_sound c.rebalance_child.result c.args.k.now (g.S.PageStore.told c.args.store.now) (g.S.PageStore.told c.read_way.new.store)
-    (g.S.PageStore.told c.remove_under.new.store)
-    (g.S.PageStore.free c.args.store.now) (g.S.PageStore.free c.read_way.new.store) (g.S.PageStore.free c.remove_under.new.store)
-    c.args.page c.args.height c.in-Ok.way.child c.in-Ok.way.place c.in-Some.inner
+    rebalanced_sound c.args.k.now (g.S.PageStore.told c.args.store.now) (g.S.PageStore.told c.read_way.new.store) (g.S.PageStore.told c.remove_under.new.store) (g.S.PageStore.free c.args.store.now) (g.S.PageStore.free c.read_way.new.store) (g.S.PageStore.free c.remove_under.new.store) c.args.page c.args.height c.in-Ok.way.child c.in-Ok.way.place c.in-Some.inner c.rebalance_child.result
     (record {
       some = c.requires.height;
       above = c.if-height-eq1.false;
@@ -134,9 +125,7 @@ returns-in-Ok-Emptied-clause-sound g t c = λ is_root b rs used can.
     (leaf_reads (g.S.PageStore.told c.args.store.now) (g.S.PageStore.free c.args.store.now) c.args.page c.args.height is_root b rs used can) in
     let w = c.in-Ok.ensures.way h.inner h.is in
     let found = rw c.in-Ok-Emptied.field-0-is at c.in-Ok-Emptied.ensures in
-    emptied_child _ c.args.k.now (g.S.PageStore.told c.args.store.now) (g.S.PageStore.told c.read_way.new.store) (g.S.PageStore.told c.remove_under.new.store)
-    (g.S.PageStore.free c.args.store.now) (g.S.PageStore.free c.read_way.new.store) (g.S.PageStore.free c.remove_under.new.store)
-    c.args.page c.args.height c.in-Ok.way.child c.in-Ok.way.place h.inner
+    emptied_child c.args.k.now (g.S.PageStore.told c.args.store.now) (g.S.PageStore.told c.read_way.new.store) (g.S.PageStore.told c.remove_under.new.store) (g.S.PageStore.free c.args.store.now) (g.S.PageStore.free c.read_way.new.store) (g.S.PageStore.free c.remove_under.new.store) c.args.page c.args.height c.in-Ok.way.child c.in-Ok.way.place h.inner _
     (record {
       some = c.requires.height;
       above = c.if-height-eq1.false;
@@ -258,8 +247,7 @@ pub returns-in-None-clause-bad : goal.returns-in-None-clause-bad
 returns-in-None-clause-bad g t c =
     let same : c.pages-in-None.result ≡ g.S.PageStore.size c.args.store.now = c.pages-in-None.ensures ∙ c.in-Ok-Underfull.ensures.left.size ∙
     c.in-Ok.ensures.left.size in
-    inner_fault (g.S.PageStore.told c.args.store.now) (g.S.PageStore.told c.read_way.new.store) c.args.page c.args.height
-    c.pages-in-None.result c.inner_at_fault.result c.read_way.new.bytes
+    inner_fault (g.S.PageStore.told c.args.store.now) (g.S.PageStore.told c.read_way.new.store) c.args.page c.args.height c.pages-in-None.result c.read_way.new.bytes c.inner_at_fault.result
     (read_ok (g.S.PageStore.told c.args.store.now) (g.S.PageStore.told c.read_way.new.store) c.args.page c.args.height
     c.pages-in-None.result (g.S.PageStore.size c.args.store.now) c.read_way.new.bytes c.requires.height c.if-height-eq1.false
     c.in-Ok.ensures.left.told (g.met.S.PageStore.as_many c.args.store.now) same c.in-Ok.ensures.bytes)

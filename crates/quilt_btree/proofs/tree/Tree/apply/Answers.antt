@@ -37,8 +37,7 @@ apply_some-requires-clause-order g c = rest_ascends c.edits-run.result.now c.loo
 pub apply_some-requires-clause-room : goal.apply_some-requires-clause-room
 apply_some-requires-clause-room g c =
     subst (λ n. c.loop-done.self.records + more (rest c.edits-run.result.now c.loop-done.done) ≤ quota n) (sym c.loop-done.invariant.size)
-    (rest_room (g.S.PageStore.told c.args.store.now) (g.S.PageStore.told c.loop-done.store) (g.S.PageStore.free c.args.store.now)
-    (g.S.PageStore.free c.loop-done.store) (g.S.PageStore.size c.args.store.now) c.loop-done.done c.args.self.now c.loop-done.self c.edits-run.result.now
+    (rest_room (g.S.PageStore.told c.args.store.now) (g.S.PageStore.free c.args.store.now) (g.S.PageStore.size c.args.store.now) c.args.self.now c.edits-run.result.now (g.S.PageStore.told c.loop-done.store) (g.S.PageStore.free c.loop-done.store) c.loop-done.done c.loop-done.self
     c.loop-done.invariant.made (rw (← c.edits-run.ensures.edits) at c.requires.room))
 
 pub returns-in-Err-clause-fails : goal.returns-in-Err-clause-fails
@@ -84,13 +83,11 @@ returns-clause-left g c = record {
 }
 
 pub returns-clause-edited : goal.returns-clause-edited
-returns-clause-edited g c = rw (← c.edits-run.ensures.edits) ((made_all (g.S.PageStore.told c.args.store.now) (g.S.PageStore.told c.loop-done.store) (g.S.PageStore.free c.args.store.now)
-    (g.S.PageStore.free c.loop-done.store) (g.S.PageStore.size c.args.store.now) c.loop-done.done c.args.self.now c.loop-done.self c.edits-run.result.now
+returns-clause-edited g c = rw (← c.edits-run.ensures.edits) ((made_all (g.S.PageStore.told c.args.store.now) (g.S.PageStore.free c.args.store.now) (g.S.PageStore.size c.args.store.now) c.args.self.now c.edits-run.result.now (g.S.PageStore.told c.loop-done.store) (g.S.PageStore.free c.loop-done.store) c.loop-done.done c.loop-done.self
     c.loop-done-test.false c.loop-done.invariant.made).whole)
 
 pub returns-clause-count : goal.returns-clause-count
-returns-clause-count g c = rw (← c.edits-run.ensures.edits) ((made_all (g.S.PageStore.told c.args.store.now) (g.S.PageStore.told c.loop-done.store) (g.S.PageStore.free c.args.store.now)
-    (g.S.PageStore.free c.loop-done.store) (g.S.PageStore.size c.args.store.now) c.loop-done.done c.args.self.now c.loop-done.self c.edits-run.result.now
+returns-clause-count g c = rw (← c.edits-run.ensures.edits) ((made_all (g.S.PageStore.told c.args.store.now) (g.S.PageStore.free c.args.store.now) (g.S.PageStore.size c.args.store.now) c.args.self.now c.edits-run.result.now (g.S.PageStore.told c.loop-done.store) (g.S.PageStore.free c.loop-done.store) c.loop-done.done c.loop-done.self
     c.loop-done-test.false c.loop-done.invariant.made).count)
 
 pub returns-clause-list : goal.returns-clause-list

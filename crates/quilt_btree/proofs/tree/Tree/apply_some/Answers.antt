@@ -8,8 +8,7 @@ use Rattle.quilt_btree.proofs.tree.Tree.apply_some.Goals as goal
 
 pub returns-in-Err-clause-fails : goal.returns-in-Err-clause-fails
 returns-in-Err-clause-fails g c rs w page is =
-    whole_fails c.in-Err.e (g.S.PageStore.told c.args.store.now) (g.S.PageStore.free c.args.store.now) (g.S.PageStore.size c.args.store.now)
-    c.args.self.now rs c.args.run.now
+    whole_fails (g.S.PageStore.told c.args.store.now) (g.S.PageStore.free c.args.store.now) (g.S.PageStore.size c.args.store.now) c.args.self.now c.args.run.now c.in-Err.e rs
     (record {
       rooted = c.requires.rooted;
       least = (g.met.S.PageStore.in_range c.args.store.now).0;

@@ -105,8 +105,7 @@ returns-in-Ok-There-clause-inserts g c = record {
       (rw c.in-Ok-There.field-0-is at c.in-Ok-There.ensures.finds) is);
   changes =
       λ rs w room.
-      same_tree (g.S.PageStore.told c.args.store.now) (g.S.PageStore.told c.insert_under.new.store) (g.S.PageStore.free c.args.store.now)
-      (g.S.PageStore.free c.insert_under.new.store) c.args.self.now rs (c.in-Ok-There.ensures.leaves.same c.in-Ok-There.field-0-is).told
+      same_tree (g.S.PageStore.told c.args.store.now) (g.S.PageStore.free c.args.store.now) c.args.self.now rs (g.S.PageStore.told c.insert_under.new.store) (g.S.PageStore.free c.insert_under.new.store) (c.in-Ok-There.ensures.leaves.same c.in-Ok-There.field-0-is).told
       (c.in-Ok-There.ensures.leaves.same c.in-Ok-There.field-0-is).free w;
   count = λ e. absurd (false≢true e);
 }
@@ -229,8 +228,7 @@ returns-then-self-eq3-clause-goes g c rs w n room =
 
 pub returns-in-Err-insert_under-clause-goes : goal.returns-in-Err-insert_under-clause-goes
 returns-in-Err-insert_under-clause-goes g c rs w n room =
-    sound_kept c.in-Err-insert_under.e (g.S.PageStore.told c.args.store.now) (g.S.PageStore.free c.args.store.now)
-    (g.S.PageStore.size c.args.store.now) c.args.self.now c.args.r.now.key rs c.if-self-eq0.false c.in-Err-insert_under.ensures.sound
+    sound_kept (g.S.PageStore.told c.args.store.now) (g.S.PageStore.free c.args.store.now) c.args.self.now rs c.in-Err-insert_under.e (g.S.PageStore.size c.args.store.now) c.args.r.now.key c.if-self-eq0.false c.in-Err-insert_under.ensures.sound
     (few_records (g.S.PageStore.size c.args.store.now) c.args.self.now.records rs n c.requires.room (g.met.S.PageStore.in_range c.args.store.now).1) room w
 
 pub returns-in-Err-write_new-clause-goes : goal.returns-in-Err-write_new-clause-goes

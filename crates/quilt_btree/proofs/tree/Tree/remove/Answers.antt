@@ -21,8 +21,7 @@ returns-then-self-eq0-clause-removes g c = record {
 
 pub returns-in-Err-clause-sound : goal.returns-in-Err-clause-sound
 returns-in-Err-clause-sound g c =
-    λ rs w. sound_root c.in-Err.e (g.S.PageStore.told c.args.store.now) (g.S.PageStore.free c.args.store.now)
-    (g.S.PageStore.size c.args.store.now) c.args.self.now rs
+    λ rs w. sound_root (g.S.PageStore.told c.args.store.now) (g.S.PageStore.free c.args.store.now) (g.S.PageStore.size c.args.store.now) c.args.self.now c.in-Err.e rs
     (record {
       rooted = c.requires.rooted;
       least = (g.met.S.PageStore.in_range c.args.store.now).0;
@@ -86,8 +85,7 @@ returns-in-Ok-Done-clause-removes g c = record {
 pub returns-in-Ok-Done-clause-sound : goal.returns-in-Ok-Done-clause-sound
 returns-in-Ok-Done-clause-sound g c =
     let found = rw c.in-Ok-Done.field-0-is at c.in-Ok-Done.ensures in
-    shrunk_sound c.shrink.result (g.S.PageStore.told c.args.store.now) (g.S.PageStore.free c.args.store.now) (g.S.PageStore.size c.args.store.now)
-    c.args.self.now (c.args.self.now.height ≡ 0 → (c.args.self.now.root ≡ 0) × (c.args.self.now.records ≡ 1)) (1 ≤ c.args.self.now.height
+    shrunk_sound (g.S.PageStore.told c.args.store.now) (g.S.PageStore.free c.args.store.now) (g.S.PageStore.size c.args.store.now) c.args.self.now c.shrink.result (c.args.self.now.height ≡ 0 → (c.args.self.now.root ≡ 0) × (c.args.self.now.records ≡ 1)) (1 ≤ c.args.self.now.height
     → 2 ≤ c.args.self.now.records) c.shrink.ensures.sound
     (λ rs w. (
       λ e. absurd (c.if-self-eq0.false e),
@@ -134,8 +132,7 @@ returns-in-Ok-Underfull-clause-removes g c = record {
 pub returns-in-Ok-Underfull-clause-sound : goal.returns-in-Ok-Underfull-clause-sound
 returns-in-Ok-Underfull-clause-sound g c =
     let found = rw c.in-Ok-Underfull.field-0-is at c.in-Ok-Underfull.ensures in
-    shrunk_sound c.shrink-in-Ok-Underfull.result (g.S.PageStore.told c.args.store.now) (g.S.PageStore.free c.args.store.now)
-    (g.S.PageStore.size c.args.store.now) c.args.self.now (c.args.self.now.height ≡ 0 → (c.args.self.now.root ≡ 0)
+    shrunk_sound (g.S.PageStore.told c.args.store.now) (g.S.PageStore.free c.args.store.now) (g.S.PageStore.size c.args.store.now) c.args.self.now c.shrink-in-Ok-Underfull.result (c.args.self.now.height ≡ 0 → (c.args.self.now.root ≡ 0)
     × (c.args.self.now.records ≡ 1)) (1 ≤ c.args.self.now.height → 2 ≤ c.args.self.now.records) c.shrink-in-Ok-Underfull.ensures.sound
     (λ rs w. (
       λ e. absurd (c.if-self-eq0.false e),
@@ -196,8 +193,7 @@ returns-in-Ok-clause-removes g c = record {
 pub returns-in-Ok-clause-sound : goal.returns-in-Ok-clause-sound
 returns-in-Ok-clause-sound g c =
     let found = rw c.in-Ok-Emptied.field-0-is at c.in-Ok-Emptied.ensures in
-    shrunk_sound c.shrink-in-Ok.result (g.S.PageStore.told c.args.store.now) (g.S.PageStore.free c.args.store.now)
-    (g.S.PageStore.size c.args.store.now) c.args.self.now (0 ≡ 0 → (0 ≡ 0) × (c.args.self.now.records ≡ 1)) (1 ≤ 0 → 2 ≤ c.args.self.now.records)
+    shrunk_sound (g.S.PageStore.told c.args.store.now) (g.S.PageStore.free c.args.store.now) (g.S.PageStore.size c.args.store.now) c.args.self.now c.shrink-in-Ok.result (0 ≡ 0 → (0 ≡ 0) × (c.args.self.now.records ≡ 1)) (1 ≤ 0 → 2 ≤ c.args.self.now.records)
     c.shrink-in-Ok.ensures.sound
     (λ rs w. (
       λ e. (
@@ -218,9 +214,7 @@ pub returns-in-Err-give_back-2-clause-sound : goal.returns-in-Err-give_back-2-cl
 returns-in-Err-give_back-2-clause-sound g c =
     let found = rw c.in-Ok-Only.field-0-is at c.in-Ok-Only.ensures in
     λ rs w. c.in-Err-give_back-2.ensures.sound
-    (one_only c.args.k.now (g.S.PageStore.told c.args.store.now) (g.S.PageStore.told c.remove_under.new.store)
-    (g.S.PageStore.free c.args.store.now) (g.S.PageStore.free c.remove_under.new.store) (g.S.PageStore.size c.args.store.now)
-    c.in-Ok-Only.child c.args.self.now rs
+    (one_only (g.S.PageStore.told c.args.store.now) (g.S.PageStore.free c.args.store.now) (g.S.PageStore.size c.args.store.now) c.args.self.now c.args.k.now (g.S.PageStore.told c.remove_under.new.store) (g.S.PageStore.free c.remove_under.new.store) c.in-Ok-Only.child rs
     (record {
       rooted = c.requires.rooted;
       least = (g.met.S.PageStore.in_range c.args.store.now).0;
@@ -265,22 +259,17 @@ returns-in-Ok-give_back-clause-removes g c = record {
 pub returns-in-Ok-give_back-clause-sound : goal.returns-in-Ok-give_back-clause-sound
 returns-in-Ok-give_back-clause-sound g c =
     let found = rw c.in-Ok-Only.field-0-is at c.in-Ok-Only.ensures in
-    shrunk_sound c.shrink-in-Ok-give_back.result (g.S.PageStore.told c.args.store.now) (g.S.PageStore.free c.args.store.now)
-    (g.S.PageStore.size c.args.store.now) c.args.self.now (c.args.self.now.height - 1 ≡ 0 → (c.in-Ok-Only.child ≡ 0)
+    shrunk_sound (g.S.PageStore.told c.args.store.now) (g.S.PageStore.free c.args.store.now) (g.S.PageStore.size c.args.store.now) c.args.self.now c.shrink-in-Ok-give_back.result (c.args.self.now.height - 1 ≡ 0 → (c.in-Ok-Only.child ≡ 0)
     × (c.args.self.now.records ≡ 1)) (1 ≤ c.args.self.now.height - 1 → 2 ≤ c.args.self.now.records) c.shrink-in-Ok-give_back.ensures.sound
     (λ rs w. (
-      λ e. absurd ((one_only c.args.k.now (g.S.PageStore.told c.args.store.now) (g.S.PageStore.told c.remove_under.new.store)
-          (g.S.PageStore.free c.args.store.now) (g.S.PageStore.free c.remove_under.new.store) (g.S.PageStore.size c.args.store.now)
-          c.in-Ok-Only.child c.args.self.now rs
+      λ e. absurd ((one_only (g.S.PageStore.told c.args.store.now) (g.S.PageStore.free c.args.store.now) (g.S.PageStore.size c.args.store.now) c.args.self.now c.args.k.now (g.S.PageStore.told c.remove_under.new.store) (g.S.PageStore.free c.remove_under.new.store) c.in-Ok-Only.child rs
           (record {
             rooted = c.requires.rooted;
             least = (g.met.S.PageStore.in_range c.args.store.now).0;
             inside = g.met.S.PageStore.free_pages_are c.args.store.now;
             above = c.if-self-eq0.false;
           }) found.removed w).2 e),
-      λ h. (one_only c.args.k.now (g.S.PageStore.told c.args.store.now) (g.S.PageStore.told c.remove_under.new.store)
-          (g.S.PageStore.free c.args.store.now) (g.S.PageStore.free c.remove_under.new.store) (g.S.PageStore.size c.args.store.now)
-          c.in-Ok-Only.child c.args.self.now rs
+      λ h. (one_only (g.S.PageStore.told c.args.store.now) (g.S.PageStore.free c.args.store.now) (g.S.PageStore.size c.args.store.now) c.args.self.now c.args.k.now (g.S.PageStore.told c.remove_under.new.store) (g.S.PageStore.free c.remove_under.new.store) c.in-Ok-Only.child rs
           (record {
             rooted = c.requires.rooted;
             least = (g.met.S.PageStore.in_range c.args.store.now).0;
