@@ -126,7 +126,7 @@ pub under_edited : (told then_told now_told : Option (List (List ℕ))) (free th
     → DidEdit xs told now_told free now page height is_root b rs used
 under_edited told then_told now_told free then_free now size then_size page height child i k inner high next run xs is_root b rs used l is_next whole
     from f top above can =
-    let a = at_run told then_told free then_free size then_size page height child i k inner high next is_root b rs used l is_next top can in
+    let a = at_run high next l is_next top can in
     let x = a.x in
     let ka = take i inner.keys in
     let kb = drop i inner.keys in
@@ -179,7 +179,7 @@ pub under_fails : (told then_told : Option (List (List ℕ))) (free then_free : 
     → e ≡ Damaged q → (q ≡ 0) × Fails run b.high rs)
     → b.high ≡ high → CanEdit told free page height is_root b rs used → e ≡ Damaged q → (q ≡ 0) × Fails run b.high rs
 under_fails told then_told free then_free size then_size page height child i k inner high next run is_root b rs used e q l is_next from f top can damaged =
-    let a = at_run told then_told free then_free size then_size page height child i k inner high next is_root b rs used l is_next top can in
+    let a = at_run high next l is_next top can in
     let x = a.x in
     let h = f (child_bounds inner b i) x.at.here x.at.here_used a.top a.can q damaged in
     let none = h.1 in
@@ -214,7 +214,7 @@ module _ (old new : Option (List (List ℕ))) (free then_free : ℕ → Bool) (s
   step_edited (Err e) now_told now is same step from f = f
   step_edited (Ok n) now_told now is same step from f =
       λ one b rs used top above can.
-      let h = page_here old new page height count bytes rs is (edit_spells old free page height is_root b rs used can) in
+      let h = page_here is (edit_spells old free page height is_root b rs used can) in
       let st = step h.inner h.is in
       under_edited old new now_told free then_free now size then_size page height child st.place k h.inner high next run (take n run) is_root b rs used
       (record { same = same; some = is.some; above = is.above; reads = h.reads; place = st.is_place; is_child = st.child_is })
@@ -227,7 +227,7 @@ module _ (old new : Option (List (List ℕ))) (free then_free : ℕ → Bool) (s
   step_fails (Ok n) is same step from f = f
   step_fails (Err e) is same step from f =
       λ b rs used top can q damaged.
-      let h = page_here old new page height count bytes rs is (edit_spells old free page height is_root b rs used can) in
+      let h = page_here is (edit_spells old free page height is_root b rs used can) in
       let st = step h.inner h.is in
       under_fails old new free then_free size then_size page height child st.place k h.inner high next run is_root b rs used e q
       (record { same = same; some = is.some; above = is.above; reads = h.reads; place = st.is_place; is_child = st.child_is })

@@ -62,10 +62,11 @@ leaf_made told now_told free now size page least is_root b rs used high run n ol
     top (all_first (is_above b.low) n run above) can
 
 -- an edit of the leaf is not due
-pub leaf_fails : (told : Option (List (List ℕ))) (free : ℕ → Bool) (page : ℕ) (is_root : Bool) (b : Bounds) (rs : List Record)
-    (used : List ℕ) (high : Option Key) (run : List Edit) (old : List ℕ) → IfSome told (λ pages. old ≡ slice_index_or pages page [])
-    → ((rs : List Record) → leaf_of old ≡ Some rs → Fails run high rs) → b.high ≡ high → CanEdit told free page 1 is_root b rs used → Fails run b.high rs
-leaf_fails told free page is_root b rs used high run old shown fails top can =
+pub leaf_fails : {told : Option (List (List ℕ))} {free : ℕ → Bool} {page : ℕ} {is_root : Bool} {b : Bounds} {rs : List Record} {used : List ℕ}
+    (high : Option Key) (run : List Edit) (old : List ℕ) → IfSome told (λ pages. old ≡ slice_index_or pages page [])
+    → ((rs : List Record) → leaf_of old ≡ Some rs → Fails run high rs) → b.high ≡ high → CanEdit told free page 1 is_root b rs used
+    → Fails run b.high rs
+leaf_fails {told = told} {free = free} {page = page} {is_root = is_root} {b = b} {rs = rs} {used = used} high run old shown fails top can =
     subst (λ o. Fails run o rs) (sym top) (fails rs (lent_leaf told free page is_root b rs used old shown can))
 
 -- bytes that are written back as they were change nothing

@@ -105,12 +105,10 @@ lower_before old new newer page height child prior i k inner r a some t is f g r
     }
 
 -- the cursor goes back within its leaf
-pub goes_back : (told : Option (List (List ℕ))) (t : Tree) (r : Record) (bytes : List ℕ) (place low : ℕ) (high : Option Key)
-    (before after : List Record)
-    → place ≡ suc low → slice_get (records_of bytes) low ≡ Some r
-    → StandsAt told t bytes place high before after
+pub goes_back : {told : Option (List (List ℕ))} {t : Tree} (r : Record) {bytes : List ℕ} {place : ℕ} (low : ℕ) {high : Option Key}
+    {before after : List Record} → place ≡ suc low → slice_get (records_of bytes) low ≡ Some r → StandsAt told t bytes place high before after
     → GoesBackTo told t r bytes low high before after
-goes_back told t r bytes place low high before after e at s =
+goes_back {told = told} {t = t} r {bytes = bytes} {place = place} low {high = high} {before = before} {after = after} e at s =
     let here = records_of bytes in
     record {
       rest = s.first ++ take low here;

@@ -28,9 +28,9 @@ use Rattle.quilt_btree.proofs.stores.Writes.{tells_at, TellsAll, all_told, both_
 abbrev pub IsWritten : List ℕ → Inner → Type 0
 IsWritten bytes inner = (pages : ℕ) → are_pages pages inner.children ≡ true → inner_of pages bytes ≡ Some inner
 
-pub pending_taken : (told : Option (List (List ℕ))) (free : ℕ → Bool) (page : ℕ) (is_root : Bool) (b : Bounds) (inner : Inner) (all : List Record)
-    (under : List ℕ) → IsPending told free page is_root b inner all under → free page ≡ false
-pending_taken told free page is_root b inner all under p = used_not_free free (under ++ page ∷ []) page p.apart (page_in page under)
+pub pending_taken : {told : Option (List (List ℕ))} {free : ℕ → Bool} {page : ℕ} {is_root : Bool} {b : Bounds} {inner : Inner} {all : List Record}
+    {under : List ℕ} → IsPending told free page is_root b inner all under → free page ≡ false
+pending_taken {told = told} {free = free} {page = page} {is_root = is_root} {b = b} {inner = inner} {all = all} {under = under} p = used_not_free free (under ++ page ∷ []) page p.apart (page_in page under)
 
 pub put_done : (told now_told : Option (List (List ℕ))) (free now : ℕ → Bool) (size page height : ℕ) (inner : Inner) (bytes : List ℕ)
     (is_root : Bool) (b : Bounds) (all : List Record) (under : List ℕ)

@@ -117,7 +117,7 @@ module _ (r : Record) (told now_told : Option (List (List ℕ))) (free now : ℕ
       let inside = all_told told size new pages many w.tree.is_told range.1 in
       let one : 1 ≤ 1 = omega arith in
       let here : 1 ≤ times new (new ∷ []) = first (times new (new ∷ [])) (times_here new []) in
-      let moves = moves_then pages pages news free now now [] (new ∷ []) (new ∷ []) (moves_taken pages free now [] new was_free taken)
+      let moves = moves_then (moves_taken pages free now [] new was_free taken)
       (moves_written pages now (new ∷ []) new bytes (used_account now (new ∷ []) new here)) in
       kept_again pages news now_told free now new 1 1 [] (new ∷ []) (put r rs) (written.1 ∙ ap Some written.2) one
       (subst (λ l. Subtree news 1 true (new, everywhere) (put r l) (new ∷ [])) (sym no_rs)

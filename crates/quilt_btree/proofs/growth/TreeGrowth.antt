@@ -185,11 +185,11 @@ few_records size records rs is room most = below size (length rs) records is roo
     below : (n l m : ℕ) → l ≡ m → m < quota n → n ≤ 30000 → l < 2322576
     below n l m e h most = omega arith
 
-pub sound_root : (e : Stop) (told : Option (List (List ℕ))) (free : ℕ → Bool) (size : ℕ) (t : Tree) (k : Key) (rs : List Record)
+pub sound_root : (e : Stop) {told : Option (List (List ℕ))} {free : ℕ → Bool} {size : ℕ} {t : Tree} (k : Key) {rs : List Record}
     → IsInserting told free size t → t.height ≢ 0
     → ((is_root : Bool) (b : Bounds) (rs : List Record) (used : List ℕ) → CanInsert told free size t.root t.height is_root b k rs used → AreFew rs → IsSound e)
     → IsWhole told free size t rs → IsSound e
-sound_root e told free size t k rs i ne f w =
+sound_root e {told = told} {free = free} {size = size} {t = t} k {rs = rs} i ne f w =
     let x = insert_from told free size t rs i ne w in
     f true everywhere rs x.used (whole_can told free size t.root t.height k rs i.rooted.height x) (few_records size t.records rs w.number i.room i.most)
 
@@ -319,8 +319,8 @@ regrown_split told mid_told now_told pages mids free mid now size t all used key
       is = written.1 ∙ ap Some written.2;
       uses = grown.uses;
       subtree = subst (λ n. Subtree news n true (new, everywhere) all grown.uses) (sym taller) grown.subtree;
-      moves = moves_then pages mids news free now now used (U ++ new ∷ []) grown.uses
-          (moves_then pages mids mids free mid now used U (U ++ new ∷ []) separated.moves taken) grown.moves;
+      moves = moves_then
+          (moves_then separated.moves taken) grown.moves;
     }
 
 pub whole_split : (r : Record) (told mid_told now_told : Option (List (List ℕ))) (free mid now : ℕ → Bool) (size : ℕ) (t : Tree) (rs : List Record)
@@ -372,7 +372,7 @@ whole_first r told now_told free now size t rs new bytes i none leaf range was_f
     let apart = at_most_one free [] size i.inside (λ p. nothing) balance in
     let one : 1 ≤ 1 = omega arith in
     let here : 1 ≤ times new (new ∷ []) = first (times new (new ∷ [])) (times_here new []) in
-    let moves = moves_then pages pages news free now now [] (new ∷ []) (new ∷ []) (moves_taken pages free now [] new was_free taken)
+    let moves = moves_then (moves_taken pages free now [] new was_free taken)
     (moves_written pages now (new ∷ []) new bytes (used_account now (new ∷ []) new here)) in (
       sym (ap (λ l. not (list_any (has_key r.key) l)) no_rs),
       whole_again pages news now_told free now size new 1 1 [] (new ∷ []) (put r rs) (written.1 ∙ ap Some written.2) one

@@ -256,7 +256,7 @@ has_put : (r : Record) (pages mid news : List (List ℕ)) (free between now : �
     → HasPut mid news between now page height is_root b more (put r rs) o → HasInserted r pages news free now page height is_root b rs used o
 has_put r pages mid news free between now page height is_root b rs used more inserted.There none m h = absurd h
 has_put r pages mid news free between now page height is_root b rs used more inserted.Done none m h =
-    (none, becomes_then pages mid news free between now page height is_root b used more (put r rs) m h)
+    (none, becomes_then m h)
 has_put r pages mid news free between now page height is_root b rs used more (inserted.Split key right) none m h = (
   none,
   record {
@@ -269,7 +269,7 @@ has_put r pages mid news free between now page height is_root b rs used more (in
     records = h.records;
     low = h.low;
     high = h.high;
-    moves = moves_then pages mid news free between now used more (h.rest_uses ++ h.first_uses) m h.moves;
+    moves = moves_then m h.moves;
   },
 )
 
@@ -305,10 +305,10 @@ took_child (Ok o) r told then_told mid_told now_told free then_free mid now size
     }
 
 -- a page of height 3 has a place for another child
-few_under : (told : Option (List (List ℕ))) (free : ℕ → Bool) (size page height : ℕ) (is_root : Bool) (b : Bounds) (k : Key) (rs : List Record)
-    (used : List ℕ)
-    (inner : Inner) → ReadsInner told page inner → CanInsert told free size page height is_root b k rs used → AreFew rs → height ≡ 3 → length inner.children < 254
-few_under told free size page height is_root b k rs used inner reads can few three =
+few_under : {told : Option (List (List ℕ))} {free : ℕ → Bool} {size page height : ℕ} {is_root : Bool} {b : Bounds} {k : Key} {rs : List Record}
+    {used : List ℕ} (inner : Inner) → ReadsInner told page inner → CanInsert told free size page height is_root b k rs used → AreFew rs → height ≡ 3
+    → length inner.children < 254
+few_under {told = told} {free = free} {size = size} {page = page} {height = height} {is_root = is_root} {b = b} {k = k} {rs = rs} {used = used} inner reads can few three =
     let e = can.can_edit in
     few_children e.pages is_root (page, b) rs used inner (subst (λ h. Subtree e.pages h is_root (page, b) rs used) three e.subtree) (reads e.pages e.is_told) few
 
@@ -333,7 +333,7 @@ sound_child (Err e) r told then_told mid_told free then_free mid size then_size 
     under_takes r told then_told mid_told free then_free mid size then_size page height child i inner is_root b rs used key right l many in_range f can in
     g is_root b (put r rs) x.under x.pending
     (subst (λ n. 0 < count_free mid n) (sym same) (left (count_free free size) (count_free mid size) height l.some few can.room))
-    (λ three. few_under told free size page height is_root b r.key rs used inner l.reads can small (sym x.tall ∙ three))
+    (λ three. few_under inner l.reads can small (sym x.tall ∙ three))
   where
     left : (c d h : ℕ) → 1 ≤ h → c ≤ d + (h - 1) → h ≤ c → 0 < d
     left c d h some e f = omega arith

@@ -30,10 +30,10 @@ pub record Rebalances (told mid : Option (List (List ℕ))) (free between : ℕ 
   pub is : mid ≡ Some news
   pub done : HasRebalanced pages news free between height left right b rs used o
 
-pub rebalances : (told mid : Option (List (List ℕ))) (free between : ℕ → Bool) (pages : List (List ℕ)) (height left right : ℕ) (b : Bounds)
-    (rs : List Record) (used : List ℕ) (o : Rebalanced) → told ≡ Some pages → DidRebalance told mid free between height left right b rs used o
+pub rebalances : {told mid : Option (List (List ℕ))} {free between : ℕ → Bool} (pages : List (List ℕ)) {height left right : ℕ} {b : Bounds}
+    {rs : List Record} {used : List ℕ} {o : Rebalanced} → told ≡ Some pages → DidRebalance told mid free between height left right b rs used o
     → Rebalances told mid free between pages height left right b rs used o
-rebalances told mid free between pages height left right b rs used o e d =
+rebalances {told = told} {mid = mid} {free = free} {between = between} pages {height = height} {left = left} {right = right} {b = b} {rs = rs} {used = used} {o = o} e d =
     let same : d.pages ≡ pages = some_same d.pages pages (sym d.was ∙ e) in
     record { news = d.news; is = d.is; done = subst (λ p. HasRebalanced p d.news free between height left right b rs used o) same d.done }
   where
@@ -63,7 +63,7 @@ module _ (told mid : Option (List (List ℕ))) (free between : ℕ → Bool) (pa
       → ChildrenRebalanced mid free between page below n.pages (without_child inner j) b rs used
   joined_children n d =
       let gap = gap_bounds n.cut.ka n.cut.kb b in
-      let m = rebalances told mid free between n.pages (suc below) left right gap n.here n.here_used rebalanced.Joined n.is_told d in
+      let m = rebalances n.pages n.is_told d in
       let apart = subst (AreApart free) n.is_used n.apart in
       let S = Subtree m.news (suc below) false in
       let changed = middle_changed S n.pages m.news free between below page (same_subtree m.news below) (front n.cut.ca n.cut.ka b) ((left, gap) ∷ [])
@@ -94,7 +94,7 @@ module _ (told mid : Option (List (List ℕ))) (free between : ℕ → Bool) (pa
       → FitsBetween n.cut.ka separator n.cut.kb b
   separated_ascends separator n d =
       let gap = gap_bounds n.cut.ka n.cut.kb b in
-      let m = rebalances told mid free between n.pages (suc below) left right gap n.here n.here_used (rebalanced.Redistributed separator) n.is_told d in
+      let m = rebalances n.pages n.is_told d in
       fits_between n.cut.ka key separator n.cut.kb b n.ascends n.within
       (strictly_above m.news (suc below) left gap.low separator m.done.first m.done.first_uses m.done.is_left) m.done.low m.done.high
 
@@ -110,7 +110,7 @@ module _ (told : Option (List (List ℕ))) (free : ℕ → Bool) (page below : �
         → ChildrenRebalanced mid free between page below n.pages (with_key inner j separator) b rs used
     separated_children mid between d =
         let gap = gap_bounds n.cut.ka n.cut.kb b in
-        let m = rebalances told mid free between n.pages (suc below) left right gap n.here n.here_used (rebalanced.Redistributed separator) n.is_told d in
+        let m = rebalances n.pages n.is_told d in
         let apart = subst (AreApart free) n.is_used n.apart in
         let S = Subtree m.news (suc below) false in
         let low : ℕ × Bounds = (left, record { low = gap.low; high = Some separator }) in
@@ -172,7 +172,7 @@ module _ (mid : Option (List (List ℕ))) (free between : ℕ → Bool) (page be
         news = news;
         is = w.is;
         becomes = subst (λ g. Becomes pages news free g page (suc (suc below)) r b used rs) (sym f)
-            (becomes_then pages m.news news free between between page (suc (suc below)) r b used (m.uses ++ page ∷ []) rs m.moves becomes);
+            (becomes_then m.moves becomes);
         page_is = ap (λ n. inner_of n (slice_index_or news page [])) (length-set m.news page w.bytes)
             ∙ ap (inner_of (length m.news)) (get_or-set_same m.news page w.bytes [] there) ∙ w.inner_is;
       }

@@ -162,11 +162,11 @@ pub record LeafAfter (k : Key) (told now_told : Option (List (List ℕ))) (free 
   pub had : list_any (has_key k) rs ≡ true
   pub page_is : leaf_of (slice_index_or news page []) ≡ Some all
 
-pub leaf_after : (k : Key) (told mid now_told : Option (List (List ℕ))) (free now : ℕ → Bool) (page size i : ℕ) (is_root r : Bool) (b : Bounds)
-    (rs leaf all : List Record) (used bytes : List ℕ)
-    → LeafCut k told mid now_told free now page size i leaf all bytes → (r || nat_le 72 (length all)) ≡ true → CanEdit told free page 1 is_root b rs used
+pub leaf_after : {k : Key} {told mid now_told : Option (List (List ℕ))} {free now : ℕ → Bool} {page size i : ℕ} {is_root : Bool} (r : Bool)
+    {b : Bounds} {rs leaf all : List Record} {used bytes : List ℕ} → LeafCut k told mid now_told free now page size i leaf all bytes
+    → (r || nat_le 72 (length all)) ≡ true → CanEdit told free page 1 is_root b rs used
     → LeafAfter k told now_told free now page is_root r b rs all used bytes
-leaf_after k told mid now_told free now page size i is_root r b rs leaf all used bytes c enough can =
+leaf_after {k = k} {told = told} {mid = mid} {now_told = now_told} {free = free} {now = now} {page = page} {size = size} {i = i} {is_root = is_root} r {b = b} {rs = rs} {leaf = leaf} {all = all} {used = used} {bytes = bytes} c enough can =
     let same = leaf_same told free page is_root b rs leaf used can c.reads in
     let s : Subtree can.pages 1 is_root (page, b) rs used = can.subtree in
     let on = tells_on (λ old new. new ≡ slice_set old page bytes) mid now_told can.pages (c.is_mid ∙ can.is_told) c.tells in
@@ -197,7 +197,7 @@ module _ (k : Key) (told mid now_told : Option (List (List ℕ))) (free now : �
       → DidRemove k told now_told free now page height is_root b rs used removed.Done
   leaf_done enough can =
       let can1 = subst (λ h. CanEdit told free page h is_root b rs used) one can in
-      let a = leaf_after k told mid now_told free now page size i is_root is_root b rs leaf all used bytes c (many_enough is_root 72 (length all) enough) can1 in
+      let a = leaf_after is_root c (many_enough is_root 72 (length all) enough) can1 in
       subst (λ h. DidRemove k told now_told free now page h is_root b rs used removed.Done) (sym one)
       (a.had, record { pages = a.pages; news = a.news; was = a.was; is = a.is; left = a.becomes })
 
@@ -205,7 +205,7 @@ module _ (k : Key) (told mid now_told : Option (List (List ℕ))) (free now : �
       → DidRemove k told now_told free now page height is_root b rs used removed.Underfull
   leaf_underfull can =
       let can1 = subst (λ h. CanEdit told free page h is_root b rs used) one can in
-      let a = leaf_after k told mid now_told free now page size i is_root true b rs leaf all used bytes c refl can1 in
+      let a = leaf_after true c refl can1 in
       let same = leaf_same told free page is_root b rs leaf used can1 c.reads in
       let s : Subtree can1.pages 1 is_root (page, b) rs used = can1.subtree in
       let fewer : suc (length all) ≡ length rs = ap (λ l. suc (length l)) c.all_is ∙ one_fewer leaf i c.found.in_range ∙ ap length same in

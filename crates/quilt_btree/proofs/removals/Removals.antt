@@ -243,10 +243,10 @@ left_then : (pages mids news : List (List ℕ)) (free then now : ℕ → Bool) (
     (all : List Record) (o : Removed) → height ≢ 1 → Moves pages mids free then used more
     → HasLeft mids news then now page height is_root b more all o → HasLeft pages news free now page height is_root b used all o
 left_then pages mids news free then now page height is_root b used more all removed.Missing ne m l = l
-left_then pages mids news free then now page height is_root b used more all removed.Done ne m l = becomes_then pages mids news free
-    then now page height is_root b used more all m l
+left_then pages mids news free then now page height is_root b used more all removed.Done ne m l = becomes_then
+    m l
 left_then pages mids news free then now page height is_root b used more all removed.Underfull ne m l =
-    (l.0, becomes_then pages mids news free then now page height true b used more all m l.1)
+    (l.0, becomes_then m l.1)
 left_then pages mids news free then now page height is_root b used more all removed.Emptied ne m l = absurd (ne l.is_leaf)
 left_then pages mids news free then now page height is_root b used more all (removed.Only child) ne m l =
     let c = l.1 in (
@@ -256,16 +256,16 @@ left_then pages mids news free then now page height is_root b used more all (rem
         is_height = c.is_height;
         uses = c.uses;
         subtree = c.subtree;
-        moves = moves_then pages mids news free
-            then now used more (c.uses ++ page ∷ []) m c.moves;
+        moves = moves_then
+            m c.moves;
       },
     )
 
-did_leave : (told between now_told : Option (List (List ℕ))) (free then now : ℕ → Bool) (page height : ℕ) (is_root : Bool) (b : Bounds)
-    (used more : List ℕ) (all : List Record) (o : Removed) (pages mids : List (List ℕ)) → height ≢ 1
-    → told ≡ Some pages → between ≡ Some mids → Moves pages mids free then used more → DidLeave between now_told
-    then now page height is_root b more all o → DidLeave told now_told free now page height is_root b used all o
-did_leave told between now_told free then now page height is_root b used more all o pages mids ne e g m d =
+did_leave : (told : Option (List (List ℕ))) {between now_told : Option (List (List ℕ))} {free then now : ℕ → Bool} {page height : ℕ} {is_root : Bool}
+    {b : Bounds} {used more : List ℕ} {all : List Record} {o : Removed} {pages mids : List (List ℕ)} → height ≢ 1 → told ≡ Some pages
+    → between ≡ Some mids → Moves pages mids free then used more → DidLeave between now_told then now page height is_root b more all o
+    → DidLeave told now_told free now page height is_root b used all o
+did_leave told {between = between} {now_told = now_told} {free = free} {then = then} {now = now} {page = page} {height = height} {is_root = is_root} {b = b} {used = used} {more = more} {all = all} {o = o} {pages = pages} {mids = mids} ne e g m d =
     let same : d.pages ≡ mids = some_same d.pages mids (sym d.was ∙ g) in
     record {
       pages = pages;
@@ -280,14 +280,14 @@ did_leave told between now_told free then now page height is_root b used more al
     some_same x y e = cc
 
 -- what became of it
-removed_as : (k : Key) (told now_told : Option (List (List ℕ))) (free now : ℕ → Bool) (page height : ℕ) (is_root : Bool) (b : Bounds)
-    (rs : List Record) (used : List ℕ) (o : Removed) → (o ≡ removed.Missing → ⊥) → list_any (has_key k) rs ≡ true
+removed_as : (k : Key) {told now_told : Option (List (List ℕ))} {free now : ℕ → Bool} {page height : ℕ} {is_root : Bool} {b : Bounds}
+    (rs : List Record) {used : List ℕ} {o : Removed} → (o ≡ removed.Missing → ⊥) → list_any (has_key k) rs ≡ true
     → DidLeave told now_told free now page height is_root b used (without k rs) o → DidRemove k told now_told free now page height is_root b rs used o
-removed_as k told now_told free now page height is_root b rs used removed.Missing some had d = absurd (some refl)
-removed_as k told now_told free now page height is_root b rs used removed.Done some had d = (had, d)
-removed_as k told now_told free now page height is_root b rs used removed.Underfull some had d = (had, d)
-removed_as k told now_told free now page height is_root b rs used removed.Emptied some had d = (had, d)
-removed_as k told now_told free now page height is_root b rs used (removed.Only child) some had d = (had, d)
+removed_as k {told = told} {now_told = now_told} {free = free} {now = now} {page = page} {height = height} {is_root = is_root} {b = b} rs {used = used} {o = removed.Missing} some had d = absurd (some refl)
+removed_as k {told = told} {now_told = now_told} {free = free} {now = now} {page = page} {height = height} {is_root = is_root} {b = b} rs {used = used} {o = removed.Done} some had d = (had, d)
+removed_as k {told = told} {now_told = now_told} {free = free} {now = now} {page = page} {height = height} {is_root = is_root} {b = b} rs {used = used} {o = removed.Underfull} some had d = (had, d)
+removed_as k {told = told} {now_told = now_told} {free = free} {now = now} {page = page} {height = height} {is_root = is_root} {b = b} rs {used = used} {o = removed.Emptied} some had d = (had, d)
+removed_as k {told = told} {now_told = now_told} {free = free} {now = now} {page = page} {height = height} {is_root = is_root} {b = b} rs {used = used} {o = (removed.Only child)} some had d = (had, d)
 
 module _ (k : Key) (told mid between : Option (List (List ℕ))) (free was then : ℕ → Bool) (page height child i : ℕ) (inner : Inner) where
   pub underfull_child : ChildEdited k told mid free was page height child i inner
@@ -351,9 +351,9 @@ module _ (k : Key) (told mid between : Option (List (List ℕ))) (free was then 
   rebalanced_child (Err e) now_told now c f some l = l
   rebalanced_child (Ok o) now_told now c f some l = λ is_root b rs used can.
       let s = underfull_child c f is_root b rs used can in
-      removed_as k told now_told free now page height is_root b rs used o some s.had
-      (did_leave told between now_told free
-      then now page height is_root b used s.more (without k rs) o can.pages s.mids c.above can.is_told s.is s.moves
+      removed_as k rs some s.had
+      (did_leave told
+      c.above can.is_told s.is s.moves
       (l is_root b (without k rs) s.more s.underfull))
 
   pub rebalanced_sound : (r : Result Removed Stop) → ChildEdited k told mid free was page height child i inner
@@ -378,11 +378,11 @@ module _ (k : Key) (told mid between : Option (List (List ℕ))) (free was then 
       never : false ≡ true → ⊥
       never e = cc
 
-pub only_child : (only : ℕ) (e : Stop) (k : Key) (told mid between : Option (List (List ℕ))) (free was then : ℕ → Bool) (page height child i : ℕ)
-    (inner : Inner) → ChildEdited k told mid free was page height child i inner
-    → Removes k mid between was then child (height - 1) (removed.Only only) → (is_root : Bool) (b : Bounds) (rs : List Record) (used : List ℕ)
-    → CanEdit told free page height is_root b rs used → IsSound e
-only_child only e k told mid between free was then page height child i inner c f is_root b rs used can =
+pub only_child : (only : ℕ) (e : Stop) {k : Key} {told mid between : Option (List (List ℕ))} {free was then : ℕ → Bool} {page height child : ℕ}
+    (i : ℕ) (inner : Inner) → ChildEdited k told mid free was page height child i inner → Removes k mid between was then child (height - 1)
+    (removed.Only only) → {is_root : Bool} {b : Bounds} {rs : List Record} {used : List ℕ} → CanEdit told free page height is_root b rs used
+    → IsSound e
+only_child only e {k = k} {told = told} {mid = mid} {between = between} {free = free} {was = was} {then = then} {page = page} {height = height} {child = child} i inner c f {is_root = is_root} {b = b} {rs = rs} {used = used} can =
     let a = at_inner told free page height inner i k is_root b rs used c.some c.above c.reads c.place can in
     let did = f false (child_bounds inner b i) a.down.at.here a.down.at.here_used
     (child_edit told mid free was page height child i inner k is_root b rs used a c.is_mid c.is_free c.is_child) in

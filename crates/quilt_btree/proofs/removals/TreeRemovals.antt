@@ -196,7 +196,7 @@ regrown_only told mid now_told pages mids free between now t all used child mid_
       is = on.1;
       uses = only.uses;
       subtree = subst (λ h. Subtree on.0 h true (child, everywhere) all only.uses) height (any_root on.0 only.below true (child, everywhere) all only.uses s);
-      moves = moves_then pages mids on.0 free between now used (only.uses ++ t.root ∷ []) only.uses only.moves given;
+      moves = moves_then only.moves given;
     }
   where
     some : (n m : ℕ) → n ≡ suc m → 1 ≤ n

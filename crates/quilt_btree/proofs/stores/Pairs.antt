@@ -58,7 +58,7 @@ module _ (pages : List (List ℕ)) (free : ℕ → Bool) (left right : ℕ) (byt
   is_joined news now apart inside given frees = record {
     size = given.size ∙ length-set pages left bytes;
     here = given.others left (two_apart free left right apart) ∙ get_or-set_same pages left bytes [] inside;
-    moves = moves_then pages (slice_set pages left bytes) news free free now (right ∷ left ∷ []) (right ∷ left ∷ []) (left ∷ [])
+    moves = moves_then
         (moves_written pages free (right ∷ left ∷ []) left bytes (used_account free (right ∷ left ∷ []) left (left_used left right)))
         (moves_given (slice_set pages left bytes) news free now (left ∷ []) right given.size given.others (right_taken free left right apart) frees);
   }
@@ -72,7 +72,7 @@ module _ (pages : List (List ℕ)) (free : ℕ → Bool) (left right : ℕ) (byt
         size = length-set mid right others ∙ long;
         here = get_or-set_other mid right left others [] (two_apart free left right apart) ∙ get_or-set_same pages left bytes [] inside;
         there = get_or-set_same mid right others [] (subst (λ n. right < n) (sym long) also);
-        moves = moves_then pages mid (slice_set mid right others) free free free (right ∷ left ∷ []) (right ∷ left ∷ []) (right ∷ left ∷ [])
+        moves = moves_then
             (moves_written pages free (right ∷ left ∷ []) left bytes (used_account free (right ∷ left ∷ []) left (left_used left right)))
             (moves_written mid free (right ∷ left ∷ []) right others (used_account free (right ∷ left ∷ []) right (right_used left right)));
       }

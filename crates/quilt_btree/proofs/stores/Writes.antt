@@ -47,8 +47,8 @@ module _ (pages : List (List ℕ)) (free now : ℕ → Bool) (used : List ℕ) (
         is_left = get_or-set_other one new page right [] ne ∙ get_or-set_same pages page left [] inside;
         is_right = get_or-set_same one new right [] lt;
         others = λ q p n. get_or-set_other one new q right [] n ∙ get_or-set_other pages page q left [] p;
-        moves = moves_then pages one (slice_set one new right) free now now used (new ∷ used) (new ∷ used)
-            (moves_then pages pages one free now now used (new ∷ used) (new ∷ used) taken
+        moves = moves_then
+            (moves_then taken
             (moves_written pages now (new ∷ used) page left (used_account now (new ∷ used) page here)))
             (moves_written one now (new ∷ used) new right (used_account now (new ∷ used) new there));
         unused = unused;

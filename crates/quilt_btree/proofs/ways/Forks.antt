@@ -44,9 +44,9 @@ pub record IsHere (told : Option (List (List ℕ))) (page height size : ℕ) (by
   pub is : inner_of size bytes ≡ Some inner
   pub is_height : inner.height ≡ height
 
-pub page_here : (old new : Option (List (List ℕ))) (page height size : ℕ) (bytes : List ℕ) (rs : List Record) → IsRead old new page height size bytes
+pub page_here : {old new : Option (List (List ℕ))} {page height size : ℕ} {bytes : List ℕ} {rs : List Record} → IsRead old new page height size bytes
     → Spells old page height rs → IsHere old page height size bytes
-page_here old new page height size bytes rs r s =
+page_here {old = old} {new = new} {page = page} {height = height} {size = size} {bytes = bytes} {rs = rs} r s =
     let n = height_above height r.some r.above in
     let t = subst (λ n. Subtree s.pages n s.is_root (page, s.bounds) rs s.used) n.1 s.subtree in
     let same : bytes ≡ slice_index_or s.pages page [] = r.are s.pages s.is_told in
@@ -92,7 +92,7 @@ module _ (old new : Option (List (List ℕ))) (page height size : ℕ) (bytes : 
       → ((inner : Inner) → inner_of size bytes ≡ Some inner → IsFork k inner child prior) → Spells old page height rs
       → Forked old new page height k child prior rs
   forked k child prior rs r fork s =
-      let h = page_here old new page height size bytes rs r s in
+      let h = page_here r s in
       let f = fork h.inner h.is in
       let low = leads_below old page height rs h.inner f.place k r.some r.above s h.reads f.is_place in
       record {
@@ -118,7 +118,7 @@ module _ (old new : Option (List (List ℕ))) (page height size : ℕ) (bytes : 
   -- a page above the leaves forks
   pub forks : (e : Stop) → IsRead old new page height size bytes → ((inner : Inner) → inner_of size bytes ≡ Some inner → ⊥) → (rs : List Record)
       → Spells old page height rs → IsSound e
-  forks e r none rs s = let h = page_here old new page height size bytes rs r s in absurd (none h.inner h.is)
+  forks e r none rs s = let h = page_here r s in absurd (none h.inner h.is)
 
 led_up : (k : Key) (before here behind rs : List Record) (bytes : List ℕ) → IsAmong k before here behind rs → IsLeafFor k here bytes
     → IsLeafFor k rs bytes
@@ -191,7 +191,7 @@ module _ (page height : ℕ) (bytes : List ℕ) where
       → ((inner : Inner) → inner_of size bytes ≡ Some inner → Some child ≡ Some (slice_index inner.children (length inner.children - 1)))
       → Spells old page height rs → Ended old new page height child
   ended old new size child rs r f s =
-      let h = page_here old new page height size bytes rs r s in
+      let h = page_here r s in
       let is = some_same child (slice_index h.inner.children (length h.inner.children - 1)) (f h.inner h.is) in
       let e = ends_below old page height child (length h.inner.children) h.inner r.some r.above h.reads refl is rs s in
       record {
@@ -221,15 +221,14 @@ module _ (old new : Option (List (List ℕ))) (page height size : ℕ) (bytes : 
       let a = ended page height bytes old new size child rs r is s in
       f a.here a.spells
 
-pub touched_last : (r : Result Record Stop) (old new : Option (List (List ℕ))) (page height size : ℕ) (bytes : List ℕ) (child : ℕ)
-    (h0 h1 h2 : Option (List ℕ)) → IsRead old new page height size bytes → IsLast size bytes child
-    → Goes (Touches page) h0 h1
+pub touched_last : (r : Result Record Stop) {old new : Option (List (List ℕ))} {page height size : ℕ} {bytes : List ℕ} {child : ℕ}
+    (h0 h1 h2 : Option (List ℕ)) → IsRead old new page height size bytes → IsLast size bytes child → Goes (Touches page) h0 h1
     → OnOk r ((rs : List Record) → Spells new child (height - 1) rs → TouchesInTurn (λ pages. last_pages pages (height - 1) child) new h1 h2)
     → OnOk r ((rs : List Record) → Spells old page height rs → TouchesInTurn (λ pages. last_pages pages height page) old h0 h2)
-touched_last (Err e) old new page height size bytes child h0 h1 h2 r is t f = f
-touched_last (Ok x) old new page height size bytes child h0 h1 h2 r is t f = λ rs s.
+touched_last (Err e) {old = old} {new = new} {page = page} {height = height} {size = size} {bytes = bytes} {child = child} h0 h1 h2 r is t f = f
+touched_last (Ok x) {old = old} {new = new} {page = page} {height = height} {size = size} {bytes = bytes} {child = child} h0 h1 h2 r is t f = λ rs s.
     let a = ended page height bytes old new size child rs r is s in
-    last_touched (Ok x) old new page height child (length a.inner.children) a.inner h0 h1 h2 a.at t (f a.here a.spells)
+    last_touched (Ok x) h0 h1 h2 a.at t (f a.here a.spells)
 
 -- a child of a well formed page is a page
 pub child_page : (size : ℕ) (cs : List ℕ) (i : ℕ) → are_pages size cs ≡ true → i < length cs → (1 ≤ slice_index cs i) × (slice_index cs i < size)

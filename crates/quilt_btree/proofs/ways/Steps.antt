@@ -51,7 +51,7 @@ pub record Down : Type 0 where
 step_spells : (d : Down) (rs : List Record) → Spells d.old d.page d.height rs → (here : List Record) × Spells d.new d.child (d.height - 1) here
 step_spells d rs s =
     let is = d.is_read in
-    let h = page_here d.old d.new d.page d.height d.size d.bytes rs is s in
+    let h = page_here is s in
     let st = d.steps h.inner h.is in
     let low = leads_below d.old d.page d.height rs h.inner st.place d.key is.some is.above s h.reads st.is_place in (
       low.here,
@@ -64,7 +64,7 @@ step_led : (d : Down) (v : Found) (leaf : List Record)
     → (rs : List Record) (s : Spells d.old d.page d.height rs) → s.bounds.high ≡ d.start → LeadsTo d.key rs leaf d.start v.high
 step_led d v leaf f rs s top =
     let is = d.is_read in
-    let h = page_here d.old d.new d.page d.height d.size d.bytes rs is s in
+    let h = page_here is s in
     let st = d.steps h.inner h.is in
     leads_up (Ok v) leaf d.old d.new d.page d.height d.child st.place d.key h.inner d.start d.next is.told is.some is.above h.reads st.is_place
     st.child_is st.next_is f rs s top
@@ -75,7 +75,7 @@ step_cut : (d : Down) (leaf : List Record) (high : Option Key)
 step_cut d leaf high f g =
     let is = d.is_read in
     let up : (rs : List Record) → Spells d.old d.page d.height rs → IsCut d.old d.page d.height d.key d.start leaf high = λ rs s.
-    let h = page_here d.old d.new d.page d.height d.size d.bytes rs is s in
+    let h = page_here is s in
     let st = d.steps h.inner h.is in
     cut_up d.old d.new d.page d.height d.child st.place d.key h.inner d.start d.next leaf high
     (record { told = is.told; some = is.some; above = is.above; reads = h.reads; place = st.is_place; is_child = st.child_is }) st.next_is f g in

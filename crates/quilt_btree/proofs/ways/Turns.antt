@@ -37,12 +37,12 @@ module _ (old new : Option (List (List ℕ))) (page height child n : ℕ) (inner
       (last_parts at pages is)
       (one_turn (page ∷ []) page h0 h1 refl t) (one_free (page ∷ []) [] page h0 a b refl f) (g pages (at.told ∙ is))
 
-pub last_touched : (r : Result Record Stop) (old new : Option (List (List ℕ))) (page height child n : ℕ) (inner : Inner) (h0 h1 h2 : Option (List ℕ))
-    → AtLast old new page height child n inner
-    → Goes (Touches page) h0 h1 → OnOk r (TouchesInTurn (λ pages. last_pages pages (height - 1) child) new h1 h2)
+pub last_touched : (r : Result Record Stop) {old new : Option (List (List ℕ))} {page height child n : ℕ} {inner : Inner} (h0 h1 h2 : Option (List ℕ))
+    → AtLast old new page height child n inner → Goes (Touches page) h0 h1
+    → OnOk r (TouchesInTurn (λ pages. last_pages pages (height - 1) child) new h1 h2)
     → OnOk r (TouchesInTurn (λ pages. last_pages pages height page) old h0 h2)
-last_touched (Err e) old new page height child n inner h0 h1 h2 a t f = f
-last_touched (Ok x) old new page height child n inner h0 h1 h2 a t f = λ pages is.
+last_touched (Err e) {old = old} {new = new} {page = page} {height = height} {child = child} {n = n} {inner = inner} h0 h1 h2 a t f = f
+last_touched (Ok x) {old = old} {new = new} {page = page} {height = height} {child = child} {n = n} {inner = inner} h0 h1 h2 a t f = λ pages is.
     more_turns (last_pages pages height page) (page ∷ []) (last_pages pages (height - 1) child) h0 h1 h2
     (last_parts old new page height child n inner a pages is)
     (one_turn (page ∷ []) page h0 h1 refl t) (f pages (a.told ∙ is))

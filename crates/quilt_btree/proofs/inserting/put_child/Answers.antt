@@ -7,7 +7,7 @@ use Rattle.quilt_btree.proofs.growth.InnerGrowth.{IsWritten, pending_taken, put_
 use Rattle.quilt_btree.proofs.inserting.put_child.Goals as goal
 
 pub returns-in-Err-clause-sound : goal.returns-in-Err-clause-sound
-returns-in-Err-clause-sound g c is_root b all under p room low = c.in-Err.ensures.sound (pending_taken _ _ _ _ _ _ _ _ p)
+returns-in-Err-clause-sound g c is_root b all under p room low = c.in-Err.ensures.sound (pending_taken p)
 
 pub returns-in-Ok-clause-put : goal.returns-in-Ok-clause-put
 returns-in-Ok-clause-put g c is_root b all under p =
@@ -17,7 +17,7 @@ returns-in-Ok-clause-put g c is_root b all under p =
     (subst (λ (x : Inner). IsWritten c.bytes.result.now x) c.insert.ensures c.bytes.ensures.inner) refl c.in-Ok.ensures.told c.in-Ok.ensures.free p
 
 pub returns-in-Err-write_split-clause-sound : goal.returns-in-Err-write_split-clause-sound
-returns-in-Err-write_split-clause-sound g c is_root b all under p room low = c.in-Err-write_split.ensures.sound (pending_taken _ _ _ _ _ _ _ _ p) room
+returns-in-Err-write_split-clause-sound g c is_root b all under p room low = c.in-Err-write_split.ensures.sound (pending_taken p) room
 
 pub returns-in-Ok-write_split-clause-put : goal.returns-in-Ok-write_split-clause-put
 returns-in-Ok-write_split-clause-put g c is_root b all under p =

@@ -143,9 +143,8 @@ returns-in-Ok-Only-clause-sound g t c = λ is_root b rs used can.
     (leaf_reads (g.S.PageStore.told c.args.store.now) (g.S.PageStore.free c.args.store.now) c.args.page c.args.height is_root b rs used can) in
     let w = c.in-Ok.ensures.way h.inner h.is in
     let found = rw c.in-Ok-Only.field-0-is at c.in-Ok-Only.ensures in
-    only_child _ _ c.args.k.now (g.S.PageStore.told c.args.store.now) (g.S.PageStore.told c.read_way.new.store) (g.S.PageStore.told c.remove_under.new.store)
-    (g.S.PageStore.free c.args.store.now) (g.S.PageStore.free c.read_way.new.store) (g.S.PageStore.free c.remove_under.new.store)
-    c.args.page c.args.height c.in-Ok.way.child c.in-Ok.way.place h.inner
+    only_child _ _
+    c.in-Ok.way.place h.inner
     (record {
       some = c.requires.height;
       above = c.if-height-eq1.false;
@@ -155,7 +154,7 @@ returns-in-Ok-Only-clause-sound g t c = λ is_root b rs used can.
       is_free = c.in-Ok.ensures.left.free;
       is_child = w.child_is;
     })
-    found.removed is_root b rs used can
+    found.removed can
 
 pub returns-then-height-eq1-clause-finds : goal.returns-then-height-eq1-clause-finds
 returns-then-height-eq1-clause-finds g t c =

@@ -55,15 +55,15 @@ returns-in-Err-clause-names g c =
 
 pub returns-in-Err-clause-bad : goal.returns-in-Err-clause-bad
 returns-in-Err-clause-bad g c =
-    run_names c.in-Err.e c.stop_behind.result c.loop-done.done (g.S.PageStore.told c.args.store.now) (g.S.PageStore.told c.loop-done.store)
+    run_names (g.S.PageStore.told c.args.store.now) (g.S.PageStore.told c.loop-done.store)
     c.args.self.now c.loop-done.self (stops_behind c.in-Err.e c.stop_behind.result c.loop-done.done c.stop_behind.ensures)
     c.loop-done.invariant.start c.in-Err.ensures.bad
 
 pub returns-in-Err-clause-left : goal.returns-in-Err-clause-left
 returns-in-Err-clause-left g c = record {
   cause =
-      run_cause c.in-Err.e c.stop_behind.result c.loop-done.done (g.S.PageStore.faults c.args.store.now) (g.S.PageStore.faults c.loop-done.store)
-      (g.S.PageStore.faults c.apply_some.new.store) (stops_behind c.in-Err.e c.stop_behind.result c.loop-done.done c.stop_behind.ensures)
+      run_cause (g.S.PageStore.faults c.args.store.now)
+      (stops_behind c.in-Err.e c.stop_behind.result c.loop-done.done c.stop_behind.ensures)
       c.loop-done.invariant.faults c.in-Err.ensures.left.cause;
   size = c.in-Err.ensures.left.size ∙ c.loop-done.invariant.size;
   later = g.met.S.PageStore.goes_on _ _ _ c.loop-done.invariant.later c.in-Err.ensures.left.later;

@@ -70,8 +70,8 @@ returns-then-self-eq3-clause-sound g c rs w =
 pub returns-in-Err-insert_under-clause-sound : goal.returns-in-Err-insert_under-clause-sound
 returns-in-Err-insert_under-clause-sound g c rs w =
     let range = g.met.S.PageStore.in_range c.args.store.now in
-    sound_root c.in-Err-insert_under.e (g.S.PageStore.told c.args.store.now) (g.S.PageStore.free c.args.store.now)
-    (g.S.PageStore.size c.args.store.now) c.args.self.now c.args.r.now.key rs
+    sound_root c.in-Err-insert_under.e
+    c.args.r.now.key
     (record {
       rooted = c.requires.rooted;
       room = c.requires.room;
