@@ -114,88 +114,82 @@ all_above_child inner b i k (x ∷ xs) p h g =
     (all_follow (λ l. is_le (key_cmp l k)) (λ l. is_le (key_cmp l x)) (λ l e. le_le l k x e t.0) (take i inner.keys) p.before) s.0))
     (all_above_child inner b i k xs p s.1 t.1)
 
--- the child was edited
-pub under_edited : (told then_told now_told : Option (List (List ℕ))) (free then_free now : ℕ → Bool) (size then_size page height child i : ℕ)
-    (k : Key) (inner : Inner) (high next : Option Key) (run xs : List Edit) (is_root : Bool) (b : Bounds) (rs : List Record) (used : List ℕ)
-    → LeadsToChild told then_told free then_free size then_size page height child i k inner → next ≡ option_or (slice_get inner.keys i) high
-    → list_all (λ x. is_le (key_cmp k x)) (edit_keys run) ≡ true → list_all (λ x. is_le (key_cmp k x)) (edit_keys xs) ≡ true
-    → ((b : Bounds) (rs : List Record) (used : List ℕ) → b.high ≡ next → list_all (is_above b.low) (edit_keys run) ≡ true
-    → CanEdit then_told then_free child (height - 1) false b rs used
-    → DidEdit xs then_told now_told then_free now child (height - 1) false b rs used)
-    → b.high ≡ high → list_all (is_above b.low) (edit_keys run) ≡ true → CanEdit told free page height is_root b rs used
-    → DidEdit xs told now_told free now page height is_root b rs used
-under_edited told then_told now_told free then_free now size then_size page height child i k inner high next run xs is_root b rs used l is_next whole
-    from f top above can =
-    let a = at_run high next l is_next top can in
-    let x = a.x in
-    let ka = take i inner.keys in
-    let kb = drop i inner.keys in
-    let cb = child_bounds inner b i in
-    let tall = one_less height x.below x.is_height in
-    let did = f cb x.at.here x.at.here_used a.top (all_above_child inner b i k (edit_keys run) l.place above whole) a.can in
-    let was = did.was in
-    let mine : then_told ≡ Some x.pages = l.same.same_pages ∙ x.is_told in
-    let same : did.pages ≡ x.pages = cc in
-    let c = slice_index inner.children i in
-    let all = edit_all xs x.at.here in
-    let grown : Becomes x.pages did.news free now c (suc x.below) false cb x.at.here_used all =
-    subst (λ (g : ℕ → Bool). Becomes x.pages did.news g now c (suc x.below) false cb x.at.here_used all) l.same.same_free
-    (subst (λ p. Becomes p did.news then_free now c (suc x.below) false cb x.at.here_used all) same
-    (subst (λ q. Becomes did.pages did.news then_free now q (suc x.below) false cb x.at.here_used all) l.is_child
-    (subst (λ n. Becomes did.pages did.news then_free now child n false cb x.at.here_used all) tall did.becomes))) in
-    let under : list_all (is_below next) (edit_keys xs) ≡ true = subst (λ o. list_all (is_below o) (edit_keys xs) ≡ true) a.top did.under in
-    let among : AreAmong x.at.first x.at.last (edit_keys xs) = record {
-      lower = all_lower k x.at.first (edit_keys xs) x.among.lower from;
-      higher = all_higher next x.at.last (edit_keys xs) a.past under;
-    } in
-    let before = front (take i inner.children) ka b in
-    let behind = tail_places (drop (suc i) inner.children) kb (from_keys ka b) in
-    let middle : List (ℕ × Bounds) = (c, cb) ∷ [] in
-    let moved = middle_moved x.pages did.news free now x.below page before middle behind middle rs x.under all grown.uses x.apart x.at
-    (row_one (Subtree did.news (suc x.below) false) (c, cb) all grown.uses grown.subtree) grown.moves in
-    let becomes = parent_stays x.pages did.news free now x.below page is_root b inner x.under
-    (x.at.first ++ (all ++ x.at.last)) x.page_is x.inner_height x.enough x.within
-    (subst (λ (cs : List (ℕ × Bounds)). RowMoved x.pages did.news free now x.below page cs (x.at.first ++ (all ++ x.at.last)) x.under)
-    (sym (cut_at_child inner b i x.in_range x.list.keys)) moved) in
-    record {
-      pages = x.pages;
-      news = did.news;
-      was = x.is_told;
-      is = did.is;
-      due = are_due_between x.at.first x.at.here x.at.last rs xs x.among.records among ∙ did.due;
-      under = all_follow (is_below next) (is_below b.high) a.nearer_high (edit_keys xs) under;
-      becomes = subst (λ n. Becomes x.pages did.news free now page n is_root b used (edit_all xs rs)) (sym x.is_height)
-          (subst (λ u. Becomes x.pages did.news free now page (suc (suc x.below)) is_root b u (edit_all xs rs)) (sym x.is_used)
-          (subst (λ m. Becomes x.pages did.news free now page (suc (suc x.below)) is_root b (x.under ++ page ∷ []) m)
-          (sym (edit_all_between x.at.first x.at.here x.at.last rs xs x.among.records among)) becomes));
-    }
-
--- what is not due under the child is not due
-pub under_fails : (told then_told : Option (List (List ℕ))) (free then_free : ℕ → Bool) (size then_size page height child i : ℕ) (k : Key)
-    (inner : Inner) (high next : Option Key) (run : List Edit) (is_root : Bool) (b : Bounds) (rs : List Record) (used : List ℕ) (e : Stop) (q : ℕ)
-    → LeadsToChild told then_told free then_free size then_size page height child i k inner → next ≡ option_or (slice_get inner.keys i) high
-    → list_all (λ x. is_le (key_cmp k x)) (edit_keys run) ≡ true
-    → ((b : Bounds) (rs : List Record) (used : List ℕ) → b.high ≡ next → CanEdit then_told then_free child (height - 1) false b rs used → (q : ℕ)
-    → e ≡ Damaged q → (q ≡ 0) × Fails run b.high rs)
-    → b.high ≡ high → CanEdit told free page height is_root b rs used → e ≡ Damaged q → (q ≡ 0) × Fails run b.high rs
-under_fails told then_told free then_free size then_size page height child i k inner high next run is_root b rs used e q l is_next from f top can damaged =
-    let a = at_run high next l is_next top can in
-    let x = a.x in
-    let h = f (child_bounds inner b i) x.at.here x.at.here_used a.top a.can q damaged in
-    let none = h.1 in
-    let xs = take none.number run in
-    let under : list_all (is_below next) (edit_keys xs) ≡ true = subst (λ o. list_all (is_below o) (edit_keys xs) ≡ true) a.top none.under in
-    let among : AreAmong x.at.first x.at.last (edit_keys xs) = record {
-      lower = all_lower k x.at.first (edit_keys xs) x.among.lower (all_first (λ x. is_le (key_cmp k x)) none.number run from);
-      higher = all_higher next x.at.last (edit_keys xs) a.past under;
-    } in (
-      h.0,
+module _ (told then_told : Option (List (List ℕ))) (free then_free : ℕ → Bool) (size then_size page height child i : ℕ) (k : Key) (inner : Inner)
+    (high next : Option Key) (run : List Edit) (is_root : Bool) (b : Bounds) (rs : List Record) (used : List ℕ)
+    (l : LeadsToChild told then_told free then_free size then_size page height child i k inner)
+    (is_next : next ≡ option_or (slice_get inner.keys i) high) (top : b.high ≡ high) (can : CanEdit told free page height is_root b rs used) where
+  -- the child was edited
+  pub under_edited : (now_told : Option (List (List ℕ))) (now : ℕ → Bool) (xs : List Edit) → list_all (λ x. is_le (key_cmp k x))
+      (edit_keys run) ≡ true → list_all (λ x. is_le (key_cmp k x)) (edit_keys xs) ≡ true
+      → ((b : Bounds) (rs : List Record) (used : List ℕ) → b.high ≡ next → list_all (is_above b.low) (edit_keys run) ≡ true → CanEdit then_told then_free child (height - 1) false b rs used → DidEdit xs then_told now_told then_free now child (height - 1) false b rs used)
+      → list_all (is_above b.low) (edit_keys run) ≡ true → DidEdit xs told now_told free now page height is_root b rs used
+  under_edited now_told now xs whole from f above =
+      let a = at_run high next l is_next top can in
+      let x = a.x in
+      let ka = take i inner.keys in
+      let kb = drop i inner.keys in
+      let cb = child_bounds inner b i in
+      let tall = one_less height x.below x.is_height in
+      let did = f cb x.at.here x.at.here_used a.top (all_above_child inner b i k (edit_keys run) l.place above whole) a.can in
+      let was = did.was in
+      let mine : then_told ≡ Some x.pages = l.same.same_pages ∙ x.is_told in
+      let same : did.pages ≡ x.pages = cc in
+      let c = slice_index inner.children i in
+      let all = edit_all xs x.at.here in
+      let grown : Becomes x.pages did.news free now c (suc x.below) false cb x.at.here_used all =
+      subst (λ (g : ℕ → Bool). Becomes x.pages did.news g now c (suc x.below) false cb x.at.here_used all) l.same.same_free
+      (subst (λ p. Becomes p did.news then_free now c (suc x.below) false cb x.at.here_used all) same
+      (subst (λ q. Becomes did.pages did.news then_free now q (suc x.below) false cb x.at.here_used all) l.is_child
+      (subst (λ n. Becomes did.pages did.news then_free now child n false cb x.at.here_used all) tall did.becomes))) in
+      let under : list_all (is_below next) (edit_keys xs) ≡ true = subst (λ o. list_all (is_below o) (edit_keys xs) ≡ true) a.top did.under in
+      let among : AreAmong x.at.first x.at.last (edit_keys xs) = record {
+        lower = all_lower k x.at.first (edit_keys xs) x.among.lower from;
+        higher = all_higher next x.at.last (edit_keys xs) a.past under;
+      } in
+      let before = front (take i inner.children) ka b in
+      let behind = tail_places (drop (suc i) inner.children) kb (from_keys ka b) in
+      let middle : List (ℕ × Bounds) = (c, cb) ∷ [] in
+      let moved = middle_moved x.pages did.news free now x.below page before middle behind middle rs x.under all grown.uses x.apart x.at
+      (row_one (Subtree did.news (suc x.below) false) (c, cb) all grown.uses grown.subtree) grown.moves in
+      let becomes = parent_stays x.pages did.news free now x.below page is_root b inner x.under
+      (x.at.first ++ (all ++ x.at.last)) x.page_is x.inner_height x.enough x.within
+      (subst (λ (cs : List (ℕ × Bounds)). RowMoved x.pages did.news free now x.below page cs (x.at.first ++ (all ++ x.at.last)) x.under)
+      (sym (cut_at_child inner b i x.in_range x.list.keys)) moved) in
       record {
-        number = none.number;
-        missing = are_due_between x.at.first x.at.here x.at.last rs xs x.among.records among ∙ none.missing;
+        pages = x.pages;
+        news = did.news;
+        was = x.is_told;
+        is = did.is;
+        due = are_due_between x.at.first x.at.here x.at.last rs xs x.among.records among ∙ did.due;
         under = all_follow (is_below next) (is_below b.high) a.nearer_high (edit_keys xs) under;
-      },
-    )
+        becomes = subst (λ n. Becomes x.pages did.news free now page n is_root b used (edit_all xs rs)) (sym x.is_height)
+            (subst (λ u. Becomes x.pages did.news free now page (suc (suc x.below)) is_root b u (edit_all xs rs)) (sym x.is_used)
+            (subst (λ m. Becomes x.pages did.news free now page (suc (suc x.below)) is_root b (x.under ++ page ∷ []) m)
+            (sym (edit_all_between x.at.first x.at.here x.at.last rs xs x.among.records among)) becomes));
+      }
+
+  -- what is not due under the child is not due
+  pub under_fails : (e : Stop) (q : ℕ) → list_all (λ x. is_le (key_cmp k x)) (edit_keys run) ≡ true
+      → ((b : Bounds) (rs : List Record) (used : List ℕ) → b.high ≡ next → CanEdit then_told then_free child (height - 1) false b rs used → (q : ℕ) → e ≡ Damaged q → (q ≡ 0) × Fails run b.high rs)
+      → e ≡ Damaged q → (q ≡ 0) × Fails run b.high rs
+  under_fails e q from f damaged =
+      let a = at_run high next l is_next top can in
+      let x = a.x in
+      let h = f (child_bounds inner b i) x.at.here x.at.here_used a.top a.can q damaged in
+      let none = h.1 in
+      let xs = take none.number run in
+      let under : list_all (is_below next) (edit_keys xs) ≡ true = subst (λ o. list_all (is_below o) (edit_keys xs) ≡ true) a.top none.under in
+      let among : AreAmong x.at.first x.at.last (edit_keys xs) = record {
+        lower = all_lower k x.at.first (edit_keys xs) x.among.lower (all_first (λ x. is_le (key_cmp k x)) none.number run from);
+        higher = all_higher next x.at.last (edit_keys xs) a.past under;
+      } in (
+        h.0,
+        record {
+          number = none.number;
+          missing = are_due_between x.at.first x.at.here x.at.last rs xs x.among.records among ∙ none.missing;
+          under = all_follow (is_below next) (is_below b.high) a.nearer_high (edit_keys xs) under;
+        },
+      )
 
 pub least_first : (run : List Edit) (k : Key) → k ≡ key_of (edit_at run 0) → is_ascending (edit_keys run) ≡ true → 1 ≤ length run
     → list_all (λ x. is_le (key_cmp k x)) (edit_keys run) ≡ true
@@ -216,9 +210,9 @@ module _ (old new : Option (List (List ℕ))) (free then_free : ℕ → Bool) (s
       λ one b rs used top above can.
       let h = page_here is (edit_spells old free page height is_root b rs used can) in
       let st = step h.inner h.is in
-      under_edited old new now_told free then_free now size then_size page height child st.place k h.inner high next run (take n run) is_root b rs used
-      (record { same = same; some = is.some; above = is.above; reads = h.reads; place = st.is_place; is_child = st.child_is })
-      st.next_is from (all_first (λ x. is_le (key_cmp k x)) n run from) (f one) top above can
+      under_edited old new free then_free size then_size page height child st.place k h.inner high next run is_root b rs used
+      (record { same = same; some = is.some; above = is.above; reads = h.reads; place = st.is_place; is_child = st.child_is }) st.next_is top can
+      now_told now (take n run) from (all_first (λ x. is_le (key_cmp k x)) n run from) (f one) above
 
   pub step_fails : (r : Result ℕ Stop) → IsRead old new page height count bytes → IsSame old new free then_free size then_size
       → StepsTo count bytes k high child next → list_all (λ x. is_le (key_cmp k x)) (edit_keys run) ≡ true
@@ -229,9 +223,9 @@ module _ (old new : Option (List (List ℕ))) (free then_free : ℕ → Bool) (s
       λ b rs used top can q damaged.
       let h = page_here is (edit_spells old free page height is_root b rs used can) in
       let st = step h.inner h.is in
-      under_fails old new free then_free size then_size page height child st.place k h.inner high next run is_root b rs used e q
-      (record { same = same; some = is.some; above = is.above; reads = h.reads; place = st.is_place; is_child = st.child_is })
-      st.next_is from f top can damaged
+      under_fails old new free then_free size then_size page height child st.place k h.inner high next run is_root b rs used
+      (record { same = same; some = is.some; above = is.above; reads = h.reads; place = st.is_place; is_child = st.child_is }) st.next_is top can e q
+      from f damaged
 
 module _ (high : Option Key) (run : List Edit) where
   pub fails_leaf : (r : Result ℕ Stop) (told : Option (List (List ℕ))) (free : ℕ → Bool) (page height : ℕ) (is_root : Bool) → height ≡ 1

@@ -135,7 +135,8 @@ module _ {S : Type 0} (g : Ghosts S) where
       reads = read_behind h (looks (take m run)) _ _ _ le a.reads b.reads;
     }
     first_behind {s = s} {t = t} {u = u} {result = Err e} h le a b = record {
-      cause = record { later = let x = a.cause.later in let y = b.cause.later in omega arith; device = λ is. rose_since a.cause.later (b.cause.device is) };
+      cause = record
+          { later = let x = a.cause.later in let y = b.cause.later in omega arith; device = λ is. rose_since a.cause.later (b.cause.device is) };
       size = b.size ∙ a.size;
       later = goes_on s t u a.later b.later;
       changed = tt;

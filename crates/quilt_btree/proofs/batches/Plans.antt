@@ -156,5 +156,6 @@ module _ (bytes new : List ℕ) (run : List Edit) where
   leaf_planned rs n many least was is enough made = record {
     is = made.0;
     due = made.1;
-    enough = λ one. subst (λ k. least ≤ k) (ap (size_after (take n run)) is ∙ sym (size_all (take n run) rs (leaf_list bytes rs was).ascends made.1)) (enough one);
+    enough = λ one. subst (λ k. least ≤ k) (ap (size_after (take n run)) is ∙ sym (size_all (take n run) rs (leaf_list bytes rs was).ascends made.1))
+        (enough one);
   }

@@ -290,11 +290,13 @@ rest_fails e told mid free was size at i t u run same made f rs w page is =
 
 pub rest_cost : (run : List Edit) (i n : ℕ) → cost (take (i + n) run) ≡ cost (take i run) + cost (take n (rest run i))
 rest_cost run i n =
-    ap cost (take-add i n run) ∙ cost-append (take i run) (take n (drop i run)) ∙ ap (λ l. cost (take i run) + cost (take n l)) (sym (take_rest run i))
+    ap cost (take-add i n run) ∙ cost-append (take i run) (take n (drop i run)) ∙ ap (λ l. cost (take i run) + cost (take n l))
+    (sym (take_rest run i))
 
 pub rest_looks : (run : List Edit) (i n : ℕ) → looks (take (i + n) run) ≡ looks (take i run) + looks (take n (rest run i))
 rest_looks run i n =
-    ap looks (take-add i n run) ∙ looks-append (take i run) (take n (drop i run)) ∙ ap (λ l. looks (take i run) + looks (take n l)) (sym (take_rest run i))
+    ap looks (take-add i n run) ∙ looks-append (take i run) (take n (drop i run)) ∙ ap (λ l. looks (take i run) + looks (take n l))
+    (sym (take_rest run i))
 
 pub rest_cost_all : (run : List Edit) (i : ℕ) → cost (take i run) + cost (rest run i) ≡ cost run
 rest_cost_all run i = ap (λ l. cost (take i run) + cost l) (take_rest run i) ∙ cost_take i run

@@ -52,7 +52,8 @@ pub floor_is_near : (bytes : List ℕ) (high : Option Key) (k : Key) (r : Record
     → ((own : List Record) → leaf_of bytes ≡ Some own → Some r ≡ floor_of k own) → IsLeafOf bytes high rs → Some r ≡ floor_of k rs
 unfolding floor_of
 floor_is_near bytes high k r rs below floor l =
-    let above = all_follow (λ (s : Record). is_past high s.key) (λ s. is_lt (key_cmp k s.key)) (λ s past. under_past high k s.key below past) l.behind l.bounded in
+    let above = all_follow (λ (s : Record). is_past high s.key) (λ s. is_lt (key_cmp k s.key)) (λ s past. under_past high k s.key below past) l.behind
+    l.bounded in
     let kept : filter (is_at_most k) rs ≡ filter (is_at_most k) l.before ++ filter (is_at_most k) l.own =
     ap (filter (is_at_most k)) l.records ∙ filter-append (is_at_most k) l.before (l.own ++ l.behind)
     ∙ ap (λ xs. filter (is_at_most k) l.before ++ xs) (filter-append (is_at_most k) l.own l.behind

@@ -71,7 +71,8 @@ head_low (k ∷ ks) b = refl
 pub child_above : (inner : Inner) (b : Bounds) (i : ℕ) (k : Key) → IsPlace inner.keys k i → is_above b.low k ≡ true
     → is_above (child_bounds inner b i).low k ≡ true
 child_above inner b i k p h =
-    subst (λ o. is_above o k ≡ true) (sym (head_low (drop i inner.keys) (from_keys (take i inner.keys) b))) (above_from (take i inner.keys) b k p.before h)
+    subst (λ o. is_above o k ≡ true) (sym (head_low (drop i inner.keys) (from_keys (take i inner.keys) b)))
+    (above_from (take i inner.keys) b k p.before h)
 
 pub head_below : (ks : List Key) (b : Bounds) (k : Key) → list_all (λ l. is_lt (key_cmp k l)) ks ≡ true → is_below b.high k ≡ true
     → is_below (head_bounds ks b).high k ≡ true
@@ -81,7 +82,8 @@ head_below (l ∷ ks) b k p h = (and_parts (is_lt (key_cmp k l)) (list_all (λ m
 pub child_below : (inner : Inner) (b : Bounds) (i : ℕ) (k : Key) → IsPlace inner.keys k i → is_below b.high k ≡ true
     → is_below (child_bounds inner b i).high k ≡ true
 child_below inner b i k p h =
-    head_below (drop i inner.keys) (from_keys (take i inner.keys) b) k p.behind (subst (λ o. is_below o k ≡ true) (sym (high_from (take i inner.keys) b)) h)
+    head_below (drop i inner.keys) (from_keys (take i inner.keys) b) k p.behind
+    (subst (λ o. is_below o k ≡ true) (sym (high_from (take i inner.keys) b)) h)
 
 module _ (told : Option (List (List ℕ))) (free : ℕ → Bool) (page height : ℕ) (is_root : Bool) (b : Bounds) where
   pub go_below : (k : Key) (rs : List Record) (used : List ℕ) (inner : Inner) (i : ℕ) → 1 ≤ height → height ≢ 1 → ReadsInner told page inner

@@ -42,19 +42,18 @@ pub record IsLed (told then_told : Option (List (List ℕ))) (page height child 
   pub place : IsPlace inner.keys k i
   pub is_child : child ≡ slice_index inner.children i
 
-pub finds_below : (told then_told : Option (List (List ℕ))) (page height child i : ℕ) (k : Key) (inner : Inner) (b : Bool)
-    → IsLed told then_told page height child i k inner
-    → Finds then_told child (height - 1) k b → Finds told page height k b
-finds_below told then_told page height child i k inner b l f rs s =
-    let low = leads_below told page height rs inner i k l.some l.above s l.reads l.place in
-    f low.here (subst (λ c. Spells then_told c (height - 1) low.here) (sym l.is_child)
-    (along_told told then_told (slice_index inner.children i) (height - 1) low.here l.same low.spells))
-    ∙ sym (any_between k low.first low.here low.last rs low.among)
+module _ (told : Option (List (List ℕ))) (k : Key) (b : Bool) where
+  pub finds_below : (then_told : Option (List (List ℕ))) (page height child i : ℕ) (inner : Inner) → IsLed told then_told page height child i k inner
+      → Finds then_told child (height - 1) k b → Finds told page height k b
+  finds_below then_told page height child i inner l f rs s =
+      let low = leads_below told page height rs inner i k l.some l.above s l.reads l.place in
+      f low.here (subst (λ c. Spells then_told c (height - 1) low.here) (sym l.is_child)
+      (along_told told then_told (slice_index inner.children i) (height - 1) low.here l.same low.spells))
+      ∙ sym (any_between k low.first low.here low.last rs low.among)
 
--- a search in the whole tree
-pub finds_root : (told : Option (List (List ℕ))) (t : Tree) (k : Key) (b : Bool) (rs : List Record) → t.height ≢ 0 → Finds told t.root t.height k b
-    → IsTree told t rs → b ≡ list_any (has_key k) rs
-finds_root told t k b rs ne f is = f rs (tree_spells told t rs ne is).0
+  -- a search in the whole tree
+  pub finds_root : (t : Tree) (rs : List Record) → t.height ≢ 0 → Finds told t.root t.height k b → IsTree told t rs → b ≡ list_any (has_key k) rs
+  finds_root t rs ne f is = f rs (tree_spells told t rs ne is).0
 
 pub finds_empty : (told : Option (List (List ℕ))) (t : Tree) (k : Key) (rs : List Record) → t.height ≡ 0 → IsTree told t rs
     → false ≡ list_any (has_key k) rs

@@ -127,7 +127,8 @@ put_split told now_told free now size page new height inner left right key is_ro
         within = sides.lower;
         under = row.first_used;
         children =
-            rows_stay pages news p.below size_same (bounded (take 127 cs) (take 126 ks) (record { low = b.low; high = Some key })) row.first row.first_used
+            rows_stay pages news p.below size_same (bounded (take 127 cs) (take 126 ks) (record { low = b.low; high = Some key })) row.first
+            row.first_used
             (both_same pages free now (under ++ page ∷ []) page new left right news row.first_used both page_none.1 new_none.1) row.here;
         is_used = refl;
       };
@@ -140,7 +141,8 @@ put_split told now_told free now size page new height inner left right key is_ro
         within = sides.higher;
         under = row.rest_used;
         children =
-            rows_stay pages news p.below size_same (bounded (drop 127 cs) (drop 127 ks) (record { low = Some key; high = b.high })) row.rest row.rest_used
+            rows_stay pages news p.below size_same (bounded (drop 127 cs) (drop 127 ks) (record { low = Some key; high = b.high })) row.rest
+            row.rest_used
             (both_same pages free now (under ++ page ∷ []) page new left right news row.rest_used both page_none.0 new_none.0) row.after;
         is_used = refl;
       };

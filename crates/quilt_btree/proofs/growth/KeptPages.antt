@@ -48,7 +48,8 @@ at_root told free t rs ne w =
     let same : w.tree.visited ≡ found.used = found.is_now ∙ append-nil found.used in
     record {
       used = found.used;
-      can = record { pages = w.tree.pages; is_told = w.tree.is_told; subtree = found.spells; apart = λ p. subst (λ u. account free u p ≤ 1) same (w.apart p) };
+      can = record
+          { pages = w.tree.pages; is_told = w.tree.is_told; subtree = found.spells; apart = λ p. subst (λ u. account free u p ≤ 1) same (w.apart p) };
     }
 
 -- a subtree that has come of a tree by an edit is the tree
@@ -165,12 +166,6 @@ kept_low r told now_told free now size t rs key right few most tall f room numbe
     too_many : (n p a b m : ℕ) → p ≡ a + b → p ≡ m + 1 → 1161288 ≤ a → 1161288 ≤ b → m < quota n → n ≤ 30000 → ⊥
     too_many n p a b m e f g h few most = omega arith
 
--- A removal.
-pub sound_out : (e : Stop) (told : Option (List (List ℕ))) (free : ℕ → Bool) (t : Tree) (rs : List Record) → t.height ≢ 0
-    → ((is_root : Bool) (b : Bounds) (rs : List Record) (used : List ℕ) → CanEdit told free t.root t.height is_root b rs used → IsSound e)
-    → HasItsPages told free t rs → IsSound e
-sound_out e told free t rs ne f w = let a = at_root told free t rs ne w in f true everywhere rs a.used a.can
-
 pub out_none : (k : Key) (told : Option (List (List ℕ))) (free : ℕ → Bool) (t : Tree) (rs : List Record) → t.height ≡ 0 → HasItsPages told free t rs
     → HasItsPages told free t (without k rs)
 out_none k told free t rs e w =
@@ -233,16 +228,23 @@ module _ (k : Key) (told mid now_told : Option (List (List ℕ))) (free between 
       let did = f true everywhere rs a.used a.can in
       let only = did.1.left.1 in
       let grown =
-      removals.regrown_only told mid now_told did.1.pages did.1.news free between now t (without k rs) a.used child did.1.is only a.can.apart tells frees in
+      removals.regrown_only told mid now_told did.1.pages did.1.news free between now t (without k rs) a.used child did.1.is only a.can.apart tells
+      frees in
       kept_again did.1.pages grown.news now_told free now child (t.height - 1) (t.records - 1) a.used grown.uses (without k rs) grown.is
       (removals.tall_above did.1.news t.height child (without k rs) only.below only.uses only.is_height only.subtree) grown.subtree grown.moves a.can.apart
 
-pub out_shrunk : (r : Result Bool Stop) (k : Key) (told now_told : Option (List (List ℕ))) (free now : ℕ → Bool) (t new less : Tree)
-    → OnOk r (new ≡ less)
-    → ((rs : List Record) → HasItsPages told free t rs → HasItsPages now_told now less (without k rs))
-    → IfOk r (λ o. (rs : List Record) → HasItsPages told free t rs → HasItsPages now_told now new (without k rs))
-out_shrunk (Err e) k told now_told free now t new less is f = is
-out_shrunk (Ok o) k told now_told free now t new less is f = λ rs w. subst (λ x. HasItsPages now_told now x (without k rs)) (sym is) (f rs w)
+module _ (told : Option (List (List ℕ))) (free : ℕ → Bool) (t : Tree) where
+  -- A removal.
+  pub sound_out : (e : Stop) (rs : List Record) → t.height ≢ 0
+      → ((is_root : Bool) (b : Bounds) (rs : List Record) (used : List ℕ) → CanEdit told free t.root t.height is_root b rs used → IsSound e)
+      → HasItsPages told free t rs → IsSound e
+  sound_out e rs ne f w = let a = at_root told free t rs ne w in f true everywhere rs a.used a.can
+
+  pub out_shrunk : (r : Result Bool Stop) (k : Key) (now_told : Option (List (List ℕ))) (now : ℕ → Bool) (new less : Tree) → OnOk r (new ≡ less)
+      → ((rs : List Record) → HasItsPages told free t rs → HasItsPages now_told now less (without k rs))
+      → IfOk r (λ o. (rs : List Record) → HasItsPages told free t rs → HasItsPages now_told now new (without k rs))
+  out_shrunk (Err e) k now_told now new less is f = is
+  out_shrunk (Ok o) k now_told now new less is f = λ rs w. subst (λ x. HasItsPages now_told now x (without k rs)) (sym is) (f rs w)
 
 -- the numbers fit together after a removal, where they did before
 exact : (told : Option (List (List ℕ))) (free : ℕ → Bool) (t : Tree) (rs : List Record) (k : Key) → AtRoot told free t rs → length rs ≡ t.records
@@ -266,7 +268,8 @@ module _ (k : Key) (told now_told : Option (List (List ℕ))) (free now : ℕ �
       let a = at_root told free t rs ne w in
       let did = f true everywhere rs a.used a.can in
       let left = did.1.left in
-      removals.two_left did.1.news t.height true (t.root, everywhere) (without k rs) left.1.uses t.records left.1.subtree (exact told free t rs k a number did.0)
+      removals.two_left did.1.news t.height true (t.root, everywhere) (without k rs) left.1.uses t.records left.1.subtree
+      (exact told free t rs k a number did.0)
 
   pub one_empty : (t : Tree) (rs : List Record) → t.height ≢ 0 → removals.UnderRoot k told now_told free now t removed.Emptied → length rs ≡ t.records
       → HasItsPages told free t rs → (now t.root ≡ false) × (t.records ≡ 1)
@@ -288,7 +291,8 @@ module _ (k : Key) (told now_told : Option (List (List ℕ))) (free now : ℕ �
       let apart = apart_then did.1.pages did.1.news free now a.used (only.uses ++ t.root ∷ []) only.moves a.can.apart in (
         used_not_free now (only.uses ++ t.root ∷ []) t.root apart
             (some (times t.root (only.uses ++ t.root ∷ [])) (times t.root only.uses) (removals.last_used t.root only.uses)),
-        removals.two_left did.1.news only.below false (child, everywhere) (without k rs) only.uses t.records only.subtree (exact told free t rs k a number did.0),
+        removals.two_left did.1.news only.below false (child, everywhere) (without k rs) only.uses t.records only.subtree
+            (exact told free t rs k a number did.0),
         removals.tall_above did.1.news t.height child (without k rs) only.below only.uses only.is_height only.subtree,
       )
     where

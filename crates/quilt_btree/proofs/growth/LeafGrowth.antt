@@ -106,7 +106,8 @@ halves b xs n start a w h =
     let cut : keys_of xs ≡ keys_of (take n xs) ++ start.key ∷ keys_of rest.0 =
     ap keys_of (sym (take-append-drop n xs)) ∙ keys_append (take n xs) (drop n xs) ∙ ap (λ l. keys_of (take n xs) ++ keys_of l) rest.1 in
     let parts =
-    separated_at b (keys_of (take n xs)) start.key (keys_of rest.0) (subst (λ l. is_ascending l ≡ true) cut a) (subst (λ l. are_within b l ≡ true) cut w) in
+    separated_at b (keys_of (take n xs)) start.key (keys_of rest.0) (subst (λ l. is_ascending l ≡ true) cut a)
+    (subst (λ l. are_within b l ≡ true) cut w) in
     record {
       above = parts.above;
       below = parts.below;

@@ -191,7 +191,8 @@ pub sound_root : (e : Stop) {told : Option (List (List ℕ))} {free : ℕ → Bo
     → IsWhole told free size t rs → IsSound e
 sound_root e {told = told} {free = free} {size = size} {t = t} k {rs = rs} i ne f w =
     let x = insert_from told free size t rs i ne w in
-    f true everywhere rs x.used (whole_can told free size t.root t.height k rs i.rooted.height x) (few_records size t.records rs w.number i.room i.most)
+    f true everywhere rs x.used (whole_can told free size t.root t.height k rs i.rooted.height x)
+    (few_records size t.records rs w.number i.room i.most)
 
 module _ (r : Record) (told now_told : Option (List (List ℕ))) (free now : ℕ → Bool) (size : ℕ) where
   pub whole_there : (t : Tree) (rs : List Record) → IsInserting told free size t → t.height ≢ 0
@@ -290,8 +291,10 @@ regrown_split told mid_told now_told pages mids free mid now size t all used key
     let U = separated.rest_uses ++ separated.first_uses in
     let inner : Inner = record { height = t.height + 1; children = t.root ∷ right ∷ []; keys = key ∷ [] } in
     let taller : t.height + 1 ≡ suc (suc h) = omega arith in
-    let left = subst (λ n. Subtree mids n false (t.root, record { low = None; high = Some key }) separated.first separated.first_uses) tall separated.is_left in
-    let last = subst (λ n. Subtree mids n false (right, record { low = Some key; high = None }) separated.rest separated.rest_uses) tall separated.is_right in
+    let left = subst (λ n. Subtree mids n false (t.root, record { low = None; high = Some key }) separated.first separated.first_uses) tall
+    separated.is_left in
+    let last = subst (λ n. Subtree mids n false (right, record { low = Some key; high = None }) separated.rest separated.rest_uses) tall
+    separated.is_right in
     let row : Row S (bounded (t.root ∷ right ∷ []) (key ∷ []) everywhere) all U = record {
       first = separated.first;
       rest = separated.rest;
@@ -323,23 +326,6 @@ regrown_split told mid_told now_told pages mids free mid now size t all used key
           (moves_then separated.moves taken) grown.moves;
     }
 
-pub whole_split : (r : Record) (told mid_told now_told : Option (List (List ℕ))) (free mid now : ℕ → Bool) (size : ℕ) (t : Tree) (rs : List Record)
-    (key : Key) (right new : ℕ) (bytes : List ℕ) (h : ℕ) → IsInserting told free size t → t.height ≡ suc h
-    → UnderRoot r told mid_told free mid size t (inserted.Split key right) → IsNewRoot t mid_told now_told mid now size key right new bytes
-    → IsWhole told free size t rs → (true ≡ not (list_any (has_key r.key) rs))
-    × IsWhole now_told now size (record { root = new; height = t.height + 1; records = t.records + 1 }) (put r rs)
-whole_split r told mid_told now_told free mid now size t rs key right new bytes h i tall f is w =
-    let ne : t.height ≢ 0 = omega arith in
-    let x = insert_from told free size t rs i ne w in
-    let did = f true everywhere rs x.used (whole_can told free size t.root t.height r.key rs i.rooted.height x) in
-    let grown = regrown_split told mid_told now_told did.pages did.news free mid now size t
-    (put r rs) x.used key right new bytes h i.rooted i.many tall did.was did.is did.done.1 x.apart is in
-    let some_now : 1 ≤ t.height + 1 = omega arith in (
-      sym (ap not did.done.0),
-      whole_again did.pages grown.news now_told free now size new (t.height + 1) (t.records + 1) x.used grown.uses
-          (put r rs) grown.is some_now grown.subtree grown.moves x.apart x.balance (more_records r rs t.records w.number),
-    )
-
 -- the first record of a tree
 pub empty_room : (told : Option (List (List ℕ))) (free : ℕ → Bool) (size : ℕ) (t : Tree) (rs : List Record) → IsInserting told free size t
     → t.height ≡ 0 → IsWhole told free size t rs → 0 < count_free free size
@@ -353,36 +339,51 @@ empty_room told free size t rs i none w =
     enough : (s c u : ℕ) → 16 ≤ s → u ≡ 0 → s ≤ c + u + 1 → 0 < c
     enough s c u e f g = omega arith
 
-pub whole_first : (r : Record) (told now_told : Option (List (List ℕ))) (free now : ℕ → Bool) (size : ℕ) (t : Tree) (rs : List Record) (new : ℕ)
-    (bytes : List ℕ) → IsInserting told free size t → t.height ≡ 0
-    → leaf_of bytes ≡ Some (r ∷ []) → (1 ≤ new) × (new < size) → free new ≡ true → FreesOnly new false free now
-    → Goes (λ old news. news ≡ slice_set old new bytes) told now_told
-    → IsWhole told free size t rs → (true ≡ not (list_any (has_key r.key) rs))
-    × IsWhole now_told now size (record { root = new; height = 1; records = 1 }) (put r rs)
-unfolding walk_of
-whole_first r told now_told free now size t rs new bytes i none leaf range was_free taken wrote w =
-    let h = subst (λ n. walk_of w.tree.pages t.root n ≡ Whole rs w.tree.visited) none w.tree.walk in
-    let no_pages : w.tree.visited ≡ [] = cc in
-    let no_rs : rs ≡ [] = no_records told t rs none w.tree in
-    let pages = w.tree.pages in
-    let written = tells_at (λ old news. news ≡ slice_set old new bytes) told now_told pages wrote w.tree.is_told in
-    let news = slice_set pages new bytes in
-    let inside = all_told told size new pages i.many w.tree.is_told range.1 in
-    let balance : (p : ℕ) → 1 ≤ p → p < size → account free [] p ≡ 1 = λ p low high. subst (λ u. account free u p ≡ 1) no_pages (w.balance p low high) in
-    let apart = at_most_one free [] size i.inside (λ p. nothing) balance in
-    let one : 1 ≤ 1 = omega arith in
-    let here : 1 ≤ times new (new ∷ []) = first (times new (new ∷ [])) (times_here new []) in
-    let moves = moves_then (moves_taken pages free now [] new was_free taken)
-    (moves_written pages now (new ∷ []) new bytes (used_account now (new ∷ []) new here)) in (
-      sym (ap (λ l. not (list_any (has_key r.key) l)) no_rs),
-      whole_again pages news now_told free now size new 1 1 [] (new ∷ []) (put r rs) (written.1 ∙ ap Some written.2) one
-          (subst (λ l. Subtree news 1 true (new, everywhere) (put r l) (new ∷ [])) (sym no_rs)
-          (record { page = ap leaf_of (get_or-set_same pages new bytes [] inside) ∙ leaf; enough = refl; within = refl; is_used = refl }))
-          moves apart balance (ap (λ l. length (put r l)) no_rs),
-    )
-  where
-    nothing : 0 ≤ 1
-    nothing = omega arith
+module _ (r : Record) (told now_told : Option (List (List ℕ))) (free now : ℕ → Bool) (size : ℕ) (t : Tree) (rs : List Record) (new : ℕ)
+    (bytes : List ℕ) (i : IsInserting told free size t) (w : IsWhole told free size t rs) where
+  pub whole_split : (mid_told : Option (List (List ℕ))) (mid : ℕ → Bool) (key : Key) (right h : ℕ) → t.height ≡ suc h
+      → UnderRoot r told mid_told free mid size t (inserted.Split key right) → IsNewRoot t mid_told now_told mid now size key right new bytes
+      → (true ≡ not (list_any (has_key r.key) rs)) × IsWhole now_told now size (record { root = new; height = t.height + 1; records = t.records + 1 })
+      (put r rs)
+  whole_split mid_told mid key right h tall f is =
+      let ne : t.height ≢ 0 = omega arith in
+      let x = insert_from told free size t rs i ne w in
+      let did = f true everywhere rs x.used (whole_can told free size t.root t.height r.key rs i.rooted.height x) in
+      let grown = regrown_split told mid_told now_told did.pages did.news free mid now size t
+      (put r rs) x.used key right new bytes h i.rooted i.many tall did.was did.is did.done.1 x.apart is in
+      let some_now : 1 ≤ t.height + 1 = omega arith in (
+        sym (ap not did.done.0),
+        whole_again did.pages grown.news now_told free now size new (t.height + 1) (t.records + 1) x.used grown.uses
+            (put r rs) grown.is some_now grown.subtree grown.moves x.apart x.balance (more_records r rs t.records w.number),
+      )
 
-    first : (t : ℕ) → t ≡ 1 + 0 → 1 ≤ t
-    first t e = omega arith
+  pub whole_first : t.height ≡ 0 → leaf_of bytes ≡ Some (r ∷ []) → (1 ≤ new) × (new < size) → free new ≡ true → FreesOnly new false free now
+      → Goes (λ old news. news ≡ slice_set old new bytes) told now_told
+      → (true ≡ not (list_any (has_key r.key) rs)) × IsWhole now_told now size (record { root = new; height = 1; records = 1 }) (put r rs)
+  unfolding walk_of
+  whole_first none leaf range was_free taken wrote =
+      let h = subst (λ n. walk_of w.tree.pages t.root n ≡ Whole rs w.tree.visited) none w.tree.walk in
+      let no_pages : w.tree.visited ≡ [] = cc in
+      let no_rs : rs ≡ [] = no_records told t rs none w.tree in
+      let pages = w.tree.pages in
+      let written = tells_at (λ old news. news ≡ slice_set old new bytes) told now_told pages wrote w.tree.is_told in
+      let news = slice_set pages new bytes in
+      let inside = all_told told size new pages i.many w.tree.is_told range.1 in
+      let balance : (p : ℕ) → 1 ≤ p → p < size → account free [] p ≡ 1 = λ p low high. subst (λ u. account free u p ≡ 1) no_pages (w.balance p low high) in
+      let apart = at_most_one free [] size i.inside (λ p. nothing) balance in
+      let one : 1 ≤ 1 = omega arith in
+      let here : 1 ≤ times new (new ∷ []) = first (times new (new ∷ [])) (times_here new []) in
+      let moves = moves_then (moves_taken pages free now [] new was_free taken)
+      (moves_written pages now (new ∷ []) new bytes (used_account now (new ∷ []) new here)) in (
+        sym (ap (λ l. not (list_any (has_key r.key) l)) no_rs),
+        whole_again pages news now_told free now size new 1 1 [] (new ∷ []) (put r rs) (written.1 ∙ ap Some written.2) one
+            (subst (λ l. Subtree news 1 true (new, everywhere) (put r l) (new ∷ [])) (sym no_rs)
+            (record { page = ap leaf_of (get_or-set_same pages new bytes [] inside) ∙ leaf; enough = refl; within = refl; is_used = refl }))
+            moves apart balance (ap (λ l. length (put r l)) no_rs),
+      )
+    where
+      nothing : 0 ≤ 1
+      nothing = omega arith
+
+      first : (t : ℕ) → t ≡ 1 + 0 → 1 ≤ t
+      first t e = omega arith

@@ -60,7 +60,8 @@ module _ (told then_told : Option (List (List ℕ))) (free then_free : ℕ → B
   pub child_can : (x : IsBelow told free page height is_root b k rs used inner i)
       → CanInsert then_told then_free then_size child (height - 1) false (child_bounds inner b i) k x.at.here x.at.here_used
   child_can x =
-      can_along told then_told free then_free size then_size child (height - 1) false (child_bounds inner b i) x.at.here x.at.here_used k l.same (record {
+      can_along told then_told free then_free size then_size child (height - 1) false (child_bounds inner b i) x.at.here x.at.here_used k l.same
+      (record {
         can_edit = record {
           pages = x.pages;
           is_told = x.is_told;
@@ -91,7 +92,8 @@ module _ (r : Record) (told then_told now_told : Option (List (List ℕ))) (free
       → ((is_root : Bool) (b : Bounds) (rs : List Record) (used : List ℕ) → CanInsert then_told then_free then_size child (height - 1) is_root b r.key rs used → DidInsert r then_told now_told then_free now child (height - 1) is_root b rs used o)
       → ChildDid r x.pages now_told free now (slice_index inner.children i) (suc x.below) (child_bounds inner b i) x.at.here x.at.here_used o
   child_did o l can x f =
-      let did = did_along told then_told free then_free size then_size child (height - 1) false (child_bounds inner b i) x.at.here x.at.here_used r now_told now o l.same
+      let did = did_along told then_told free then_free size then_size child (height - 1) false (child_bounds inner b i) x.at.here x.at.here_used r
+      now_told now o l.same
       (f false (child_bounds inner b i) x.at.here x.at.here_used
       (child_can told then_told free then_free size then_size page height child i r.key inner is_root b rs used l can x)) in
       let was = did.was in
@@ -176,80 +178,6 @@ pub record IsToTake (r : Record) (told now_told : Option (List (List ℕ))) (fre
   pub moves : Moves pages news free now used (under ++ page ∷ [])
   pub tall : inner.height ≡ height
 
-pub under_takes : (r : Record) (told then_told now_told : Option (List (List ℕ))) (free then_free now : ℕ → Bool)
-    (size then_size page height child i : ℕ) (inner : Inner) (is_root : Bool) (b : Bounds) (rs : List Record) (used : List ℕ) (key : Key) (right : ℕ)
-    → LeadsToChild told then_told free then_free size then_size page height child i r.key inner → TellsAll told size → (1 ≤ right) × (right < size)
-    → ((is_root : Bool) (b : Bounds) (rs : List Record) (used : List ℕ)
-    → CanInsert then_told then_free then_size child (height - 1) is_root b r.key rs used
-    → DidInsert r then_told now_told then_free now child (height - 1) is_root b rs used (inserted.Split key right))
-    → CanInsert told free size page height is_root b r.key rs used → IsToTake r told now_told free now page height is_root b rs used inner i key right
-under_takes r told then_told now_told free then_free now size then_size page height child i inner is_root b rs used key right l many in_range f can =
-    let x = insert_below told then_told free then_free size then_size page height child i r.key inner is_root b rs used l can in
-    let did = child_did r told then_told now_told free then_free now size then_size page height child i inner is_root b rs used
-    (inserted.Split key right) l can x f in
-    let separated = did.done.1 in
-    let all = put r x.at.here in
-    let c = slice_index inner.children i in
-    let cb = child_bounds inner b i in
-    let before = front (take i inner.children) (take i inner.keys) b in
-    let behind = tail_places (drop (suc i) inner.children) (drop i inner.keys) (from_keys (take i inner.keys) b) in
-    let S = Subtree did.news (suc x.below) false in
-    let places = two_places c right key cb in
-    let row : Row S places all (separated.rest_uses ++ separated.first_uses) = record {
-      first = separated.first;
-      rest = separated.rest;
-      first_used = separated.first_uses;
-      rest_used = separated.rest_uses;
-      here = separated.is_left;
-      after = row_one S (right, record { low = Some key; high = cb.high }) separated.rest separated.rest_uses separated.is_right;
-      records = separated.records;
-      is_used = refl;
-    } in
-    let moved = middle_moved x.pages did.news free now x.below page before ((c, cb) ∷ []) behind places rs x.under all
-    (separated.rest_uses ++ separated.first_uses) x.apart x.at row separated.moves in
-    let next = subst (λ (cs : List (ℕ × Bounds)). RowMoved x.pages did.news free now x.below page cs (x.at.first ++ (all ++ x.at.last)) x.under)
-    (sym (bounded_next inner b i right key x.in_range x.list.keys)) moved in
-    let fitting = is_fitting inner b i key x.list.ascends x.within
-    (λ low e. bounds_part did.news (suc x.below) false c low key cb.low separated.first separated.first_uses e separated.is_left)
-    separated.low separated.high in
-    let long : length did.news ≡ size = moved.moves.size ∙ if_some_at (λ pages. length pages ≡ size) told x.pages many x.is_told in
-    let children_more : length (insert inner.children (suc i) right) ≡ length inner.children + 1 =
-    length-insert inner.children (suc i) right (next_in i (length inner.children) x.in_range) in
-    let keys_more : length (insert inner.keys i key) ≡ length inner.keys + 1 = length-insert inner.keys i key l.place.in_range in
-    record {
-      pages = x.pages;
-      news = did.news;
-      was = x.is_told;
-      is = did.is;
-      not_there = any_between r.key x.at.first x.at.here x.at.last rs x.among ∙ did.done.0;
-      under = next.uses;
-      pending = record {
-        pages = did.news;
-        is_told = did.is;
-        below = x.below;
-        is_height = x.inner_height;
-        in_range = pages_with (length did.news) inner.children (suc i) right
-            (subst (λ n. are_pages n inner.children ≡ true) (sym moved.moves.size) x.list.in_range)
-            (page_test right size (length did.news) in_range.0 in_range.1 long);
-        many = as_many (length (insert inner.children (suc i) right)) (length inner.children) (length (insert inner.keys i key))
-            (length inner.keys) children_more keys_more x.list.keys;
-        enough = still_enough is_root (length inner.children) (length (insert inner.children (suc i) right)) children_more x.enough;
-        ascends = fitting.ascends;
-        within = fitting.within;
-        children = subst (λ m. Row S (bounded (insert inner.children (suc i) right) (insert inner.keys i key) b) m next.uses)
-            (sym (put_between r x.at.first x.at.here x.at.last rs x.among)) next.row;
-        apart = apart_then x.pages did.news free now (x.under ++ page ∷ []) (next.uses ++ page ∷ []) next.moves x.apart;
-      };
-      moves = subst (λ u. Moves x.pages did.news free now u (next.uses ++ page ∷ [])) (sym x.is_used) next.moves;
-      tall = x.inner_height ∙ sym x.is_height;
-    }
-  where
-    next_in : (i n : ℕ) → i < n → suc i ≤ n
-    next_in i n h = omega arith
-
-    as_many : (c d k l : ℕ) → c ≡ d + 1 → k ≡ l + 1 → d ≡ l + 1 → c ≡ suc k
-    as_many c d k l e f g = omega arith
-
 has_put : (r : Record) (pages mid news : List (List ℕ)) (free between now : ℕ → Bool) (page height : ℕ) (is_root : Bool) (b : Bounds)
     (rs : List Record) (used more : List ℕ) (o : Inserted)
     → list_any (has_key r.key) rs ≡ false → Moves pages mid free between used more
@@ -273,70 +201,129 @@ has_put r pages mid news free between now page height is_root b rs used more (in
   },
 )
 
--- the page took it
-pub took_child : (result : Result Inserted Stop) (r : Record) (told then_told mid_told now_told : Option (List (List ℕ))) (free then_free mid now : ℕ
-    → Bool) (size then_size page height child i : ℕ) (inner : Inner) (key : Key) (right : ℕ)
-    → LeadsToChild told then_told free then_free size then_size page height child i r.key inner → TellsAll told size → (1 ≤ right) × (right < size)
-    → ((is_root : Bool) (b : Bounds) (rs : List Record) (used : List ℕ)
-    → CanInsert then_told then_free then_size child (height - 1) is_root b r.key rs used
-    → DidInsert r then_told mid_told then_free mid child (height - 1) is_root b rs used (inserted.Split key right))
-    → IfOk result (λ o. (is_root : Bool) (b : Bounds) (all : List Record) (under : List ℕ)
-    → IsPending mid_told mid page is_root b (with_child inner i key right) all under
-    → DidPut mid_told now_told mid now page inner.height is_root b (under ++ page ∷ []) all o)
-    → IfOk result (λ o. (is_root : Bool) (b : Bounds) (rs : List Record) (used : List ℕ)
-    → CanInsert told free size page height is_root b r.key rs used → DidInsert r told now_told free now page height is_root b rs used o)
-took_child (Err e) r told then_told mid_told now_told free then_free mid now size then_size page height child i inner key right l many in_range f g = g
-took_child (Ok o) r told then_told mid_told now_told free then_free mid now size then_size page height child i inner key right l many in_range f g =
-    λ is_root b rs used can.
-    let x =
-    under_takes r told then_told mid_told free then_free mid size then_size page height child i inner is_root b rs used key right l many in_range f can in
-    let did = g is_root b (put r rs) x.under x.pending in
-    let was = did.was in
-    let mine = x.is in
-    let same : did.pages ≡ x.news = cc in
-    record {
-      pages = x.pages;
-      news = did.news;
-      was = x.was;
-      is = did.is;
-      done = has_put r x.pages x.news did.news free mid now page height is_root b rs used (x.under ++ page ∷ []) o x.not_there x.moves
-          (subst (λ p. HasPut p did.news mid now page height is_root b (x.under ++ page ∷ []) (put r rs) o) same
-          (subst (λ n. HasPut did.pages did.news mid now page n is_root b (x.under ++ page ∷ []) (put r rs) o) x.tall did.done));
-    }
-
 -- a page of height 3 has a place for another child
 few_under : {told : Option (List (List ℕ))} {free : ℕ → Bool} {size page height : ℕ} {is_root : Bool} {b : Bounds} {k : Key} {rs : List Record}
     {used : List ℕ} (inner : Inner) → ReadsInner told page inner → CanInsert told free size page height is_root b k rs used → AreFew rs → height ≡ 3
     → length inner.children < 254
 few_under {told = told} {free = free} {size = size} {page = page} {height = height} {is_root = is_root} {b = b} {k = k} {rs = rs} {used = used} inner reads can few three =
     let e = can.can_edit in
-    few_children e.pages is_root (page, b) rs used inner (subst (λ h. Subtree e.pages h is_root (page, b) rs used) three e.subtree) (reads e.pages e.is_told) few
+    few_children e.pages is_root (page, b) rs used inner (subst (λ h. Subtree e.pages h is_root (page, b) rs used) three e.subtree)
+    (reads e.pages e.is_told) few
 
--- where the page does not take it, no page is damaged
-pub sound_child : (result : Result Inserted Stop) (r : Record) (told then_told mid_told : Option (List (List ℕ))) (free then_free mid : ℕ → Bool)
-    (size then_size mid_size page height child i : ℕ) (inner : Inner) (key : Key) (right : ℕ)
-    → LeadsToChild told then_told free then_free size then_size page height child i r.key inner → TellsAll told size
-    → (1 ≤ right) × (right < size) → mid_size ≡ size
-    → count_free free size ≤ count_free mid size + (height - 1)
-    → ((is_root : Bool) (b : Bounds) (rs : List Record) (used : List ℕ)
-    → CanInsert then_told then_free then_size child (height - 1) is_root b r.key rs used
-    → DidInsert r then_told mid_told then_free mid child (height - 1) is_root b rs used (inserted.Split key right))
-    → IfErr result (λ e. (is_root : Bool) (b : Bounds) (all : List Record) (under : List ℕ)
-    → IsPending mid_told mid page is_root b (with_child inner i key right) all under → 0 < count_free mid mid_size
-    → (inner.height ≡ 3 → length inner.children < 254) → IsSound e)
-    → IfErr result (λ e. (is_root : Bool) (b : Bounds) (rs : List Record) (used : List ℕ)
-    → CanInsert told free size page height is_root b r.key rs used → AreFew rs → IsSound e)
-sound_child (Ok o) r told then_told mid_told free then_free mid size then_size mid_size page height child i inner key right l many in_range same few f g = g
-sound_child (Err e) r told then_told mid_told free then_free mid size then_size mid_size page height child i inner key right l many in_range same few
-    f g = λ is_root b rs used can small.
-    let x =
-    under_takes r told then_told mid_told free then_free mid size then_size page height child i inner is_root b rs used key right l many in_range f can in
-    g is_root b (put r rs) x.under x.pending
-    (subst (λ n. 0 < count_free mid n) (sym same) (left (count_free free size) (count_free mid size) height l.some few can.room))
-    (λ three. few_under inner l.reads can small (sym x.tall ∙ three))
-  where
-    left : (c d h : ℕ) → 1 ≤ h → c ≤ d + (h - 1) → h ≤ c → 0 < d
-    left c d h some e f = omega arith
+module _ (r : Record) (told then_told : Option (List (List ℕ))) (free then_free : ℕ → Bool) (size then_size page height child i : ℕ) (inner : Inner)
+    (key : Key) (right : ℕ) (l : LeadsToChild told then_told free then_free size then_size page height child i r.key inner)
+    (many : TellsAll told size) (in_range : (1 ≤ right) × (right < size)) where
+  pub under_takes : (now_told : Option (List (List ℕ))) (now : ℕ → Bool) (is_root : Bool) (b : Bounds) (rs : List Record) (used : List ℕ)
+      → ((is_root : Bool) (b : Bounds) (rs : List Record) (used : List ℕ) → CanInsert then_told then_free then_size child (height - 1) is_root b r.key rs used → DidInsert r then_told now_told then_free now child (height - 1) is_root b rs used (inserted.Split key right))
+      → CanInsert told free size page height is_root b r.key rs used
+      → IsToTake r told now_told free now page height is_root b rs used inner i key right
+  under_takes now_told now is_root b rs used f can =
+      let x = insert_below told then_told free then_free size then_size page height child i r.key inner is_root b rs used l can in
+      let did = child_did r told then_told now_told free then_free now size then_size page height child i inner is_root b rs used
+      (inserted.Split key right) l can x f in
+      let separated = did.done.1 in
+      let all = put r x.at.here in
+      let c = slice_index inner.children i in
+      let cb = child_bounds inner b i in
+      let before = front (take i inner.children) (take i inner.keys) b in
+      let behind = tail_places (drop (suc i) inner.children) (drop i inner.keys) (from_keys (take i inner.keys) b) in
+      let S = Subtree did.news (suc x.below) false in
+      let places = two_places c right key cb in
+      let row : Row S places all (separated.rest_uses ++ separated.first_uses) = record {
+        first = separated.first;
+        rest = separated.rest;
+        first_used = separated.first_uses;
+        rest_used = separated.rest_uses;
+        here = separated.is_left;
+        after = row_one S (right, record { low = Some key; high = cb.high }) separated.rest separated.rest_uses separated.is_right;
+        records = separated.records;
+        is_used = refl;
+      } in
+      let moved = middle_moved x.pages did.news free now x.below page before ((c, cb) ∷ []) behind places rs x.under all
+      (separated.rest_uses ++ separated.first_uses) x.apart x.at row separated.moves in
+      let next = subst (λ (cs : List (ℕ × Bounds)). RowMoved x.pages did.news free now x.below page cs (x.at.first ++ (all ++ x.at.last)) x.under)
+      (sym (bounded_next inner b i key right x.in_range x.list.keys)) moved in
+      let fitting = is_fitting inner b i key x.list.ascends x.within
+      (λ low e. bounds_part did.news (suc x.below) false c low key cb.low separated.first separated.first_uses e separated.is_left)
+      separated.low separated.high in
+      let long : length did.news ≡ size = moved.moves.size ∙ if_some_at (λ pages. length pages ≡ size) told x.pages many x.is_told in
+      let children_more : length (insert inner.children (suc i) right) ≡ length inner.children + 1 =
+      length-insert inner.children (suc i) right (next_in i (length inner.children) x.in_range) in
+      let keys_more : length (insert inner.keys i key) ≡ length inner.keys + 1 = length-insert inner.keys i key l.place.in_range in
+      record {
+        pages = x.pages;
+        news = did.news;
+        was = x.is_told;
+        is = did.is;
+        not_there = any_between r.key x.at.first x.at.here x.at.last rs x.among ∙ did.done.0;
+        under = next.uses;
+        pending = record {
+          pages = did.news;
+          is_told = did.is;
+          below = x.below;
+          is_height = x.inner_height;
+          in_range = pages_with (length did.news) inner.children (suc i) right
+              (subst (λ n. are_pages n inner.children ≡ true) (sym moved.moves.size) x.list.in_range)
+              (page_test right size (length did.news) in_range.0 in_range.1 long);
+          many = as_many (length (insert inner.children (suc i) right)) (length inner.children) (length (insert inner.keys i key))
+              (length inner.keys) children_more keys_more x.list.keys;
+          enough = still_enough is_root (length inner.children) (length (insert inner.children (suc i) right)) children_more x.enough;
+          ascends = fitting.ascends;
+          within = fitting.within;
+          children = subst (λ m. Row S (bounded (insert inner.children (suc i) right) (insert inner.keys i key) b) m next.uses)
+              (sym (put_between r x.at.first x.at.here x.at.last rs x.among)) next.row;
+          apart = apart_then x.pages did.news free now (x.under ++ page ∷ []) (next.uses ++ page ∷ []) next.moves x.apart;
+        };
+        moves = subst (λ u. Moves x.pages did.news free now u (next.uses ++ page ∷ [])) (sym x.is_used) next.moves;
+        tall = x.inner_height ∙ sym x.is_height;
+      }
+    where
+      next_in : (i n : ℕ) → i < n → suc i ≤ n
+      next_in i n h = omega arith
+
+      as_many : (c d k l : ℕ) → c ≡ d + 1 → k ≡ l + 1 → d ≡ l + 1 → c ≡ suc k
+      as_many c d k l e f g = omega arith
+
+  -- the page took it
+  pub took_child : (result : Result Inserted Stop) (mid_told now_told : Option (List (List ℕ))) (mid now : ℕ → Bool)
+      → ((is_root : Bool) (b : Bounds) (rs : List Record) (used : List ℕ) → CanInsert then_told then_free then_size child (height - 1) is_root b r.key rs used → DidInsert r then_told mid_told then_free mid child (height - 1) is_root b rs used (inserted.Split key right))
+      → IfOk result (λ o. (is_root : Bool) (b : Bounds) (all : List Record) (under : List ℕ) → IsPending mid_told mid page is_root b (with_child inner i key right) all under → DidPut mid_told now_told mid now page inner.height is_root b (under ++ page ∷ []) all o)
+      → IfOk result (λ o. (is_root : Bool) (b : Bounds) (rs : List Record) (used : List ℕ) → CanInsert told free size page height is_root b r.key rs used → DidInsert r told now_told free now page height is_root b rs used o)
+  took_child (Err e) mid_told now_told mid now f g = g
+  took_child (Ok o) mid_told now_told mid now f g =
+      λ is_root b rs used can.
+      let x =
+      under_takes mid_told mid is_root b rs used f can in
+      let did = g is_root b (put r rs) x.under x.pending in
+      let was = did.was in
+      let mine = x.is in
+      let same : did.pages ≡ x.news = cc in
+      record {
+        pages = x.pages;
+        news = did.news;
+        was = x.was;
+        is = did.is;
+        done = has_put r x.pages x.news did.news free mid now page height is_root b rs used (x.under ++ page ∷ []) o x.not_there x.moves
+            (subst (λ p. HasPut p did.news mid now page height is_root b (x.under ++ page ∷ []) (put r rs) o) same
+            (subst (λ n. HasPut did.pages did.news mid now page n is_root b (x.under ++ page ∷ []) (put r rs) o) x.tall did.done));
+      }
+
+  -- where the page does not take it, no page is damaged
+  pub sound_child : (result : Result Inserted Stop) (mid_told : Option (List (List ℕ))) (mid : ℕ → Bool) (mid_size : ℕ) → mid_size ≡ size
+      → count_free free size ≤ count_free mid size + (height - 1)
+      → ((is_root : Bool) (b : Bounds) (rs : List Record) (used : List ℕ) → CanInsert then_told then_free then_size child (height - 1) is_root b r.key rs used → DidInsert r then_told mid_told then_free mid child (height - 1) is_root b rs used (inserted.Split key right))
+      → IfErr result (λ e. (is_root : Bool) (b : Bounds) (all : List Record) (under : List ℕ) → IsPending mid_told mid page is_root b (with_child inner i key right) all under → 0 < count_free mid mid_size → (inner.height ≡ 3 → length inner.children < 254) → IsSound e)
+      → IfErr result (λ e. (is_root : Bool) (b : Bounds) (rs : List Record) (used : List ℕ) → CanInsert told free size page height is_root b r.key rs used → AreFew rs → IsSound e)
+  sound_child (Ok o) mid_told mid mid_size same few f g = g
+  sound_child (Err e) mid_told mid mid_size same few f g = λ is_root b rs used can small.
+      let x =
+      under_takes mid_told mid is_root b rs used f can in
+      g is_root b (put r rs) x.under x.pending
+      (subst (λ n. 0 < count_free mid n) (sym same) (left (count_free free size) (count_free mid size) height l.some few can.room))
+      (λ three. few_under inner l.reads can small (sym x.tall ∙ three))
+    where
+      left : (c d h : ℕ) → 1 ≤ h → c ≤ d + (h - 1) → h ≤ c → 0 < d
+      left c d h some e f = omega arith
 
 -- an error of the child
 pub sound_under : (e : Stop) (told then_told : Option (List (List ℕ))) (free then_free : ℕ → Bool) (size then_size page height child i : ℕ) (k : Key)

@@ -20,15 +20,6 @@ all_filter : {X : Type 0} (p : X → Bool) (xs : List X) → list_all p (filter 
 all_filter p [] = refl
 all_filter p (x ∷ xs) = kept_one p x (filter p xs) (p x) refl (all_filter p xs)
 
-wider : (low from high : Key) → is_le (key_cmp low from) ≡ true → (xs : List Record) → list_all (is_from_to from high) xs ≡ true
-    → list_all (is_from_to low high) xs ≡ true
-wider low from high le xs h = all_follow (is_from_to from high) (is_from_to low high) one xs h
-  where
-    one : (r : Record) → is_from_to from high r ≡ true → is_from_to low high r ≡ true
-    one r g =
-        let t = and_parts (is_le (key_cmp from r.key)) (is_le (key_cmp r.key high)) g in
-        and_both (is_le (key_cmp low r.key)) (is_le (key_cmp r.key high)) (le_le low from r.key le t.0) t.1
-
 take_most : {X : Type 0} (n : ℕ) (xs : List X) → length (take n xs) ≤ n
 take_most zero xs = omega arith
 take_most (suc n) [] = omega arith
@@ -48,22 +39,32 @@ added_most most old some new is le =
     let k = take_keeps most old some le in
     (omega arith, omega arith)
 
--- records of one more leaf
-pub added_within : (low from high : Key) (most : ℕ) (leaf old new : List Record) → new ≡ take most (old ++ filter (is_from_to from high) leaf)
-    → is_le (key_cmp low from) ≡ true
-    → list_all (is_from_to low high) old ≡ true → list_all (is_from_to low high) new ≡ true
-added_within low from high most leaf old new is le h =
-    ap (list_all (is_from_to low high)) is
-    ∙ all_take (is_from_to low high) (old ++ filter (is_from_to from high) leaf) most
-    (all_append (is_from_to low high) old (filter (is_from_to from high) leaf) h
-    (wider low from high le (filter (is_from_to from high) leaf) (all_filter (is_from_to from high) leaf)))
+module _ (low from high : Key) (le : is_le (key_cmp low from) ≡ true) where
+  wider : (xs : List Record) → list_all (is_from_to from high) xs ≡ true → list_all (is_from_to low high) xs ≡ true
+  wider xs h = all_follow (is_from_to from high) (is_from_to low high) one xs h
+    where
+      one : (r : Record) → is_from_to from high r ≡ true → is_from_to low high r ≡ true
+      one r g =
+          let t = and_parts (is_le (key_cmp from r.key)) (is_le (key_cmp r.key high)) g in
+          and_both (is_le (key_cmp low r.key)) (is_le (key_cmp r.key high)) (le_le low from r.key le t.0) t.1
+
+  -- records of one more leaf
+  pub added_within : (most : ℕ) (leaf old new : List Record) → new ≡ take most (old ++ filter (is_from_to from high) leaf)
+      → list_all (is_from_to low high) old ≡ true → list_all (is_from_to low high) new ≡ true
+  added_within most leaf old new is h =
+      ap (list_all (is_from_to low high)) is
+      ∙ all_take (is_from_to low high) (old ++ filter (is_from_to from high) leaf) most
+      (all_append (is_from_to low high) old (filter (is_from_to from high) leaf) h
+      (wider (filter (is_from_to from high) leaf) (all_filter (is_from_to from high) leaf)))
 
 pub first_within : (low high : Key) (most : ℕ) (leaf new : List Record) → new ≡ take most ([] ++ filter (is_from_to low high) leaf)
     → list_all (is_from_to low high) new ≡ true
 first_within low high most leaf new is =
-    ap (list_all (is_from_to low high)) is ∙ all_take (is_from_to low high) (filter (is_from_to low high) leaf) most (all_filter (is_from_to low high) leaf)
+    ap (list_all (is_from_to low high)) is ∙ all_take (is_from_to low high) (filter (is_from_to low high) leaf) most
+    (all_filter (is_from_to low high) leaf)
 
-pub above_bound : (k next : Key) (high : Option Key) → (is_below None k ≡ true → is_below high k ≡ true) → high ≡ Some next → is_lt (key_cmp k next) ≡ true
+pub above_bound : (k next : Key) (high : Option Key) → (is_below None k ≡ true → is_below high k ≡ true) → high ≡ Some next
+    → is_lt (key_cmp k next) ≡ true
 above_bound k next high f is = subst (λ o. is_below o k ≡ true) is (f refl)
 
 pub le_on : (low from next : Key) → is_le (key_cmp low from) ≡ true → is_lt (key_cmp from next) ≡ true → is_le (key_cmp low next) ≡ true

@@ -127,7 +127,8 @@ module _ (told : Option (List (List ℕ))) (free : ℕ → Bool) (page below : �
           records = m.done.records;
           is_used = refl;
         }) in
-        let changed = middle_changed S n.pages m.news free between below page (same_subtree m.news below) (front n.cut.ca n.cut.ka b) (low ∷ high ∷ [])
+        let changed = middle_changed S n.pages m.news free between below page (same_subtree m.news below) (front n.cut.ca n.cut.ka b)
+        (low ∷ high ∷ [])
         (rear n.cut.cb n.cut.kb b.high) n.first n.here n.last
         n.first_used n.here_used n.last_used uses n.under apart n.is_under n.row_before n.row_behind two m.done.moves in
         let keys = set_is in
@@ -203,7 +204,8 @@ module _ (told mid now_told : Option (List (List ℕ))) (free between now : ℕ 
       let there : suc j < length inner.children = omega arith in
       let fewer = one_fewer inner.children (suc j) there in
       let enough =
-      many_enough is_root 127 (length (remove inner.children (suc j))) (less (length (remove inner.children (suc j))) (length inner.children) fewer d.0) in
+      many_enough is_root 127 (length (remove inner.children (suc j)))
+      (less (length (remove inner.children (suc j))) (length inner.children) fewer d.0) in
       let p = page_rebalanced mid free between page below n.pages (without_child inner j) b rs used now_told now is_root m d.1 f inside enough in
       subst (λ h. DidLeave told now_told free now page h is_root b used rs removed.Done) (sym e)
       (record { pages = n.pages; news = p.news; was = n.is_told; is = p.is; left = p.becomes })
@@ -266,6 +268,7 @@ module _ (told mid now_told : Option (List (List ℕ))) (free between now : ℕ 
       → ChildrenRebalanced mid free between page below n.pages (with_key inner j separator) b rs used → page < length n.pages → now ≡ between
       → Writes page (with_key inner j separator) mid now_told → DidLeave told now_told free now page height is_root b used rs removed.Done
   left_separated separator e n m inside f writes =
-      let p = page_rebalanced mid free between page below n.pages (with_key inner j separator) b rs used now_told now is_root m writes f inside n.enough in
+      let p = page_rebalanced mid free between page below n.pages (with_key inner j separator) b rs used now_told now is_root m writes f inside
+      n.enough in
       subst (λ h. DidLeave told now_told free now page h is_root b used rs removed.Done) (sym e)
       (record { pages = n.pages; news = p.news; was = n.is_told; is = p.is; left = p.becomes })

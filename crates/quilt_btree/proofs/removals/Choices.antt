@@ -104,7 +104,8 @@ pub separated_sound : (x : Stop) (told mid : Option (List (List ℕ))) (free bet
     → (is_root : Bool) (b : Bounds) (rs : List Record) (used : List ℕ) → HasUnderfull told free page height inner i is_root b rs used → IsSound x
 separated_sound x told mid free between page height inner i j next left key right separator c rebalances f is_root b rs used s =
     let n = chosen told free page height inner i j next left key right is_root b rs used c s in
-    let d = did_rebalance told mid free between page height inner i j left key right (rebalanced.Redistributed separator) is_root b rs used s n rebalances in
+    let d = did_rebalance told mid free between page height inner i j left key right (rebalanced.Redistributed separator) is_root b rs used s n
+    rebalances in
     let fits = separated_ascends told mid free between page s.below inner j left key right is_root b rs used separator n d in
     f (page_taken mid free between page s.below n.pages (with_key inner j separator) b rs used
     (separated_children told free page s.below inner j left key right is_root b rs used separator n mid between d))
@@ -118,6 +119,7 @@ pub separated_left : (told mid now_told : Option (List (List ℕ))) (free betwee
     → DidLeave told now_told free now page height is_root b used rs removed.Done
 separated_left told mid now_told free between now page height inner i j next left key right separator c rebalances f writes is_root b rs used s =
     let n = chosen told free page height inner i j next left key right is_root b rs used c s in
-    let d = did_rebalance told mid free between page height inner i j left key right (rebalanced.Redistributed separator) is_root b rs used s n rebalances in
+    let d = did_rebalance told mid free between page height inner i j left key right (rebalanced.Redistributed separator) is_root b rs used s n
+    rebalances in
     left_separated told mid now_told free between now page height s.below inner j left key right is_root b rs used separator s.is_height n
     (separated_children told free page s.below inner j left key right is_root b rs used separator n mid between d) (c.inside n.pages n.is_told) f writes

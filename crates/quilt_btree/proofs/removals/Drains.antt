@@ -37,7 +37,8 @@ use Rattle.quilt_btree.proofs.subtrees.Walks.{and_parts, and_both}
 kept_step : (p : Key → Bool) (q : Record → Bool) (r : Record) (rs : List Record) (b : Bool) → q r ≡ b → p r.key ≡ true
     → list_all p (keys_of (filter q rs)) ≡ true → list_all p (keys_of (cond (q r) (r ∷ filter q rs) (filter q rs))) ≡ true
 kept_step p q r rs true e h g =
-    ap (λ l. list_all p (keys_of l)) (filter_cond q r (filter q rs) (filter q rs) true e) ∙ and_both (p r.key) (list_all p (keys_of (filter q rs))) h g
+    ap (λ l. list_all p (keys_of l)) (filter_cond q r (filter q rs) (filter q rs) true e) ∙ and_both (p r.key) (list_all p (keys_of (filter q rs))) h
+    g
 kept_step p q r rs false e h g = ap (λ l. list_all p (keys_of l)) (filter_cond q r (filter q rs) (filter q rs) false e) ∙ g
 
 kept_filter : (p : Key → Bool) (q : Record → Bool) (rs : List Record) → list_all p (keys_of rs) ≡ true → list_all p (keys_of (filter q rs)) ≡ true

@@ -118,7 +118,8 @@ are_inners told free h left key right b rs used m l r reads also =
 one_inner : (pages : List (List ℕ)) (h page : ℕ) (bytes : List ℕ) (b : Bounds) (inner : Inner) (all : List Record) (under : List ℕ)
     → slice_index_or pages page [] ≡ bytes → inner_of (length pages) bytes ≡ Some inner → inner.height ≡ suc (suc h)
     → 127 ≤ length inner.children → are_within b inner.keys ≡ true →
-    Row (Subtree pages (suc h) false) (bounded inner.children inner.keys b) all under → Subtree pages (suc (suc h)) false (page, b) all (under ++ page ∷ [])
+    Row (Subtree pages (suc h) false) (bounded inner.children inner.keys b) all under → Subtree pages (suc (suc h)) false (page, b) all
+    (under ++ page ∷ [])
 one_inner pages h page bytes b inner all under here is height many within row = record {
   inner = inner;
   page = ap (inner_of (length pages)) here ∙ is;
@@ -202,7 +203,8 @@ module _ (told mid now_told : Option (List (List ℕ))) (free now : ℕ → Bool
       subst (λ x. Row (Subtree news (suc h) false) (bounded x all.keys b) rs a.under) (sym kids)
       (subst (λ x. Row (Subtree news (suc h) false) (bounded (l.children ++ r.children) x b) rs a.under) (sym keys) row) in
       let many : 127 ≤ length all.children =
-      enough (length all.children) (length l.children) (length r.children) (ap length kids ∙ length-append l.children r.children) a.first_many a.rest_many in
+      enough (length all.children) (length l.children) (length r.children) (ap length kids ∙ length-append l.children r.children) a.first_many
+      a.rest_many in
       subst (λ x. DidRebalance told now_told free now x left right b rs used rebalanced.Joined) (sym n.1) (record {
         pages = m.pages;
         news = news;
@@ -251,7 +253,8 @@ module _ (told mid now_told : Option (List (List ℕ))) (free now : ℕ → Bool
       let parts = rises_apart b first.keys separator rest.keys (subst (IsRising b) (sym c.keys) a.rises) in
       let enough = c.enough a.first_many a.rest_many in
       let moves : Moves m.pages news free free used ((two.rest_used ++ right ∷ []) ++ (two.first_used ++ left ∷ [])) =
-      pair_moves m.pages news free free left right (right ∷ left ∷ []) a.under used ((two.rest_used ++ right ∷ []) ++ (two.first_used ++ left ∷ [])) a.pair
+      pair_moves m.pages news free free left right (right ∷ left ∷ []) a.under used ((two.rest_used ++ right ∷ []) ++ (two.first_used ++ left ∷ []))
+      a.pair
       (λ p. pair_count p two.rest_used two.first_used left right ∙ ap (λ u. times p u + times p (right ∷ left ∷ [])) (sym two.is_used)) w.moves in
       subst (λ x. DidRebalance told now_told free now x left right b rs used (rebalanced.Redistributed separator)) (sym n.1) (record {
         pages = m.pages;
@@ -264,7 +267,8 @@ module _ (told mid now_told : Option (List (List ℕ))) (free now : ℕ → Bool
           first_uses = two.first_used ++ left ∷ [];
           rest_uses = two.rest_used ++ right ∷ [];
           is_left =
-              one_inner news h left bytes below first two.first two.first_used w.here is (c.heights.0 ∙ c.is_height ∙ n.1) enough.0 parts.before.within two.here;
+              one_inner news h left bytes below first two.first two.first_used w.here is (c.heights.0 ∙ c.is_height ∙ n.1) enough.0
+              parts.before.within two.here;
           is_right = one_inner news h right others above rest two.rest two.rest_used w.there is_too
               (c.heights.1 ∙ c.is_height ∙ n.1) enough.1 parts.behind.within two.after;
           records = two.records;
@@ -280,7 +284,8 @@ module _ (told : Option (List (List ℕ))) (free : ℕ → Bool) (height left : 
       → test ≡ false → CanRebalance told free height left key right b rs used → ⊥
   not_inners test above reads also e fails can =
       let n = two_above height above in
-      let a = are_inners told free n.0 left key right b rs used (subst (λ x. CanRebalance told free x left key right b rs used) n.1 can) l r reads also in
+      let a = are_inners told free n.0 left key right b rs used (subst (λ x. CanRebalance told free x left key right b rs used) n.1 can) l r reads
+      also in
       never test (is_ascending (l.keys ++ key ∷ r.keys)) e fails a.rises.ascends
     where
       never : (x y : Bool) → x ≡ y → x ≡ false → y ≡ true → ⊥
@@ -290,5 +295,6 @@ module _ (told : Option (List (List ℕ))) (free : ℕ → Bool) (height left : 
       → CanRebalance told free height left key right b rs used → (was left ≡ false) × (was right ≡ false)
   inners_taken was above reads also e can =
       let n = two_above height above in
-      let a = are_inners told free n.0 left key right b rs used (subst (λ x. CanRebalance told free x left key right b rs used) n.1 can) l r reads also in
+      let a = are_inners told free n.0 left key right b rs used (subst (λ x. CanRebalance told free x left key right b rs used) n.1 can) l r reads
+      also in
       (ap (λ f. f left) e ∙ left_taken free left right a.apart, ap (λ f. f right) e ∙ right_taken free left right a.apart)

@@ -206,7 +206,8 @@ module _ (told : Option (List (List ℕ))) (free : ℕ → Bool) where
       → height ≡ 1 → ReadsLeaf told left l → ReadsLeaf told right r → test ≡ is_ascending (keys_of (l ++ r)) → test ≡ false
       → CanRebalance told free height left key right b rs used → ⊥
   not_leaves left key right height b rs used l r test one reads also e fails can =
-      let t = leaves_ascend told free left key right b rs used (subst (λ h. CanRebalance told free h left key right b rs used) one can) l r reads also in
+      let t = leaves_ascend told free left key right b rs used (subst (λ h. CanRebalance told free h left key right b rs used) one can) l r reads
+      also in
       never test (is_ascending (keys_of (l ++ r))) e fails t
     where
       never : (x y : Bool) → x ≡ y → x ≡ false → y ≡ true → ⊥

@@ -126,7 +126,8 @@ module _ (told mid : Option (List (List ℕ))) (free was : ℕ → Bool) (page h
       record {
         pages = a.pages;
         is_told = t ∙ a.is_told;
-        subtree = subst (λ n. Subtree a.pages n false (child, child_bounds inner b i) at.here at.here_used) (sym (one_less height a.below a.is_height))
+        subtree = subst (λ n. Subtree a.pages n false (child, child_bounds inner b i) at.here at.here_used)
+            (sym (one_less height a.below a.is_height))
             (subst (λ n. Subtree a.pages (suc a.below) false (n, child_bounds inner b i) at.here at.here_used) (sym c) s);
         apart =
             apart_some was at.here_used used (λ p. inside (times p used) (times p at.last_used) (times p at.here_used) (times p at.first_used)
@@ -207,7 +208,8 @@ module _ (k : Key) (told mid between : Option (List (List ℕ))) (free was then 
       (tail_places (drop (suc i) inner.children) (drop i inner.keys) (from_keys (take i inner.keys) b)) at.first
       (without k at.here) at.last at.first_used at.here_used at.last_used l.uses a.under (subst (AreApart free) a.is_used a.apart) at.is_used
       at.row_before at.row_behind (row_one S (slice_index inner.children i, child_bounds inner b i) (without k at.here) l.uses l.subtree) l.moves in
-      let row = subst (λ x. Row S x (at.first ++ (without k at.here ++ at.last)) changed.uses) (sym (places_cut inner b i a.in_range a.list.keys)) changed.row in
+      let row = subst (λ x. Row S x (at.first ++ (without k at.here ++ at.last)) changed.uses) (sym (places_cut inner b i a.in_range a.list.keys))
+      changed.row in
       let becomes = parent_stays a.pages l.news free
       then a.below page is_root b inner a.under (at.first ++ (without k at.here ++ at.last)) a.page_is a.inner_height a.enough a.within
       (record { uses = changed.uses; row = row; moves = changed.moves; page_stays = changed.page_stays }) in (
@@ -308,13 +310,16 @@ module _ (k : Key) (told mid between : Option (List (List ℕ))) (free was then 
       (subst (λ n. IsNearlyFull l.news n child) (one_less height a.below a.is_height) (left.0 refl)) in
       let T = Partly l.news (suc a.below) underfull in
       let here : T (underfull, child_bounds inner b i) (without k at.here) l.uses =
-      subst (λ r. Subtree l.news (suc a.below) r (underfull, child_bounds inner b i) (without k at.here) l.uses) (sym (self_test underfull)) l.subtree in
+      subst (λ r. Subtree l.news (suc a.below) r (underfull, child_bounds inner b i) (without k at.here) l.uses) (sym (self_test underfull))
+      l.subtree in
       let changed = middle_changed T a.pages l.news free
-      then a.below page (to_partly l.news a.below underfull) (front (take i inner.children) (take i inner.keys) b) ((underfull, child_bounds inner b i) ∷ [])
+      then a.below page (to_partly l.news a.below underfull) (front (take i inner.children) (take i inner.keys) b)
+      ((underfull, child_bounds inner b i) ∷ [])
       (tail_places (drop (suc i) inner.children) (drop i inner.keys) (from_keys (take i inner.keys) b)) at.first
       (without k at.here) at.last at.first_used at.here_used at.last_used l.uses a.under (subst (AreApart free) a.is_used a.apart) at.is_used
       at.row_before at.row_behind (row_one T (underfull, child_bounds inner b i) (without k at.here) l.uses here) l.moves in
-      let row = subst (λ x. Row T x (at.first ++ (without k at.here ++ at.last)) changed.uses) (sym (places_cut inner b i a.in_range a.list.keys)) changed.row in
+      let row = subst (λ x. Row T x (at.first ++ (without k at.here ++ at.last)) changed.uses) (sym (places_cut inner b i a.in_range a.list.keys))
+      changed.row in
       let same : a.pages ≡ can.pages = some_same a.pages can.pages (sym a.is_told ∙ can.is_told) in
       let moves = subst (λ u. Moves a.pages l.news free then u (changed.uses ++ page ∷ [])) (sym a.is_used) changed.moves in
       record {
@@ -332,7 +337,8 @@ module _ (k : Key) (told mid between : Option (List (List ℕ))) (free was then 
           enough = a.enough;
           within = a.within;
           under = changed.uses;
-          children = subst (λ x. Row T (bounded inner.children inner.keys b) x changed.uses) (sym (without_between k at.first at.here at.last rs among)) row;
+          children = subst (λ x. Row T (bounded inner.children inner.keys b) x changed.uses)
+              (sym (without_between k at.first at.here at.last rs among)) row;
           nearly = nearly;
           is_used = refl;
           apart = apart_then a.pages l.news free then used (changed.uses ++ page ∷ []) moves a.apart;

@@ -68,13 +68,6 @@ at_root told free size t rs i w =
     less : (a l n : ℕ) → suc a ≡ l → l ≡ n → a ≡ n - 1
     less a l n e f = omega arith
 
--- no tree
-pub whole_none : (k : Key) (told : Option (List (List ℕ))) (free : ℕ → Bool) (size : ℕ) (t : Tree) (rs : List Record) → t.height ≡ 0
-    → IsWhole told free size t rs → (false ≡ list_any (has_key k) rs) × IsWhole told free size t (without k rs)
-whole_none k told free size t rs e w =
-    let none = no_records told t rs e w.tree in
-    (sym (ap (list_any (has_key k)) none), subst (λ l. IsWhole told free size t l) (none ∙ sym (without_none k) ∙ ap (without k) (sym none)) w)
-
 module _ (k : Key) (told now_told : Option (List (List ℕ))) (free now : ℕ → Bool) (size : ℕ) (t : Tree) (rs : List Record) where
   pub whole_missing : IsRemoving free size t → UnderRoot k told now_told free now t removed.Missing → now_told ≡ told → now ≡ free
       → IsWhole told free size t rs → (false ≡ list_any (has_key k) rs) × IsWhole now_told now size t (without k rs)
@@ -186,16 +179,19 @@ regrown_only told mid now_told pages mids free between now t all used child mid_
     let is_used = used_not_free between (only.uses ++ t.root ∷ []) t.root apart
     (some (times t.root (only.uses ++ t.root ∷ [])) (times t.root only.uses) (last_used t.root only.uses)) in
     let none : times t.root only.uses ≡ 0 = nothing between (only.uses ++ t.root ∷ []) (times t.root only.uses) (last_used t.root only.uses) (apart t.root) in
-    let given = moves_order mids on.0 between now (t.root ∷ only.uses) only.uses (only.uses ++ t.root ∷ []) only.uses (λ p. turned p only.uses) (λ p. refl)
+    let given = moves_order mids on.0 between now (t.root ∷ only.uses) only.uses (only.uses ++ t.root ∷ []) only.uses (λ p. turned p only.uses)
+    (λ p. refl)
     (moves_given mids on.0 between now only.uses t.root on.2.size on.2.others is_used frees) in
     let s =
-    subtree_stays mids on.0 on.2.size only.below false (child, everywhere) all only.uses (given_same mids on.0 t.root only.uses on.2 none) only.subtree in
+    subtree_stays mids on.0 on.2.size only.below false (child, everywhere) all only.uses (given_same mids on.0 t.root only.uses on.2 none)
+    only.subtree in
     let height : only.below ≡ t.height - 1 = down t.height only.below only.is_height in
     record {
       news = on.0;
       is = on.1;
       uses = only.uses;
-      subtree = subst (λ h. Subtree on.0 h true (child, everywhere) all only.uses) height (any_root on.0 only.below true (child, everywhere) all only.uses s);
+      subtree = subst (λ h. Subtree on.0 h true (child, everywhere) all only.uses) height
+          (any_root on.0 only.below true (child, everywhere) all only.uses s);
       moves = moves_then only.moves given;
     }
   where
@@ -239,21 +235,30 @@ module _ (k : Key) (told mid now_told : Option (List (List ℕ))) (free between 
       let a = at_root told free size t rs i w in
       let did = f true everywhere rs a.used a.can in
       let only = did.1.left.1 in
-      let grown = regrown_only told mid now_told did.1.pages did.1.news free between now t (without k rs) a.used child did.1.is only a.can.apart tells frees in (
+      let grown = regrown_only told mid now_told did.1.pages did.1.news free between now t (without k rs) a.used child did.1.is only a.can.apart tells
+      frees in (
         sym did.0,
         whole_again did.1.pages grown.news now_told free now size child (t.height - 1) (t.records - 1) a.used grown.uses (without k rs) grown.is
             (tall_above did.1.news t.height child (without k rs) only.below only.uses only.is_height only.subtree)
             grown.subtree grown.moves a.can.apart a.balance (a.fewer k did.0),
       )
 
--- the tree with one record fewer
-pub shrunk : (r : Result Bool Stop) (k : Key) (told now_told : Option (List (List ℕ))) (free now : ℕ → Bool) (size : ℕ) (t new less : Tree)
-    → OnOk r (new ≡ less) → IfOk r (λ o. o ≡ true)
-    → ((rs : List Record) → IsWhole told free size t rs → (true ≡ list_any (has_key k) rs) × IsWhole now_told now size less (without k rs))
-    → IfOk r (λ o. (rs : List Record) → IsWhole told free size t rs → (o ≡ list_any (has_key k) rs) × IsWhole now_told now size new (without k rs))
-shrunk (Err e) k told now_told free now size t new less is out f = out
-shrunk (Ok o) k told now_told free now size t new less is out f = λ rs w.
-    let d = f rs w in (out ∙ d.0, subst (λ x. IsWhole now_told now size x (without k rs)) (sym is) d.1)
+module _ (k : Key) (told : Option (List (List ℕ))) (free : ℕ → Bool) (size : ℕ) (t : Tree) where
+  -- no tree
+  pub whole_none : (rs : List Record) → t.height ≡ 0 → IsWhole told free size t rs
+      → (false ≡ list_any (has_key k) rs) × IsWhole told free size t (without k rs)
+  whole_none rs e w =
+      let none = no_records told t rs e w.tree in
+      (sym (ap (list_any (has_key k)) none), subst (λ l. IsWhole told free size t l) (none ∙ sym (without_none k) ∙ ap (without k) (sym none)) w)
+
+  -- the tree with one record fewer
+  pub shrunk : (r : Result Bool Stop) (now_told : Option (List (List ℕ))) (now : ℕ → Bool) (new less : Tree) → OnOk r (new ≡ less)
+      → IfOk r (λ o. o ≡ true)
+      → ((rs : List Record) → IsWhole told free size t rs → (true ≡ list_any (has_key k) rs) × IsWhole now_told now size less (without k rs))
+      → IfOk r (λ o. (rs : List Record) → IsWhole told free size t rs → (o ≡ list_any (has_key k) rs) × IsWhole now_told now size new (without k rs))
+  shrunk (Err e) now_told now new less is out f = out
+  shrunk (Ok o) now_told now new less is out f = λ rs w.
+      let d = f rs w in (out ∙ d.0, subst (λ x. IsWhole now_told now size x (without k rs)) (sym is) d.1)
 
 module _ (told : Option (List (List ℕ))) (free : ℕ → Bool) (size : ℕ) (t : Tree) where
   pub sound_root : (e : Stop) (rs : List Record) → IsRemoving free size t
@@ -272,7 +277,8 @@ module _ (told : Option (List (List ℕ))) (free : ℕ → Bool) (size : ℕ) (t
         used_not_free now (only.uses ++ t.root ∷ []) t.root apart
             (some (times t.root (only.uses ++ t.root ∷ [])) (times t.root only.uses) (last_used t.root only.uses)),
         two_left did.1.news only.below false (child, everywhere) (without k rs) only.uses t.records only.subtree (a.exact k did.0),
-        λ e. no_subtree did.1.news only.below false (child, everywhere) (without k rs) only.uses (down t.height only.below only.is_height e) only.subtree,
+        λ e. no_subtree did.1.news only.below false (child, everywhere) (without k rs) only.uses (down t.height only.below only.is_height e)
+            only.subtree,
       )
     where
       some : (n m : ℕ) → n ≡ suc m → 1 ≤ n

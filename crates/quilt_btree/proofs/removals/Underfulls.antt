@@ -214,7 +214,8 @@ neighbours told free page height inner i is_root b rs used s j next left key rig
     λ p. ap (times p) s.is_used ∙ times-append p s.under (page ∷ [])
     ∙ ap (λ n. n + times p (page ∷ [])) (ap (times p) at.is_used ∙ times-three p at.last_used at.here_used at.first_used) in
     let some =
-    one_underfull left right underfull two.first_used two.rest_used at.here_used (which_underfull left right inner.children i j next one nx l r) two.is_used
+    one_underfull left right underfull two.first_used two.rest_used at.here_used (which_underfull left right inner.children i j next one nx l r)
+    two.is_used
     (page_used s.pages (suc s.below) (left == underfull) low two.first two.first_used two.here)
     (page_used s.pages (suc s.below) (right == underfull) high two.rest two.rest_used two.after) in
     let bound = least free used underfull s.apart in

@@ -36,7 +36,8 @@ bounded_rear c [] [] b n = refl
 bounded_rear c (d ∷ cb) [] b n = absurd (omega arith)
 bounded_rear c [] (k ∷ kb) b n = absurd (omega arith)
 bounded_rear c (d ∷ cb) (k ∷ kb) b n =
-    ap (λ l. (c, record { low = b.low; high = Some k }) ∷ l) (bounded_rear d cb kb (record { low = Some k; high = b.high }) (fewer (length cb) (length kb) n))
+    ap (λ l. (c, record { low = b.low; high = Some k }) ∷ l)
+    (bounded_rear d cb kb (record { low = Some k; high = b.high }) (fewer (length cb) (length kb) n))
 
 -- the bounds of what stands between
 abbrev pub gap_bounds : List Key → List Key → Bounds → Bounds
@@ -80,7 +81,8 @@ cut_two cs ks j next left key right n lt nx l r k =
       cb = drop (suc (suc j)) cs;
       ka = take j ks;
       kb = drop (suc j) ks;
-      children = cut_children cs j here ∙ ap (λ x. take j cs ++ x ∷ drop (suc j) cs) (sym l) ∙ ap (λ x. take j cs ++ left ∷ x) (drop-cons cs (suc j) 0 there)
+      children = cut_children cs j here ∙ ap (λ x. take j cs ++ x ∷ drop (suc j) cs) (sym l) ∙ ap (λ x. take j cs ++ left ∷ x)
+          (drop-cons cs (suc j) 0 there)
           ∙ ap (λ x. take j cs ++ left ∷ x ∷ drop (suc (suc j)) cs) (sym (r ∙ ap (slice_index cs) nx));
       keys = cut_at ks j key k;
       before = length-take-le j cs low ∙ sym ka;
@@ -174,7 +176,8 @@ middle_changed T pages news free now h page embed before others behind first all
     λ others parts. stays_on pages news free now hu uses others (under ++ page ∷ []) moves apart parts in
     let same_first = stay fu (λ p. in_first (times p (under ++ page ∷ [])) (times p lu) (times p hu) (times p fu) (times p (page ∷ [])) (total p)) in
     let same_last = stay lu (λ p. in_last (times p (under ++ page ∷ [])) (times p lu) (times p hu) (times p fu) (times p (page ∷ [])) (total p)) in
-    let same_page = stay (page ∷ []) (λ p. in_page (times p (under ++ page ∷ [])) (times p lu) (times p hu) (times p fu) (times p (page ∷ [])) (total p)) in
+    let same_page = stay (page ∷ [])
+    (λ p. in_page (times p (under ++ page ∷ [])) (times p lu) (times p hu) (times p fu) (times p (page ∷ [])) (total p)) in
     let one : (c : ℕ × Bounds) (ss : List Record) (u : List ℕ) → SameOn pages news u → Subtree pages (suc h) false c ss u → T c ss u =
     λ c ss u e t. embed c ss u (subtree_stays pages news moves.size (suc h) false c ss u e t) in
     record {
@@ -183,7 +186,8 @@ middle_changed T pages news free now h page embed before others behind first all
           (row_stays pages news (Subtree pages (suc h) false) T one before first fu same_first row_before) row
           (row_stays pages news (Subtree pages (suc h) false) T one behind last lu same_last row_behind);
       moves =
-          moves_among pages news free now hu uses (under ++ page ∷ []) (((lu ++ uses) ++ fu) ++ page ∷ []) (λ p. times p lu + times p fu + times p (page ∷ []))
+          moves_among pages news free now hu uses (under ++ page ∷ []) (((lu ++ uses) ++ fu) ++ page ∷ [])
+          (λ p. times p lu + times p fu + times p (page ∷ []))
           (λ p. order (times p (under ++ page ∷ [])) (times p lu) (times p hu) (times p fu) (times p (page ∷ [])) (total p))
           (λ p. order (times p (((lu ++ uses) ++ fu) ++ page ∷ [])) (times p lu) (times p uses) (times p fu) (times p (page ∷ [])) (total_now p)) moves;
       page_stays = same_page page (self page);

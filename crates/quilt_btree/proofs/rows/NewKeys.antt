@@ -64,9 +64,11 @@ module _ (ka : List Key) (old : Key) where
       let asc_kb = ascending_rest old kb (ascending_back ka (old ∷ kb) a) in
       let over = over_next kb b.high k asc_kb high in
       let ka_above : list_all (is_above b.low) ka ≡ true =
-      all_follow (λ m. is_above b.low m && is_below b.high m) (is_above b.low) (λ m h. (and_parts (is_above b.low m) (is_below b.high m) h).0) ka w_parts.0 in
+      all_follow (λ m. is_above b.low m && is_below b.high m) (is_above b.low) (λ m h. (and_parts (is_above b.low m) (is_below b.high m) h).0) ka
+      w_parts.0 in
       let kb_below : list_all (is_below b.high) kb ≡ true =
-      all_follow (λ m. is_above b.low m && is_below b.high m) (is_below b.high) (λ m h. (and_parts (is_above b.low m) (is_below b.high m) h).1) kb w_rest in
+      all_follow (λ m. is_above b.low m && is_below b.high m) (is_below b.high) (λ m h. (and_parts (is_above b.low m) (is_below b.high m) h).1) kb
+      w_rest in
       record {
         ascends = ascending_join k ka (k ∷ kb) (under_next ka b k asc_ka strict)
             (and_both (is_le (key_cmp k k)) (list_all (λ l. is_le (key_cmp k l)) kb) (same_le k)
@@ -86,7 +88,8 @@ module _ (ka : List Key) (old : Key) where
   pub within_less : (kb : List Key) (b : Bounds) → are_within b (ka ++ old ∷ kb) ≡ true → are_within b (ka ++ kb) ≡ true
   within_less kb b w =
       let parts = all_parts (λ m. is_above b.low m && is_below b.high m) ka (old ∷ kb) w in
-      all_append (λ m. is_above b.low m && is_below b.high m) ka kb parts.0 (and_parts (is_above b.low old && is_below b.high old) (are_within b kb) parts.1).1
+      all_append (λ m. is_above b.low m && is_below b.high m) ka kb parts.0
+      (and_parts (is_above b.low old && is_below b.high old) (are_within b kb) parts.1).1
 
 -- a subtree lies between its bounds, which are not the same
 pub strictly_above : (pages : List (List ℕ)) (height page : ℕ) (low : Option Key) (k : Key) (rs : List Record) (used : List ℕ)

@@ -137,7 +137,8 @@ module _ (pages news : List (List ℕ)) (free now : ℕ → Bool) where
   pub stays_on : (here uses others used : List ℕ) → Moves pages news free now here uses → AreApart free used
       → ((p : ℕ) → times p here + times p others ≤ times p used) → SameOn pages news others
   stays_on here uses others used moves apart parts p inside =
-      moves.others p (nothing (cond {A = ℕ} (free p) 1 0) (times p here) (times p others) (times p used) (in_times p others inside) (apart p) (parts p))
+      moves.others p
+      (nothing (cond {A = ℕ} (free p) 1 0) (times p here) (times p others) (times p used) (in_times p others inside) (apart p) (parts p))
     where
       nothing : (f h o u : ℕ) → 1 ≤ o → f + u ≤ 1 → h + o ≤ u → f + h ≡ 0
       nothing f h o u a b c = omega arith

@@ -118,7 +118,8 @@ front_last S (c ∷ cs) (k ∷ ks) b zero rs used lt lk row =
     ([], row.first, record { low = b.low; high = Some k }, row.first_used, row.records ∙ ap (λ l. row.first ++ l) none.0 ∙ append-nil row.first, row.here)
 front_last S (c ∷ cs) (k ∷ ks) b (suc j) rs used lt lk row =
     let more =
-    front_last S cs ks (record { low = Some k; high = b.high }) j row.rest row.rest_used (nearer j (length cs) lt) (nearer j (length ks) lk) row.after in
+    front_last S cs ks (record { low = Some k; high = b.high }) j row.rest row.rest_used (nearer j (length cs) lt) (nearer j (length ks) lk)
+    row.after in
     (row.first ++ more.0, more.1, more.2, more.3, row.records ∙ ap (λ l. row.first ++ l) more.4 ∙ sym (append_assoc row.first more.0 more.1), more.5)
   where
     nearer : (i n : ℕ) → suc i < suc n → i < n
@@ -281,41 +282,42 @@ pub record EndsBelow (told : Option (List (List ℕ))) (height child : ℕ) (rs 
   pub records : rs ≡ first ++ here
   pub spells : Spells told child (height - 1) here
 
-pub ends_below : (told : Option (List (List ℕ))) (page height child n : ℕ) (inner : Inner) → 1 ≤ height → height ≢ 1 → ReadsInner told page inner
-    → n ≡ length inner.children → child ≡ slice_index inner.children (n - 1)
-    → (rs : List Record) → Spells told page height rs → EndsBelow told height child rs
-ends_below told page height child n inner some ne reads many is rs s =
-    let up = inner_spells told page height rs inner some ne s reads in
-    let S = Subtree s.pages (suc up.h) false in
-    let i = n - 1 in
-    let two = up.list.least in
-    let lt : i < length inner.children = omega arith in
-    let at = at_child inner s.bounds i rs up.under S lt up.list.keys up.row in
-    let no_key : length inner.keys ≤ i = let k = up.list.keys in omega arith in
-    let no_more : length inner.children ≤ suc i = omega arith in
-    let row = subst (λ l. Row S (tail_places (drop (suc i) inner.children) l (from_keys (take i inner.keys) s.bounds)) at.last at.last_used)
-    (drop_of_length-le inner.keys no_key) at.row_behind in
-    let end = subst (λ l. Row S (bounded l [] (from_keys (take i inner.keys) s.bounds)) at.last at.last_used) (drop_of_length-le inner.children no_more) row in
-    record {
-      first = at.first;
-      here = at.here;
-      records = at.records ∙ ap (λ l. at.first ++ (at.here ++ l)) end.0 ∙ ap (λ l. at.first ++ l) (append-nil at.here);
-      spells = subst (λ c. Spells told c (height - 1) at.here) (sym is) (child_spells told page height rs inner i s up at);
-    }
-
 last_late : {X : Type 0} (o : Option X) (xs : List X) (x : X) → last_or None xs ≡ Some x → last_or o xs ≡ Some x
 last_late o [] x h = cc
 last_late o (y ∷ xs) x h = h
 
-pub last_up : (r : Result Record Stop) (old new : Option (List (List ℕ))) (page height child n : ℕ) (inner : Inner) → new ≡ old → 1 ≤ height
-    → height ≢ 1 → ReadsInner old page inner → n ≡ length inner.children
-    → child ≡ slice_index inner.children (n - 1) → IfOk r (λ x. (rs : List Record) → Spells new child (height - 1) rs → last_or None rs ≡ Some x)
-    → IfOk r (λ x. (rs : List Record) → Spells old page height rs → last_or None rs ≡ Some x)
-last_up (Err e) old new page height child n inner t some ne reads many is f = f
-last_up (Ok x) old new page height child n inner t some ne reads many is f = λ rs s.
-    let end = ends_below old page height child n inner some ne reads many is rs s in
-    ap (last_or None) end.records ∙ last_append None end.first end.here
-    ∙ last_late (last_or None end.first) end.here x (f end.here (along_told old new child (height - 1) end.here t end.spells))
+module _ (page height child n : ℕ) (inner : Inner) (some : 1 ≤ height) (ne : height ≢ 1) (many : n ≡ length inner.children)
+    (is : child ≡ slice_index inner.children (n - 1)) where
+  pub ends_below : (told : Option (List (List ℕ))) → ReadsInner told page inner → (rs : List Record) → Spells told page height rs
+      → EndsBelow told height child rs
+  ends_below told reads rs s =
+      let up = inner_spells told page height rs inner some ne s reads in
+      let S = Subtree s.pages (suc up.h) false in
+      let i = n - 1 in
+      let two = up.list.least in
+      let lt : i < length inner.children = omega arith in
+      let at = at_child inner s.bounds i rs up.under S lt up.list.keys up.row in
+      let no_key : length inner.keys ≤ i = let k = up.list.keys in omega arith in
+      let no_more : length inner.children ≤ suc i = omega arith in
+      let row = subst (λ l. Row S (tail_places (drop (suc i) inner.children) l (from_keys (take i inner.keys) s.bounds)) at.last at.last_used)
+      (drop_of_length-le inner.keys no_key) at.row_behind in
+      let end = subst (λ l. Row S (bounded l [] (from_keys (take i inner.keys) s.bounds)) at.last at.last_used)
+      (drop_of_length-le inner.children no_more) row in
+      record {
+        first = at.first;
+        here = at.here;
+        records = at.records ∙ ap (λ l. at.first ++ (at.here ++ l)) end.0 ∙ ap (λ l. at.first ++ l) (append-nil at.here);
+        spells = subst (λ c. Spells told c (height - 1) at.here) (sym is) (child_spells told page height rs inner i s up at);
+      }
+
+  pub last_up : (r : Result Record Stop) (old new : Option (List (List ℕ))) → new ≡ old → ReadsInner old page inner
+      → IfOk r (λ x. (rs : List Record) → Spells new child (height - 1) rs → last_or None rs ≡ Some x)
+      → IfOk r (λ x. (rs : List Record) → Spells old page height rs → last_or None rs ≡ Some x)
+  last_up (Err e) old new t reads f = f
+  last_up (Ok x) old new t reads f = λ rs s.
+      let end = ends_below old reads rs s in
+      ap (last_or None) end.records ∙ last_append None end.first end.here
+      ∙ last_late (last_or None end.first) end.here x (f end.here (along_told old new child (height - 1) end.here t end.spells))
 
 -- the floor is under the child, or else the last record before it
 pub record AtFloor (old new : Option (List (List ℕ))) (page height child i : ℕ) (k : Key) (inner : Inner) : Type 0 where

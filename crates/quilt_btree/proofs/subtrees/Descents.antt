@@ -86,7 +86,8 @@ module _ (inner : Inner) (b : Bounds) (i : ℕ) (rs : List Record) (used : List 
       let cut : bounded inner.children inner.keys b ≡ front ca ka b ++ (c, child_bounds inner b i) ∷ tail_places cb kb (from_keys ka b) =
       ap (λ l. bounded l inner.keys b) (cut_children inner.children i lt) ∙ ap (λ l. bounded (ca ++ c ∷ cb) l b) (sym (take-append-drop i inner.keys))
       ∙ bounded_at ca c cb ka kb b (as_long inner i lt n) in
-      at_place S (front ca ka b) ((c, child_bounds inner b i) ∷ []) (tail_places cb kb (from_keys ka b)) rs used (subst (λ l. Row S l rs used) cut row)
+      at_place S (front ca ka b) ((c, child_bounds inner b i) ∷ []) (tail_places cb kb (from_keys ka b)) rs used
+      (subst (λ l. Row S l rs used) cut row)
 
   pub leads_down : (pages : List (List ℕ)) (h : ℕ) (bytes : List ℕ) (k : Key) → IsInnerList (length pages) bytes inner
       → are_within b inner.keys ≡ true → IsPlace inner.keys k i → Row (Subtree pages (suc h) false) (bounded inner.children inner.keys b) rs used

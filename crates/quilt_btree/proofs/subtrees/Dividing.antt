@@ -164,7 +164,8 @@ cut_up old new page height child i k inner start next leaf high a is leads cut =
         bounds = at.spells.bounds;
         used = at.spells.used;
         subtree =
-            subst (λ c. Subtree at.spells.pages (height - 1) at.spells.is_root (c, at.spells.bounds) at.here at.spells.used) (sym a.is_child) at.spells.subtree;
+            subst (λ c. Subtree at.spells.pages (height - 1) at.spells.is_root (c, at.spells.bounds) at.here at.spells.used) (sym a.is_child)
+            at.spells.subtree;
       } in
       let n = height_above height a.some a.above in
       let div = subst (λ m. Divides pages m page k) n.1 d in
@@ -180,7 +181,8 @@ cut_up old new page height child i k inner start next leaf high a is leads cut =
         bounds = at.spells.bounds;
         used = at.spells.used;
         subtree =
-            subst (λ c. Subtree at.spells.pages (height - 1) at.spells.is_root (c, at.spells.bounds) at.here at.spells.used) (sym a.is_child) at.spells.subtree;
+            subst (λ c. Subtree at.spells.pages (height - 1) at.spells.is_root (c, at.spells.bounds) at.here at.spells.used) (sym a.is_child)
+            at.spells.subtree;
       }) high_is in
       starts_case pages n.0 height div.place i child k inner at.here leaf place a.is_child (one_less height n.0 n.1) at.from_low
       (λ h. (all_parts (λ (r : Record). is_le (key_cmp k r.key)) leaf lead.behind
@@ -193,7 +195,8 @@ cut_up old new page height child i k inner start next leaf high a is leads cut =
         bounds = at.spells.bounds;
         used = at.spells.used;
         subtree =
-            subst (λ c. Subtree at.spells.pages (height - 1) at.spells.is_root (c, at.spells.bounds) at.here at.spells.used) (sym a.is_child) at.spells.subtree;
+            subst (λ c. Subtree at.spells.pages (height - 1) at.spells.is_root (c, at.spells.bounds) at.here at.spells.used) (sym a.is_child)
+            at.spells.subtree;
       }) high_is g)
       (subst (λ (x : Inner). ((j : ℕ) × (div.place ≡ suc j) × (slice_get x.keys j ≡ Some k))
       ⊎ Divides pages (suc n.0) (slice_index x.children div.place) k) same div.parts);
@@ -210,7 +213,8 @@ cut_up old new page height child i k inner start next leaf high a is leads cut =
         bounds = at.spells.bounds;
         used = at.spells.used;
         subtree =
-            subst (λ c. Subtree at.spells.pages (height - 1) at.spells.is_root (c, at.spells.bounds) at.here at.spells.used) (sym a.is_child) at.spells.subtree;
+            subst (λ c. Subtree at.spells.pages (height - 1) at.spells.is_root (c, at.spells.bounds) at.here at.spells.used) (sym a.is_child)
+            at.spells.subtree;
       }) high_is in
       let bound : IsBound pages (height - 1) child next high = cut.ends pages at.here (record {
         pages = at.spells.pages;
@@ -219,7 +223,8 @@ cut_up old new page height child i k inner start next leaf high a is leads cut =
         bounds = at.spells.bounds;
         used = at.spells.used;
         subtree =
-            subst (λ c. Subtree at.spells.pages (height - 1) at.spells.is_root (c, at.spells.bounds) at.here at.spells.used) (sym a.is_child) at.spells.subtree;
+            subst (λ c. Subtree at.spells.pages (height - 1) at.spells.is_root (c, at.spells.bounds) at.here at.spells.used) (sym a.is_child)
+            at.spells.subtree;
       }) (a.told ∙ t) high_is under in
       let lower = subst (λ m. IsBound pages m child next high) (one_less height n.0 n.1) bound in
       let there = subst (λ c. IsBound pages (suc n.0) c next high) a.is_child lower in

@@ -24,12 +24,6 @@ use Rattle.quilt_btree.proofs.stores.Writes.{tells_at}
 use Rattle.quilt_btree.proofs.subtrees.Trees.{inner_list}
 use Rattle.quilt_btree.proofs.ways.Forks.{IsRead, leaf_has_last, child_page}
 
--- what names no page names no good one
-pub sound_names : (told : Option (List (List ℕ))) (height page : ℕ) (e : Stop) → IsSound e → NamesBad told height page e
-sound_names told height page Device s = tt
-sound_names told height page Memory s = tt
-sound_names told height page (Damaged q) s = absurd (s q refl)
-
 not_some : {A : Type 0} (o : Option A) → ((x : A) → o ≡ Some x → ⊥) → o ≡ None
 not_some None f = refl
 not_some (Some x) f = absurd (f x refl)
@@ -63,12 +57,18 @@ one_less height h e = omega arith
 pub child_at : (size : ℕ) (bytes : List ℕ) (o : Option ℕ) (child : ℕ) → o ≡ Some child → IfSome o (HasChild size bytes) → HasChild size bytes child
 child_at size bytes o child e h = subst (λ p. IfSome p (HasChild size bytes)) e h
 
--- page 0, or one that is bad for this reason
-pub fault_named : (told : Option (List (List ℕ))) (height page at q : ℕ) (P : Type 0) → ((q ≡ 0) ⊎ ((q ≡ at) × P))
-    → (P → NamesBad told height page (Damaged at))
-    → Damaged q ≢ Damaged 0 → NamesBad told height page (Damaged q)
-fault_named told height page at q P (inl e) f ne = absurd (ne (ap Damaged e))
-fault_named told height page at q P (inr e) f ne = subst (λ q. NamesBad told height page (Damaged q)) (sym e.0) (f e.1)
+module _ (told : Option (List (List ℕ))) (height page : ℕ) where
+  -- what names no page names no good one
+  pub sound_names : (e : Stop) → IsSound e → NamesBad told height page e
+  sound_names Device s = tt
+  sound_names Memory s = tt
+  sound_names (Damaged q) s = absurd (s q refl)
+
+  -- page 0, or one that is bad for this reason
+  pub fault_named : (at q : ℕ) (P : Type 0) → ((q ≡ 0) ⊎ ((q ≡ at) × P)) → (P → NamesBad told height page (Damaged at)) → Damaged q ≢ Damaged 0
+      → NamesBad told height page (Damaged q)
+  fault_named at q P (inl e) f ne = absurd (ne (ap Damaged e))
+  fault_named at q P (inr e) f ne = subst (λ q. NamesBad told height page (Damaged q)) (sym e.0) (f e.1)
 
 not_none : {A : Type 0} (o : Option A) → o ≡ None → (x : A) → o ≡ Some x → ⊥
 not_none o none x is = differ x (sym none ∙ is)
@@ -146,11 +146,6 @@ module _ (old new : Option (List (List ℕ))) (page height size : ℕ) (bytes : 
       → IfErr r (λ e. e ≢ Damaged 0 → NamesBad new (height - 1) child e) → IfErr r (λ e. e ≢ Damaged 0 → NamesBad old height page e)
   named_below (Ok v) child r c f = f
   named_below (Err e) child r c f = λ ne. bad_below child e r c (f ne)
-
--- where the store tells the same
-pub names_along : (told now : Option (List (List ℕ))) (height page : ℕ) (e : Stop) → now ≡ told → (e ≢ Damaged 0 → NamesBad now height page e)
-    → e ≢ Damaged 0 → NamesBad told height page e
-names_along told now height page e same f = subst (λ t. e ≢ Damaged 0 → NamesBad t height page e) same f
 
 -- what a run says of why it stops, where one of its steps has stopped for that reason
 pub record StopsBehind (e stop : Stop) (done : ℕ) : Type 0 where
@@ -241,21 +236,25 @@ named_along r told now height page same f = subst (λ t. IfErr r (λ e. e ≢ Da
 spare_above : (q named page : ℕ) → named ≡ page → page < 1 → q < named + 1 → q ≡ 0
 spare_above q named page same lt le = omega arith
 
-pub names_spare : (told now : Option (List (List ℕ))) (height page named spare : ℕ) (e : Stop) → now ≡ told → 1 ≤ page
-    → ((named ≡ 0) ⊎ ((named ≡ page) × (page ≡ spare))) → NamesPage (named + 1) e → (named ≡ page → NamesBad now 1 page e) → height ≡ 1
-    → NamesSpare told height spare e
-names_spare told now height page named spare e same some (inl z) n b one = λ q is ne. absurd (ne (zero q named z (subst (NamesPage (named + 1)) is n)))
-  where
-    zero : (q m : ℕ) → m ≡ 0 → q < m + 1 → q ≡ 0
-    zero q m z lt = omega arith
-names_spare told now height page named spare e same some (inr p) n b one = λ q is ne. (
-  one,
-  over page spare p.1 some,
-  subst (λ s. NamesBad told 1 s e) p.1 (subst (λ t. NamesBad t 1 page e) same (b p.0)),
-)
-  where
-    over : (m n : ℕ) → m ≡ n → 1 ≤ m → n ≢ 0
-    over m n e le = λ z. omega arith
+module _ (told now : Option (List (List ℕ))) (height page : ℕ) (e : Stop) (same : now ≡ told) where
+  -- where the store tells the same
+  pub names_along : (e ≢ Damaged 0 → NamesBad now height page e) → e ≢ Damaged 0 → NamesBad told height page e
+  names_along f = subst (λ t. e ≢ Damaged 0 → NamesBad t height page e) same f
+
+  pub names_spare : (named spare : ℕ) → 1 ≤ page → ((named ≡ 0) ⊎ ((named ≡ page) × (page ≡ spare))) → NamesPage (named + 1) e
+      → (named ≡ page → NamesBad now 1 page e) → height ≡ 1 → NamesSpare told height spare e
+  names_spare named spare some (inl z) n b one = λ q is ne. absurd (ne (zero q named z (subst (NamesPage (named + 1)) is n)))
+    where
+      zero : (q m : ℕ) → m ≡ 0 → q < m + 1 → q ≡ 0
+      zero q m z lt = omega arith
+  names_spare named spare some (inr p) n b one = λ q is ne. (
+    one,
+    over page spare p.1 some,
+    subst (λ s. NamesBad told 1 s e) p.1 (subst (λ t. NamesBad t 1 page e) same (b p.0)),
+  )
+    where
+      over : (m n : ℕ) → m ≡ n → 1 ≤ m → n ≢ 0
+      over m n e le = λ z. omega arith
 
 pub no_spare : (told : Option (List (List ℕ))) (height spare : ℕ) (e : Stop) → NamesPage 1 e → NamesSpare told height spare e
 no_spare told height spare e n = λ q is ne. absurd (ne (zero q (subst (NamesPage 1) is n)))

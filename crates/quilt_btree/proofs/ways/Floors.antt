@@ -10,16 +10,6 @@ use Rattle.quilt_btree.proofs.subtrees.Descending.{height_above}
 one_less : (height h : ℕ) → height ≡ suc (suc h) → suc h ≡ height - 1
 one_less height h e = omega arith
 
--- an inner page, with the child to which the last record leads
-pub last_splits : (pages : List (List ℕ)) (height page child n : ℕ) (inner : Inner) → 1 ≤ height → height ≢ 1
-    → inner_of (length pages) (slice_index_or pages page []) ≡ Some inner → n ≡ length inner.children
-    → child ≡ slice_index inner.children (n - 1) → last_pages pages height page ≡ page ∷ last_pages pages (height - 1) child
-last_splits pages height page child n inner some ne here many is =
-    let up = height_above height some ne in
-    let same : child ≡ slice_index inner.children (length inner.children - 1) = is ∙ ap (λ m. slice_index inner.children (m - 1)) many in
-    ap (λ m. last_pages pages m page) up.1 ∙ ap (λ o. page ∷ last_below (last_pages pages (suc up.0)) o) here
-    ∙ ap (λ c. page ∷ last_pages pages (suc up.0) c) (sym same) ∙ ap (λ m. page ∷ last_pages pages m child) (one_less height up.0 up.1)
-
 module _ (pages : List (List ℕ)) (k : Key) (height page child i : ℕ) (inner : Inner) (some : 1 ≤ height) (ne : height ≢ 1)
     (here : inner_of (length pages) (slice_index_or pages page []) ≡ Some inner) (place : i ≡ place_of k inner)
     (is : child ≡ slice_index inner.children i) where
@@ -42,14 +32,24 @@ module _ (pages : List (List ℕ)) (k : Key) (height page child i : ℕ) (inner 
       ∙ ap (λ c. nat_lt 0 i || finds_floor pages k (suc up.0) c) (sym is)
       ∙ ap (λ m. nat_lt 0 i || finds_floor pages k m child) (one_less height up.0 up.1)
 
--- no more is read where the child has the record, or none stands before it
-pub found_here : (pages : List (List ℕ)) (k : Key) (height child i : ℕ) (inner : Inner) → child ≡ slice_index inner.children i
-    → finds_floor pages k height child ≡ true
-    → before_child (finds_floor pages k height) (last_pages pages height) inner i ≡ []
-found_here pages k height child i inner is h =
-    let yes : (finds_floor pages k height (slice_index inner.children i) || i == 0) ≡ true =
-    ap (λ c. finds_floor pages k height c || i == 0) (sym is) ∙ ap (λ b. b || i == 0) h in
-    ap (λ b. if b then [] else last_pages pages height (slice_index inner.children (i - 1))) yes
+module _ (pages : List (List ℕ)) (height child : ℕ) (inner : Inner) where
+  -- an inner page, with the child to which the last record leads
+  pub last_splits : (page n : ℕ) → 1 ≤ height → height ≢ 1 → inner_of (length pages) (slice_index_or pages page []) ≡ Some inner
+      → n ≡ length inner.children → child ≡ slice_index inner.children (n - 1)
+      → last_pages pages height page ≡ page ∷ last_pages pages (height - 1) child
+  last_splits page n some ne here many is =
+      let up = height_above height some ne in
+      let same : child ≡ slice_index inner.children (length inner.children - 1) = is ∙ ap (λ m. slice_index inner.children (m - 1)) many in
+      ap (λ m. last_pages pages m page) up.1 ∙ ap (λ o. page ∷ last_below (last_pages pages (suc up.0)) o) here
+      ∙ ap (λ c. page ∷ last_pages pages (suc up.0) c) (sym same) ∙ ap (λ m. page ∷ last_pages pages m child) (one_less height up.0 up.1)
+
+  -- no more is read where the child has the record, or none stands before it
+  pub found_here : (k : Key) (i : ℕ) → child ≡ slice_index inner.children i → finds_floor pages k height child ≡ true
+      → before_child (finds_floor pages k height) (last_pages pages height) inner i ≡ []
+  found_here k i is h =
+      let yes : (finds_floor pages k height (slice_index inner.children i) || i == 0) ≡ true =
+      ap (λ c. finds_floor pages k height c || i == 0) (sym is) ∙ ap (λ b. b || i == 0) h in
+      ap (λ b. if b then [] else last_pages pages height (slice_index inner.children (i - 1))) yes
 
 module _ (pages : List (List ℕ)) (k : Key) (height : ℕ) where
   pub none_before : (i : ℕ) (inner : Inner) → i ≡ 0 → before_child (finds_floor pages k height) (last_pages pages height) inner i ≡ []
@@ -81,7 +81,8 @@ pub length_last : (pages : List (List ℕ)) (height page : ℕ) → length (last
 length_last pages zero page = omega arith
 length_last pages (suc zero) page = omega arith
 length_last pages (suc (suc h)) page =
-    let below = few_last (last_pages pages (suc h)) (suc h) (inner_of (length pages) (slice_index_or pages page [])) (λ c. length_last pages (suc h) c) in
+    let below = few_last (last_pages pages (suc h)) (suc h) (inner_of (length pages) (slice_index_or pages page []))
+    (λ c. length_last pages (suc h) c) in
     omega arith
 
 few_floor : (under : ℕ → List ℕ) (finds : ℕ → Bool) (last : ℕ → List ℕ) (k : Key) (m n : ℕ) (o : Option Inner) → ((c : ℕ) → length (under c) ≤ m)

@@ -53,7 +53,8 @@ page_here {old = old} {new = new} {page = page} {height = height} {size = size} 
     let long : length s.pages ≡ size = subst (λ o. IfSome o (λ pages. length pages ≡ size)) s.is_told r.many in
     record {
       inner = t.inner;
-      reads = λ pages is. subst (λ ps. inner_of (length ps) (slice_index_or ps page []) ≡ Some t.inner) (one s.pages pages (sym s.is_told ∙ is)) t.page;
+      reads = λ pages is. subst (λ ps. inner_of (length ps) (slice_index_or ps page []) ≡ Some t.inner) (one s.pages pages (sym s.is_told ∙ is))
+          t.page;
       is = ap (inner_of size) same ∙ ap (λ m. inner_of m (slice_index_or s.pages page [])) (sym long) ∙ t.page;
       is_height = t.is_height ∙ sym n.1;
     }
@@ -193,7 +194,7 @@ module _ (page height : ℕ) (bytes : List ℕ) where
   ended old new size child rs r f s =
       let h = page_here r s in
       let is = some_same child (slice_index h.inner.children (length h.inner.children - 1)) (f h.inner h.is) in
-      let e = ends_below old page height child (length h.inner.children) h.inner r.some r.above h.reads refl is rs s in
+      let e = ends_below page height child (length h.inner.children) h.inner r.some r.above refl is old h.reads rs s in
       record {
         inner = h.inner;
         at = record { told = r.told; some = r.some; above = r.above; reads = h.reads; many = refl; is_child = is };
@@ -211,7 +212,7 @@ module _ (old new : Option (List (List ℕ))) (page height size : ℕ) (bytes : 
   last_on (Err e) r is f = f
   last_on (Ok x) r is f = λ rs s.
       let a = ended page height bytes old new size child rs r is s in
-      last_up (Ok x) old new page height child (length a.inner.children) a.inner r.told r.some r.above a.at.reads refl a.at.is_child f rs s
+      last_up page height child (length a.inner.children) a.inner r.some r.above refl a.at.is_child (Ok x) old new r.told a.at.reads f rs s
 
   pub sound_last : {T : Type 0} (r : Result T Stop) → IsRead old new page height size bytes → IsLast size bytes child
       → IfErr r (λ e. (rs : List Record) → Spells new child (height - 1) rs → IsSound e)

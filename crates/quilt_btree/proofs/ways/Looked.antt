@@ -62,28 +62,6 @@ no_child size bytes f inner is = differ (slice_index inner.children (length inne
     differ : (c : ℕ) → None ≡ Some c → ⊥
     differ c h = cc
 
-read_at : (told : Option (List (List ℕ))) (page height n size : ℕ) (bytes : List ℕ) → 1 ≤ height → height ≢ 1 → n ≡ size
-    → IfSome told (λ pages. length pages ≡ size) → IfSome told (λ pages. bytes ≡ slice_index_or pages page [])
-    → IsRead told told page height n bytes
-read_at told page height n size bytes some above e many shown = record {
-  some = some;
-  above = above;
-  told = refl;
-  many = subst (λ m. IfSome told (λ pages. length pages ≡ m)) (sym e) many;
-  are = are_of told page bytes shown;
-}
-
-module _ (told : Option (List (List ℕ))) (page n size : ℕ) (bytes : List ℕ) where
-  pub inner_sound : (e : Stop) → n ≡ size → IfSome told (λ pages. length pages ≡ size) → IfSome told (λ pages. bytes ≡ slice_index_or pages page [])
-      → AreNoInner n bytes → (height : ℕ) (rs : List Record) → 1 ≤ height → height ≢ 1 → Spells told page height rs → IsSound e
-  inner_sound e same many shown none height rs some above s =
-      forks told told page height n bytes e (read_at told page height n size bytes some above same many shown) none rs s
-
-  pub inner_bad : n ≡ size → IfSome told (λ pages. length pages ≡ size) → IfSome told (λ pages. bytes ≡ slice_index_or pages page [])
-      → AreNoInner n bytes → (height : ℕ) → 1 ≤ height → height ≢ 1 → NamesBad told height page (Damaged page)
-  inner_bad same many shown none height some above =
-      bad_inner told told page height n bytes (read_at told page height n size bytes some above same many shown) none
-
 module _ (told : Option (List (List ℕ))) (page : ℕ) (bytes : List ℕ) where
   -- a leaf that has no last record
   pub end_sound : (e : Stop) → IfSome told (λ pages. bytes ≡ slice_index_or pages page [])
@@ -96,8 +74,30 @@ module _ (told : Option (List (List ℕ))) (page : ℕ) (bytes : List ℕ) where
       → (height : ℕ) → height ≡ 1 → NamesBad told height page (Damaged page)
   end_bad shown f height one = bad_last told page height bytes one (are_of told page bytes shown) f
 
-pub leaf_sound : {T : Type 0} (r : Result T Stop) (told : Option (List (List ℕ))) (page height : ℕ) → height ≡ 1
-    → IfErr r (λ e. (height : ℕ) (rs : List Record) → height ≡ 1 → Spells told page height rs → IsSound e)
-    → IfErr r (λ e. (rs : List Record) → Spells told page height rs → IsSound e)
-leaf_sound (Ok v) told page height one f = f
-leaf_sound (Err e) told page height one f = λ rs s. f height rs one s
+module _ (told : Option (List (List ℕ))) (page height : ℕ) where
+  read_at : (n size : ℕ) (bytes : List ℕ) → 1 ≤ height → height ≢ 1 → n ≡ size → IfSome told (λ pages. length pages ≡ size)
+      → IfSome told (λ pages. bytes ≡ slice_index_or pages page []) → IsRead told told page height n bytes
+  read_at n size bytes some above e many shown = record {
+    some = some;
+    above = above;
+    told = refl;
+    many = subst (λ m. IfSome told (λ pages. length pages ≡ m)) (sym e) many;
+    are = are_of told page bytes shown;
+  }
+
+  pub leaf_sound : {T : Type 0} (r : Result T Stop) → height ≡ 1
+      → IfErr r (λ e. (height : ℕ) (rs : List Record) → height ≡ 1 → Spells told page height rs → IsSound e)
+      → IfErr r (λ e. (rs : List Record) → Spells told page height rs → IsSound e)
+  leaf_sound (Ok v) one f = f
+  leaf_sound (Err e) one f = λ rs s. f height rs one s
+
+module _ (told : Option (List (List ℕ))) (page n size : ℕ) (bytes : List ℕ) where
+  pub inner_sound : (e : Stop) → n ≡ size → IfSome told (λ pages. length pages ≡ size) → IfSome told (λ pages. bytes ≡ slice_index_or pages page [])
+      → AreNoInner n bytes → (height : ℕ) (rs : List Record) → 1 ≤ height → height ≢ 1 → Spells told page height rs → IsSound e
+  inner_sound e same many shown none height rs some above s =
+      forks told told page height n bytes e (read_at told page height n size bytes some above same many shown) none rs s
+
+  pub inner_bad : n ≡ size → IfSome told (λ pages. length pages ≡ size) → IfSome told (λ pages. bytes ≡ slice_index_or pages page [])
+      → AreNoInner n bytes → (height : ℕ) → 1 ≤ height → height ≢ 1 → NamesBad told height page (Damaged page)
+  inner_bad same many shown none height some above =
+      bad_inner told told page height n bytes (read_at told page height n size bytes some above same many shown) none

@@ -27,7 +27,7 @@ pub record AtLast (old new : Option (List (List ℕ))) (page height child n : �
 module _ (old new : Option (List (List ℕ))) (page height child n : ℕ) (inner : Inner) where
   last_parts : AtLast old new page height child n inner → (pages : List (List ℕ)) → old ≡ Some pages
       → last_pages pages height page ≡ page ∷ last_pages pages (height - 1) child
-  last_parts a pages is = last_splits pages height page child n inner a.some a.above (a.reads pages is) a.many a.is_child
+  last_parts a pages is = last_splits pages height child inner page n a.some a.above (a.reads pages is) a.many a.is_child
 
   pub last_again : (h0 h1 : Option (List ℕ)) (a b c : Option ℕ) → AtLast old new page height child n inner → Goes (Touches page) h0 h1
       → OneFree page h0 a b → ReadsNone (λ pages. last_pages pages (height - 1) child) new h1 b c

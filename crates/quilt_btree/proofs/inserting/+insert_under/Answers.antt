@@ -84,21 +84,18 @@ returns-in-Some-clause-inserted g t c =
     (subst (λ n. inner_of n c.read_way.new.bytes ≡ Some c.in-Some.inner) (c.pages.ensures ∙ c.in-Ok-Split.ensures.left.size ∙ c.in-Ok.ensures.left.size)
     c.in-Some.ensures.inner) in
     let range : (1 ≤ c.in-Ok-Split.right) × (c.in-Ok-Split.right < g.S.PageStore.size c.args.store.now) =
-    subst (λ n. (1 ≤ c.in-Ok-Split.right) × (c.in-Ok-Split.right < n)) c.in-Ok.ensures.left.size (rw c.in-Ok-Split.field-0-is at c.in-Ok-Split.ensures.leaves.right) in
-    took_child c.put_child.result c.args.r.now (g.S.PageStore.told c.args.store.now) (g.S.PageStore.told c.read_way.new.store)
-    (g.S.PageStore.told c.insert_under.new.store) (g.S.PageStore.told c.put_child.new.store)
-    (g.S.PageStore.free c.args.store.now) (g.S.PageStore.free c.read_way.new.store) (g.S.PageStore.free c.insert_under.new.store)
-    (g.S.PageStore.free c.put_child.new.store)
-    (g.S.PageStore.size c.args.store.now) (g.S.PageStore.size c.read_way.new.store) c.args.page c.args.height c.in-Ok.way.child c.in-Ok.way.place
-    c.in-Some.inner c.in-Ok-Split.key c.in-Ok-Split.right
-    (record {
+    subst (λ n. (1 ≤ c.in-Ok-Split.right) × (c.in-Ok-Split.right < n)) c.in-Ok.ensures.left.size
+    (rw c.in-Ok-Split.field-0-is at c.in-Ok-Split.ensures.leaves.right) in
+    took_child c.args.r.now (g.S.PageStore.told c.args.store.now) (g.S.PageStore.told c.read_way.new.store) (g.S.PageStore.free c.args.store.now)
+    (g.S.PageStore.free c.read_way.new.store) (g.S.PageStore.size c.args.store.now) (g.S.PageStore.size c.read_way.new.store) c.args.page
+    c.args.height c.in-Ok.way.child c.in-Ok.way.place c.in-Some.inner c.in-Ok-Split.key c.in-Ok-Split.right (record {
       same = record { same_pages = c.in-Ok.ensures.left.told; same_free = c.in-Ok.ensures.left.free; same_size = c.in-Ok.ensures.left.size };
       some = c.requires.height;
       above = c.if-height-eq1.false;
       reads = w.reads;
       place = w.is_place;
       is_child = w.child_is;
-    }) (g.met.S.PageStore.as_many c.args.store.now) range (rw c.in-Ok-Split.field-0-is at c.in-Ok-Split.ensures.inserted) c.put_child.ensures.put
+    }) (g.met.S.PageStore.as_many c.args.store.now) range c.put_child.result (g.S.PageStore.told c.insert_under.new.store) (g.S.PageStore.told c.put_child.new.store) (g.S.PageStore.free c.insert_under.new.store) (g.S.PageStore.free c.put_child.new.store) (rw c.in-Ok-Split.field-0-is at c.in-Ok-Split.ensures.inserted) c.put_child.ensures.put
 
 pub returns-in-Some-clause-sound : goal.returns-in-Some-clause-sound
 returns-in-Some-clause-sound g t c =
@@ -107,27 +104,24 @@ returns-in-Some-clause-sound g t c =
     (subst (λ n. inner_of n c.read_way.new.bytes ≡ Some c.in-Some.inner) (c.pages.ensures ∙ c.in-Ok-Split.ensures.left.size ∙ c.in-Ok.ensures.left.size)
     c.in-Some.ensures.inner) in
     let range : (1 ≤ c.in-Ok-Split.right) × (c.in-Ok-Split.right < g.S.PageStore.size c.args.store.now) =
-    subst (λ n. (1 ≤ c.in-Ok-Split.right) × (c.in-Ok-Split.right < n)) c.in-Ok.ensures.left.size (rw c.in-Ok-Split.field-0-is at c.in-Ok-Split.ensures.leaves.right) in
+    subst (λ n. (1 ≤ c.in-Ok-Split.right) × (c.in-Ok-Split.right < n)) c.in-Ok.ensures.left.size
+    (rw c.in-Ok-Split.field-0-is at c.in-Ok-Split.ensures.leaves.right) in
     let few : count_free (g.S.PageStore.free c.args.store.now) (g.S.PageStore.size c.args.store.now)
     ≤ count_free (g.S.PageStore.free c.insert_under.new.store) (g.S.PageStore.size c.args.store.now) + (c.args.height - 1) =
     subst (λ f. count_free f (g.S.PageStore.size c.args.store.now) ≤ count_free (g.S.PageStore.free c.insert_under.new.store)
     (g.S.PageStore.size c.args.store.now) + (c.args.height - 1)) c.in-Ok.ensures.left.free
     (subst (λ n. count_free (g.S.PageStore.free c.read_way.new.store) n ≤ count_free (g.S.PageStore.free c.insert_under.new.store) n
     + (c.args.height - 1)) c.in-Ok.ensures.left.size c.in-Ok-Split.ensures.leaves.room) in
-    sound_child c.put_child.result c.args.r.now (g.S.PageStore.told c.args.store.now) (g.S.PageStore.told c.read_way.new.store)
-    (g.S.PageStore.told c.insert_under.new.store)
-    (g.S.PageStore.free c.args.store.now) (g.S.PageStore.free c.read_way.new.store) (g.S.PageStore.free c.insert_under.new.store)
-    (g.S.PageStore.size c.args.store.now) (g.S.PageStore.size c.read_way.new.store) (g.S.PageStore.size c.insert_under.new.store)
-    c.args.page c.args.height c.in-Ok.way.child c.in-Ok.way.place c.in-Some.inner c.in-Ok-Split.key c.in-Ok-Split.right
-    (record {
+    sound_child c.args.r.now (g.S.PageStore.told c.args.store.now) (g.S.PageStore.told c.read_way.new.store) (g.S.PageStore.free c.args.store.now)
+    (g.S.PageStore.free c.read_way.new.store) (g.S.PageStore.size c.args.store.now) (g.S.PageStore.size c.read_way.new.store) c.args.page
+    c.args.height c.in-Ok.way.child c.in-Ok.way.place c.in-Some.inner c.in-Ok-Split.key c.in-Ok-Split.right (record {
       same = record { same_pages = c.in-Ok.ensures.left.told; same_free = c.in-Ok.ensures.left.free; same_size = c.in-Ok.ensures.left.size };
       some = c.requires.height;
       above = c.if-height-eq1.false;
       reads = w.reads;
       place = w.is_place;
       is_child = w.child_is;
-    }) (g.met.S.PageStore.as_many c.args.store.now) range (c.in-Ok-Split.ensures.left.size ∙ c.in-Ok.ensures.left.size) few
-    (rw c.in-Ok-Split.field-0-is at c.in-Ok-Split.ensures.inserted) c.put_child.ensures.sound
+    }) (g.met.S.PageStore.as_many c.args.store.now) range c.put_child.result (g.S.PageStore.told c.insert_under.new.store) (g.S.PageStore.free c.insert_under.new.store) (g.S.PageStore.size c.insert_under.new.store) (c.in-Ok-Split.ensures.left.size ∙ c.in-Ok.ensures.left.size) few (rw c.in-Ok-Split.field-0-is at c.in-Ok-Split.ensures.inserted) c.put_child.ensures.sound
 
 pub returns-then-height-eq1-clause-finds : goal.returns-then-height-eq1-clause-finds
 returns-then-height-eq1-clause-finds g t c =
@@ -138,51 +132,46 @@ pub returns-in-Ok-There-clause-finds : goal.returns-in-Ok-There-clause-finds
 returns-in-Ok-There-clause-finds g t c = λ rs s.
     let h = c.in-Ok.ensures.here c.args.height rs c.requires.height c.if-height-eq1.false s in
     let w = c.in-Ok.ensures.way h.inner h.is in
-    finds_below (g.S.PageStore.told c.args.store.now) (g.S.PageStore.told c.read_way.new.store) c.args.page c.args.height c.in-Ok.way.child
-    c.in-Ok.way.place c.args.r.now.key h.inner true
-    (record {
+    finds_below (g.S.PageStore.told c.args.store.now) c.args.r.now.key true (g.S.PageStore.told c.read_way.new.store) c.args.page c.args.height
+    c.in-Ok.way.child c.in-Ok.way.place h.inner (record {
       same = c.in-Ok.ensures.left.told;
       some = c.requires.height;
       above = c.if-height-eq1.false;
       reads = w.reads;
       place = w.is_place;
       is_child = w.child_is;
-    })
-    (rw c.in-Ok-There.field-0-is at c.in-Ok-There.ensures.finds) rs s
+    }) (rw c.in-Ok-There.field-0-is at c.in-Ok-There.ensures.finds) rs s
 
 pub returns-in-Ok-Done-clause-finds : goal.returns-in-Ok-Done-clause-finds
 returns-in-Ok-Done-clause-finds g t c = λ rs s.
     let h = c.in-Ok.ensures.here c.args.height rs c.requires.height c.if-height-eq1.false s in
     let w = c.in-Ok.ensures.way h.inner h.is in
-    finds_below (g.S.PageStore.told c.args.store.now) (g.S.PageStore.told c.read_way.new.store) c.args.page c.args.height c.in-Ok.way.child
-    c.in-Ok.way.place c.args.r.now.key h.inner false
-    (record {
+    finds_below (g.S.PageStore.told c.args.store.now) c.args.r.now.key false (g.S.PageStore.told c.read_way.new.store) c.args.page c.args.height
+    c.in-Ok.way.child c.in-Ok.way.place h.inner (record {
       same = c.in-Ok.ensures.left.told;
       some = c.requires.height;
       above = c.if-height-eq1.false;
       reads = w.reads;
       place = w.is_place;
       is_child = w.child_is;
-    })
-    (rw c.in-Ok-Done.field-0-is at c.in-Ok-Done.ensures.finds) rs s
+    }) (rw c.in-Ok-Done.field-0-is at c.in-Ok-Done.ensures.finds) rs s
 
 pub returns-in-Some-clause-finds : goal.returns-in-Some-clause-finds
 returns-in-Some-clause-finds g t c =
-    new_finds c.put_child.result (Spells (g.S.PageStore.told c.args.store.now) c.args.page c.args.height) c.args.r.now.key c.put_child.ensures.leaves.new
+    new_finds c.put_child.result (Spells (g.S.PageStore.told c.args.store.now) c.args.page c.args.height) c.args.r.now.key
+    c.put_child.ensures.leaves.new
     (λ rs s.
     let h = c.in-Ok.ensures.here c.args.height rs c.requires.height c.if-height-eq1.false s in
     let w = c.in-Ok.ensures.way h.inner h.is in
-    finds_below (g.S.PageStore.told c.args.store.now) (g.S.PageStore.told c.read_way.new.store) c.args.page c.args.height c.in-Ok.way.child
-    c.in-Ok.way.place c.args.r.now.key h.inner false
-    (record {
+    finds_below (g.S.PageStore.told c.args.store.now) c.args.r.now.key false (g.S.PageStore.told c.read_way.new.store) c.args.page c.args.height
+    c.in-Ok.way.child c.in-Ok.way.place h.inner (record {
       same = c.in-Ok.ensures.left.told;
       some = c.requires.height;
       above = c.if-height-eq1.false;
       reads = w.reads;
       place = w.is_place;
       is_child = w.child_is;
-    })
-    (rw c.in-Ok-Split.field-0-is at c.in-Ok-Split.ensures.finds) rs s)
+    }) (rw c.in-Ok-Split.field-0-is at c.in-Ok-Split.ensures.finds) rs s)
 
 pub returns-in-None-clause-sound : goal.returns-in-None-clause-sound
 returns-in-None-clause-sound g t c is_root b rs used can few =
@@ -219,7 +208,8 @@ pub returns-in-None-clause-bad : goal.returns-in-None-clause-bad
 returns-in-None-clause-bad g t c =
     let same : c.pages-in-None.result ≡ g.S.PageStore.size c.args.store.now = c.pages-in-None.ensures ∙ c.in-Ok-Split.ensures.left.size ∙
     c.in-Ok.ensures.left.size in
-    inner_fault (g.S.PageStore.told c.args.store.now) (g.S.PageStore.told c.read_way.new.store) c.args.page c.args.height c.pages-in-None.result c.read_way.new.bytes c.inner_at_fault.result
+    inner_fault (g.S.PageStore.told c.args.store.now) (g.S.PageStore.told c.read_way.new.store) c.args.page c.args.height c.pages-in-None.result
+    c.read_way.new.bytes c.inner_at_fault.result
     (read_ok (g.S.PageStore.told c.args.store.now) (g.S.PageStore.told c.read_way.new.store) c.args.page c.args.height
     c.pages-in-None.result (g.S.PageStore.size c.args.store.now) c.read_way.new.bytes c.requires.height c.if-height-eq1.false
     c.in-Ok.ensures.left.told (g.met.S.PageStore.as_many c.args.store.now) same c.in-Ok.ensures.bytes)

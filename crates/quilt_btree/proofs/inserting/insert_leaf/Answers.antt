@@ -12,7 +12,9 @@ returns-in-Err-clause-sound g c is_root b rs used can =
 
 pub returns-in-Ok-find-clause-inserted : goal.returns-in-Ok-find-clause-inserted
 returns-in-Ok-find-clause-inserted g c is_root b rs used can =
-    leaf_there (g.S.PageStore.told c.args.store.now) (g.S.PageStore.told c.read_leaf.new.store) (g.S.PageStore.free c.args.store.now) (g.S.PageStore.free c.read_leaf.new.store) (g.S.PageStore.size c.args.store.now) c.args.page c.in-Ok-find.field-0 c.args.r.now is_root b rs used c.in-Ok.leaf c.in-Ok.ensures.left.told
+    leaf_there (g.S.PageStore.told c.args.store.now) (g.S.PageStore.told c.read_leaf.new.store) (g.S.PageStore.free c.args.store.now)
+    (g.S.PageStore.free c.read_leaf.new.store) (g.S.PageStore.size c.args.store.now) c.args.page c.in-Ok-find.field-0 c.args.r.now is_root b rs used
+    c.in-Ok.leaf c.in-Ok.ensures.left.told
     (leaf_read (g.S.PageStore.told c.args.store.now) (g.S.PageStore.free c.args.store.now) (g.S.PageStore.size c.args.store.now)
     c.args.page c.args.r.now.key c.in-Ok.leaf is_root b rs used c.in-Ok.ensures.leaf can)
     c.in-Ok-find.ensures.place can

@@ -16,7 +16,10 @@ returns-in-Err-clause-bad g t c = λ ne. c.in-Err.ensures.bad c.args.height c.re
 
 pub returns-in-Ok-clause-edited : goal.returns-in-Ok-clause-edited
 returns-in-Ok-clause-edited g t c =
-    step_edited (g.S.PageStore.told c.args.store.now) (g.S.PageStore.told c.step_at.new.store) (g.S.PageStore.free c.args.store.now) (g.S.PageStore.free c.step_at.new.store) (g.S.PageStore.size c.args.store.now) (g.S.PageStore.size c.step_at.new.store) c.args.page c.args.height (g.S.PageStore.size c.args.store.now) c.in-Ok.ensures.shows.bytes c.in-Ok.step.child c.key.result.now c.args.high.now c.in-Ok.step.high c.args.run.now c.args.is_root c.edit_under.result (g.S.PageStore.told c.edit_under.new.store) (g.S.PageStore.free c.edit_under.new.store)
+    step_edited (g.S.PageStore.told c.args.store.now) (g.S.PageStore.told c.step_at.new.store) (g.S.PageStore.free c.args.store.now)
+    (g.S.PageStore.free c.step_at.new.store) (g.S.PageStore.size c.args.store.now) (g.S.PageStore.size c.step_at.new.store) c.args.page c.args.height
+    (g.S.PageStore.size c.args.store.now) c.in-Ok.ensures.shows.bytes c.in-Ok.step.child c.key.result.now c.args.high.now c.in-Ok.step.high
+    c.args.run.now c.args.is_root c.edit_under.result (g.S.PageStore.told c.edit_under.new.store) (g.S.PageStore.free c.edit_under.new.store)
     (read_of _ _ _ _ _ _ (record {
       some = c.requires.height;
       above = c.if-height-eq1.false;
@@ -24,11 +27,15 @@ returns-in-Ok-clause-edited g t c =
       many = g.met.S.PageStore.as_many c.args.store.now;
     }) c.in-Ok.ensures.shows.are)
     (record { same_pages = c.in-Ok.ensures.looks.left.told; same_free = c.in-Ok.ensures.looks.left.free; same_size = c.in-Ok.ensures.looks.left.size })
-    c.in-Ok.ensures.shows.step (least_first c.args.run.now c.key.result.now c.key.ensures c.requires.order c.requires.some) c.edit_under.ensures.edited
+    c.in-Ok.ensures.shows.step (least_first c.args.run.now c.key.result.now c.key.ensures c.requires.order c.requires.some)
+    c.edit_under.ensures.edited
 
 pub returns-in-Ok-clause-fails : goal.returns-in-Ok-clause-fails
 returns-in-Ok-clause-fails g t c =
-    step_fails (g.S.PageStore.told c.args.store.now) (g.S.PageStore.told c.step_at.new.store) (g.S.PageStore.free c.args.store.now) (g.S.PageStore.free c.step_at.new.store) (g.S.PageStore.size c.args.store.now) (g.S.PageStore.size c.step_at.new.store) c.args.page c.args.height (g.S.PageStore.size c.args.store.now) c.in-Ok.ensures.shows.bytes c.in-Ok.step.child c.key.result.now c.args.high.now c.in-Ok.step.high c.args.run.now c.args.is_root c.edit_under.result
+    step_fails (g.S.PageStore.told c.args.store.now) (g.S.PageStore.told c.step_at.new.store) (g.S.PageStore.free c.args.store.now)
+    (g.S.PageStore.free c.step_at.new.store) (g.S.PageStore.size c.args.store.now) (g.S.PageStore.size c.step_at.new.store) c.args.page c.args.height
+    (g.S.PageStore.size c.args.store.now) c.in-Ok.ensures.shows.bytes c.in-Ok.step.child c.key.result.now c.args.high.now c.in-Ok.step.high
+    c.args.run.now c.args.is_root c.edit_under.result
     (read_of _ _ _ _ _ _ (record {
       some = c.requires.height;
       above = c.if-height-eq1.false;
@@ -48,7 +55,8 @@ returns-then-height-eq1-clause-bad g t c =
 
 pub returns-in-Ok-clause-bad : goal.returns-in-Ok-clause-bad
 returns-in-Ok-clause-bad g t c =
-    named_below (g.S.PageStore.told c.args.store.now) (g.S.PageStore.told c.step_at.new.store) c.args.page c.args.height (g.S.PageStore.size c.args.store.now) c.in-Ok.ensures.shows.bytes c.edit_under.result c.in-Ok.step.child
+    named_below (g.S.PageStore.told c.args.store.now) (g.S.PageStore.told c.step_at.new.store) c.args.page c.args.height
+    (g.S.PageStore.size c.args.store.now) c.in-Ok.ensures.shows.bytes c.edit_under.result c.in-Ok.step.child
     (read_of _ _ _ _ _ _ (record {
       some = c.requires.height;
       above = c.if-height-eq1.false;
@@ -59,5 +67,6 @@ returns-in-Ok-clause-bad g t c =
 
 pub returns-in-Ok-clause-left : goal.returns-in-Ok-clause-left
 returns-in-Ok-clause-left g t c =
-    edits_behind _ g.met.S.PageStore.goes_on 1 1 (c.args.height - 1) c.args.height (let some = c.requires.height in omega arith) c.in-Ok.ensures.looks.left
+    edits_behind _ g.met.S.PageStore.goes_on 1 1 (c.args.height - 1) c.args.height (let some = c.requires.height in omega arith)
+    c.in-Ok.ensures.looks.left
     c.in-Ok.ensures.looks.reads c.edit_under.ensures.left

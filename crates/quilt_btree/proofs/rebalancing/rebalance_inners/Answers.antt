@@ -22,13 +22,17 @@ returns-in_err-rest-clause-sound g c =
 
 pub returns-then-not-inners_ascend-clause-sound : goal.returns-then-not-inners_ascend-clause-sound
 returns-then-not-inners_ascend-clause-sound g c = λ b rs used m page e.
-    not_inners (g.S.PageStore.told c.args.store.now) (g.S.PageStore.free c.args.store.now) c.args.height c.args.left c.args.key.now c.args.right b rs used
+    not_inners (g.S.PageStore.told c.args.store.now) (g.S.PageStore.free c.args.store.now) c.args.height c.args.left c.args.key.now c.args.right b rs
+    used
     c.in_ok-first.first c.in_ok-rest.rest c.inners_ascend.result c.requires.height c.in_ok-first.ensures.inner
     (λ pages t. c.in_ok-rest.ensures.inner pages (c.in_ok-first.ensures.looks.left.told ∙ t)) c.inners_ascend.ensures c.if-not-inners_ascend.true m
 
 pub returns-in-Ok-clause-rebalanced : goal.returns-in-Ok-clause-rebalanced
 returns-in-Ok-clause-rebalanced g c = λ b rs used m.
-    inners_joined (g.S.PageStore.told c.args.store.now) (g.S.PageStore.told c.read_inner-2.new.store) (g.S.PageStore.told c.write_and_give.new.store) (g.S.PageStore.free c.args.store.now) (g.S.PageStore.free c.write_and_give.new.store) (g.S.PageStore.size c.args.store.now) c.args.height c.args.left c.args.key.now c.args.right b rs used c.in_ok-first.first c.in_ok-rest.rest c.bytes.result.now (g.S.PageStore.free c.read_inner-2.new.store) c.join.new.self (record {
+    inners_joined (g.S.PageStore.told c.args.store.now) (g.S.PageStore.told c.read_inner-2.new.store) (g.S.PageStore.told c.write_and_give.new.store)
+    (g.S.PageStore.free c.args.store.now) (g.S.PageStore.free c.write_and_give.new.store) (g.S.PageStore.size c.args.store.now) c.args.height
+    c.args.left c.args.key.now c.args.right b rs used c.in_ok-first.first c.in_ok-rest.rest c.bytes.result.now
+    (g.S.PageStore.free c.read_inner-2.new.store) c.join.new.self (record {
       above = c.requires.height;
       reads = c.in_ok-first.ensures.inner;
       also = λ pages t. c.in_ok-rest.ensures.inner pages (c.in_ok-first.ensures.looks.left.told ∙ t);
@@ -47,21 +51,26 @@ returns-in-Ok-clause-rebalanced g c = λ b rs used m.
 
 pub returns-in-Err-clause-sound : goal.returns-in-Err-clause-sound
 returns-in-Err-clause-sound g c = λ b rs used m.
-    let t = inners_taken (g.S.PageStore.told c.args.store.now) (g.S.PageStore.free c.args.store.now) c.args.height c.args.left c.args.key.now c.args.right b rs used c.in_ok-first.first c.in_ok-rest.rest (g.S.PageStore.free c.read_inner-2.new.store) c.requires.height
+    let t = inners_taken (g.S.PageStore.told c.args.store.now) (g.S.PageStore.free c.args.store.now) c.args.height c.args.left c.args.key.now
+    c.args.right b rs used c.in_ok-first.first c.in_ok-rest.rest (g.S.PageStore.free c.read_inner-2.new.store) c.requires.height
     c.in_ok-first.ensures.inner (λ pages t. c.in_ok-rest.ensures.inner pages (c.in_ok-first.ensures.looks.left.told ∙ t))
     (c.in_ok-rest.ensures.looks.left.free ∙ c.in_ok-first.ensures.looks.left.free) m in
     c.in-Err.ensures.sound t.0 t.1
 
 pub returns-in-Err-write_both-clause-sound : goal.returns-in-Err-write_both-clause-sound
 returns-in-Err-write_both-clause-sound g c = λ b rs used m.
-    let t = inners_taken (g.S.PageStore.told c.args.store.now) (g.S.PageStore.free c.args.store.now) c.args.height c.args.left c.args.key.now c.args.right b rs used c.in_ok-first.first c.in_ok-rest.rest (g.S.PageStore.free c.read_inner-2.new.store) c.requires.height
+    let t = inners_taken (g.S.PageStore.told c.args.store.now) (g.S.PageStore.free c.args.store.now) c.args.height c.args.left c.args.key.now
+    c.args.right b rs used c.in_ok-first.first c.in_ok-rest.rest (g.S.PageStore.free c.read_inner-2.new.store) c.requires.height
     c.in_ok-first.ensures.inner (λ pages t. c.in_ok-rest.ensures.inner pages (c.in_ok-first.ensures.looks.left.told ∙ t))
     (c.in_ok-rest.ensures.looks.left.free ∙ c.in_ok-first.ensures.looks.left.free) m in
     c.in-Err-write_both.ensures.sound t.0 t.1
 
 pub returns-in-Ok-write_both-clause-rebalanced : goal.returns-in-Ok-write_both-clause-rebalanced
 returns-in-Ok-write_both-clause-rebalanced g c = λ b rs used m.
-    inners_separated (g.S.PageStore.told c.args.store.now) (g.S.PageStore.told c.read_inner-2.new.store) (g.S.PageStore.told c.write_both.new.store) (g.S.PageStore.free c.args.store.now) (g.S.PageStore.free c.write_both.new.store) (g.S.PageStore.size c.args.store.now) c.args.height c.args.left c.args.key.now c.args.right b rs used c.in_ok-first.first c.in_ok-rest.rest c.bytes-2.result.now c.share_children-separator.new.left c.share_children-separator.new.right c.share_children-separator.result c.bytes-3.result.now (record {
+    inners_separated (g.S.PageStore.told c.args.store.now) (g.S.PageStore.told c.read_inner-2.new.store) (g.S.PageStore.told c.write_both.new.store)
+    (g.S.PageStore.free c.args.store.now) (g.S.PageStore.free c.write_both.new.store) (g.S.PageStore.size c.args.store.now) c.args.height c.args.left
+    c.args.key.now c.args.right b rs used c.in_ok-first.first c.in_ok-rest.rest c.bytes-2.result.now c.share_children-separator.new.left
+    c.share_children-separator.new.right c.share_children-separator.result c.bytes-3.result.now (record {
       above = c.requires.height;
       reads = c.in_ok-first.ensures.inner;
       also = λ pages t. c.in_ok-rest.ensures.inner pages (c.in_ok-first.ensures.looks.left.told ∙ t);

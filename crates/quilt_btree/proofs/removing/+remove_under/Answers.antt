@@ -27,7 +27,9 @@ returns-in-Err-remove_under-clause-sound g t c = λ is_root b rs used can.
     let h = c.in-Ok.ensures.here c.args.height rs c.requires.height c.if-height-eq1.false
     (leaf_reads (g.S.PageStore.told c.args.store.now) (g.S.PageStore.free c.args.store.now) c.args.page c.args.height is_root b rs used can) in
     let w = c.in-Ok.ensures.way h.inner h.is in
-    sound_child (g.S.PageStore.told c.args.store.now) (g.S.PageStore.told c.read_way.new.store) (g.S.PageStore.free c.args.store.now) (g.S.PageStore.free c.read_way.new.store) c.args.page c.args.height c.in-Ok.way.child c.in-Ok.way.place h.inner c.args.k.now c.in-Err-remove_under.e
+    sound_child (g.S.PageStore.told c.args.store.now) (g.S.PageStore.told c.read_way.new.store) (g.S.PageStore.free c.args.store.now)
+    (g.S.PageStore.free c.read_way.new.store) c.args.page c.args.height c.in-Ok.way.child c.in-Ok.way.place h.inner c.args.k.now
+    c.in-Err-remove_under.e
     (record {
       some = c.requires.height;
       above = c.if-height-eq1.false;
@@ -88,7 +90,10 @@ returns-in-Some-clause-removed g t c =
     (subst (λ n. inner_of n c.read_way.new.bytes ≡ Some c.in-Some.inner)
     (c.pages.ensures ∙ c.in-Ok-Underfull.ensures.left.size ∙ c.in-Ok.ensures.left.size) c.in-Some.ensures.inner) in
     let found = rw c.in-Ok-Underfull.field-0-is at c.in-Ok-Underfull.ensures in
-    rebalanced_child c.args.k.now (g.S.PageStore.told c.args.store.now) (g.S.PageStore.told c.read_way.new.store) (g.S.PageStore.told c.remove_under.new.store) (g.S.PageStore.free c.args.store.now) (g.S.PageStore.free c.read_way.new.store) (g.S.PageStore.free c.remove_under.new.store) c.args.page c.args.height c.in-Ok.way.child c.in-Ok.way.place c.in-Some.inner c.rebalance_child.result (g.S.PageStore.told c.rebalance_child.new.store) (g.S.PageStore.free c.rebalance_child.new.store)
+    rebalanced_child c.args.k.now (g.S.PageStore.told c.args.store.now) (g.S.PageStore.told c.read_way.new.store)
+    (g.S.PageStore.told c.remove_under.new.store) (g.S.PageStore.free c.args.store.now) (g.S.PageStore.free c.read_way.new.store)
+    (g.S.PageStore.free c.remove_under.new.store) c.args.page c.args.height c.in-Ok.way.child c.in-Ok.way.place c.in-Some.inner
+    c.rebalance_child.result (g.S.PageStore.told c.rebalance_child.new.store) (g.S.PageStore.free c.rebalance_child.new.store)
     (record {
       some = c.requires.height;
       above = c.if-height-eq1.false;
@@ -107,7 +112,10 @@ returns-in-Some-clause-sound g t c =
     (subst (λ n. inner_of n c.read_way.new.bytes ≡ Some c.in-Some.inner)
     (c.pages.ensures ∙ c.in-Ok-Underfull.ensures.left.size ∙ c.in-Ok.ensures.left.size) c.in-Some.ensures.inner) in
     let found = rw c.in-Ok-Underfull.field-0-is at c.in-Ok-Underfull.ensures in
-    rebalanced_sound c.args.k.now (g.S.PageStore.told c.args.store.now) (g.S.PageStore.told c.read_way.new.store) (g.S.PageStore.told c.remove_under.new.store) (g.S.PageStore.free c.args.store.now) (g.S.PageStore.free c.read_way.new.store) (g.S.PageStore.free c.remove_under.new.store) c.args.page c.args.height c.in-Ok.way.child c.in-Ok.way.place c.in-Some.inner c.rebalance_child.result
+    rebalanced_sound c.args.k.now (g.S.PageStore.told c.args.store.now) (g.S.PageStore.told c.read_way.new.store)
+    (g.S.PageStore.told c.remove_under.new.store) (g.S.PageStore.free c.args.store.now) (g.S.PageStore.free c.read_way.new.store)
+    (g.S.PageStore.free c.remove_under.new.store) c.args.page c.args.height c.in-Ok.way.child c.in-Ok.way.place c.in-Some.inner
+    c.rebalance_child.result
     (record {
       some = c.requires.height;
       above = c.if-height-eq1.false;
@@ -125,7 +133,9 @@ returns-in-Ok-Emptied-clause-sound g t c = λ is_root b rs used can.
     (leaf_reads (g.S.PageStore.told c.args.store.now) (g.S.PageStore.free c.args.store.now) c.args.page c.args.height is_root b rs used can) in
     let w = c.in-Ok.ensures.way h.inner h.is in
     let found = rw c.in-Ok-Emptied.field-0-is at c.in-Ok-Emptied.ensures in
-    emptied_child c.args.k.now (g.S.PageStore.told c.args.store.now) (g.S.PageStore.told c.read_way.new.store) (g.S.PageStore.told c.remove_under.new.store) (g.S.PageStore.free c.args.store.now) (g.S.PageStore.free c.read_way.new.store) (g.S.PageStore.free c.remove_under.new.store) c.args.page c.args.height c.in-Ok.way.child c.in-Ok.way.place h.inner _
+    emptied_child c.args.k.now (g.S.PageStore.told c.args.store.now) (g.S.PageStore.told c.read_way.new.store)
+    (g.S.PageStore.told c.remove_under.new.store) (g.S.PageStore.free c.args.store.now) (g.S.PageStore.free c.read_way.new.store)
+    (g.S.PageStore.free c.remove_under.new.store) c.args.page c.args.height c.in-Ok.way.child c.in-Ok.way.place h.inner _
     (record {
       some = c.requires.height;
       above = c.if-height-eq1.false;
@@ -165,51 +175,46 @@ pub returns-in-Ok-Missing-clause-finds : goal.returns-in-Ok-Missing-clause-finds
 returns-in-Ok-Missing-clause-finds g t c = λ rs s.
     let h = c.in-Ok.ensures.here c.args.height rs c.requires.height c.if-height-eq1.false s in
     let w = c.in-Ok.ensures.way h.inner h.is in
-    finds_below (g.S.PageStore.told c.args.store.now) (g.S.PageStore.told c.read_way.new.store) c.args.page c.args.height c.in-Ok.way.child
-    c.in-Ok.way.place c.args.k.now h.inner false
-    (record {
+    finds_below (g.S.PageStore.told c.args.store.now) c.args.k.now false (g.S.PageStore.told c.read_way.new.store) c.args.page c.args.height
+    c.in-Ok.way.child c.in-Ok.way.place h.inner (record {
       same = c.in-Ok.ensures.left.told;
       some = c.requires.height;
       above = c.if-height-eq1.false;
       reads = w.reads;
       place = w.is_place;
       is_child = w.child_is;
-    })
-    (rw c.in-Ok-Missing.field-0-is at c.in-Ok-Missing.ensures.finds) rs s
+    }) (rw c.in-Ok-Missing.field-0-is at c.in-Ok-Missing.ensures.finds) rs s
 
 pub returns-in-Ok-Done-clause-finds : goal.returns-in-Ok-Done-clause-finds
 returns-in-Ok-Done-clause-finds g t c = λ rs s.
     let h = c.in-Ok.ensures.here c.args.height rs c.requires.height c.if-height-eq1.false s in
     let w = c.in-Ok.ensures.way h.inner h.is in
-    finds_below (g.S.PageStore.told c.args.store.now) (g.S.PageStore.told c.read_way.new.store) c.args.page c.args.height c.in-Ok.way.child
-    c.in-Ok.way.place c.args.k.now h.inner true
-    (record {
+    finds_below (g.S.PageStore.told c.args.store.now) c.args.k.now true (g.S.PageStore.told c.read_way.new.store) c.args.page c.args.height
+    c.in-Ok.way.child c.in-Ok.way.place h.inner (record {
       same = c.in-Ok.ensures.left.told;
       some = c.requires.height;
       above = c.if-height-eq1.false;
       reads = w.reads;
       place = w.is_place;
       is_child = w.child_is;
-    })
-    (rw c.in-Ok-Done.field-0-is at c.in-Ok-Done.ensures.finds) rs s
+    }) (rw c.in-Ok-Done.field-0-is at c.in-Ok-Done.ensures.finds) rs s
 
 pub returns-in-Some-clause-finds : goal.returns-in-Some-clause-finds
 returns-in-Some-clause-finds g t c =
-    found_finds c.rebalance_child.result (g.S.PageStore.told c.args.store.now) c.args.page c.args.height c.args.k.now c.rebalance_child.ensures.remains.some
+    found_finds c.rebalance_child.result (g.S.PageStore.told c.args.store.now) c.args.page c.args.height c.args.k.now
+    c.rebalance_child.ensures.remains.some
     (λ rs s.
     let h = c.in-Ok.ensures.here c.args.height rs c.requires.height c.if-height-eq1.false s in
     let w = c.in-Ok.ensures.way h.inner h.is in
-    finds_below (g.S.PageStore.told c.args.store.now) (g.S.PageStore.told c.read_way.new.store) c.args.page c.args.height c.in-Ok.way.child
-    c.in-Ok.way.place c.args.k.now h.inner true
-    (record {
+    finds_below (g.S.PageStore.told c.args.store.now) c.args.k.now true (g.S.PageStore.told c.read_way.new.store) c.args.page c.args.height
+    c.in-Ok.way.child c.in-Ok.way.place h.inner (record {
       same = c.in-Ok.ensures.left.told;
       some = c.requires.height;
       above = c.if-height-eq1.false;
       reads = w.reads;
       place = w.is_place;
       is_child = w.child_is;
-    })
-    (rw c.in-Ok-Underfull.field-0-is at c.in-Ok-Underfull.ensures.finds) rs s)
+    }) (rw c.in-Ok-Underfull.field-0-is at c.in-Ok-Underfull.ensures.finds) rs s)
 
 pub returns-in-None-clause-sound : goal.returns-in-None-clause-sound
 returns-in-None-clause-sound g t c is_root b rs used can =
@@ -228,7 +233,8 @@ rebalance_child-requires-clause-place g t c =
 
 pub returns-then-height-eq1-clause-bad : goal.returns-then-height-eq1-clause-bad
 returns-then-height-eq1-clause-bad g t c =
-    named_leaf c.remove_in_leaf.result (g.S.PageStore.told c.args.store.now) c.args.height c.args.page c.if-height-eq1.true c.remove_in_leaf.ensures.bad
+    named_leaf c.remove_in_leaf.result (g.S.PageStore.told c.args.store.now) c.args.height c.args.page c.if-height-eq1.true
+    c.remove_in_leaf.ensures.bad
 
 pub returns-in-Err-clause-bad : goal.returns-in-Err-clause-bad
 returns-in-Err-clause-bad g t c = λ ne. c.in-Err.ensures.bad c.args.height c.requires.height c.if-height-eq1.false
@@ -246,7 +252,8 @@ pub returns-in-None-clause-bad : goal.returns-in-None-clause-bad
 returns-in-None-clause-bad g t c =
     let same : c.pages-in-None.result ≡ g.S.PageStore.size c.args.store.now = c.pages-in-None.ensures ∙ c.in-Ok-Underfull.ensures.left.size ∙
     c.in-Ok.ensures.left.size in
-    inner_fault (g.S.PageStore.told c.args.store.now) (g.S.PageStore.told c.read_way.new.store) c.args.page c.args.height c.pages-in-None.result c.read_way.new.bytes c.inner_at_fault.result
+    inner_fault (g.S.PageStore.told c.args.store.now) (g.S.PageStore.told c.read_way.new.store) c.args.page c.args.height c.pages-in-None.result
+    c.read_way.new.bytes c.inner_at_fault.result
     (read_ok (g.S.PageStore.told c.args.store.now) (g.S.PageStore.told c.read_way.new.store) c.args.page c.args.height
     c.pages-in-None.result (g.S.PageStore.size c.args.store.now) c.read_way.new.bytes c.requires.height c.if-height-eq1.false
     c.in-Ok.ensures.left.told (g.met.S.PageStore.as_many c.args.store.now) same c.in-Ok.ensures.bytes)
@@ -272,7 +279,8 @@ returns-in-Some-clause-left g t c =
     let less = below.remains.less (λ e. underfull_done e) in
     let all = edits_then _ g.met.S.PageStore.goes_on 0 1 (2 * (c.args.height - 1)) (3 * (c.args.height - 1) - 2) (2 * (c.args.height - 1))
     (3 * c.args.height - 4) (omega arith) (omega arith) (looked _ 1 c.in-Ok.ensures.left c.in-Ok.ensures.reads) c.in-Ok-Underfull.ensures.left in
-    edits_then _ g.met.S.PageStore.goes_on (2 * (c.args.height - 1) - 1) (3 * c.args.height - 4) 3 2 (2 * c.args.height) (3 * c.args.height - 2) (omega arith)
+    edits_then _ g.met.S.PageStore.goes_on (2 * (c.args.height - 1) - 1) (3 * c.args.height - 4) 3 2 (2 * c.args.height) (3 * c.args.height - 2)
+    (omega arith)
     (omega arith) (record {
       cause = all.cause;
       size = all.size;
@@ -286,7 +294,8 @@ returns-in-Some-clause-left g t c =
 
 pub returns-in-Err-remove_under-clause-left : goal.returns-in-Err-remove_under-clause-left
 returns-in-Err-remove_under-clause-left g t c =
-    removes_below _ g.met.S.PageStore.goes_on c.args.height c.requires.height c.in-Ok.ensures.left c.in-Ok.ensures.reads c.in-Err-remove_under.ensures.left
+    removes_below _ g.met.S.PageStore.goes_on c.args.height c.requires.height c.in-Ok.ensures.left c.in-Ok.ensures.reads
+    c.in-Err-remove_under.ensures.left
 
 pub returns-in-Ok-Missing-clause-left : goal.returns-in-Ok-Missing-clause-left
 returns-in-Ok-Missing-clause-left g t c =

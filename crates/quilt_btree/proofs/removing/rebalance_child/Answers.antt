@@ -6,7 +6,8 @@ use Rattle.quilt_btree.proofs.removing.rebalance_child.Goals as goal
 
 pub returns-in-Err-clause-sound : goal.returns-in-Err-clause-sound
 returns-in-Err-clause-sound g c =
-    sound_rebalance (g.S.PageStore.told c.args.store.now) (g.S.PageStore.free c.args.store.now) c.args.page c.args.height c.args.inner.now c.args.i c.pair_at-j.result (c.pair_at-j.result + 1) c.child-left.result c.key-key.result c.child-right.result c.in-Err.e (record {
+    sound_rebalance (g.S.PageStore.told c.args.store.now) (g.S.PageStore.free c.args.store.now) c.args.page c.args.height c.args.inner.now c.args.i
+    c.pair_at-j.result (c.pair_at-j.result + 1) c.child-left.result c.key-key.result c.child-right.result c.in-Err.e (record {
       in_range = subst (λ n. c.pair_at-j.result + 1 < n) c.len.ensures.length c.pair_at-j.ensures.both;
       one = c.pair_at-j.ensures.one;
       is_next = omega arith;
@@ -21,7 +22,10 @@ returns-in-Err-clause-sound g c =
 pub returns-in-Ok-Joined-clause-leaves : goal.returns-in-Ok-Joined-clause-leaves
 returns-in-Ok-Joined-clause-leaves g c =
     let found = rw c.in-Ok-Joined.field-0-is at c.in-Ok-Joined.ensures in
-    joined_left (g.S.PageStore.told c.args.store.now) (g.S.PageStore.told c.rebalance_pages.new.store) (g.S.PageStore.free c.args.store.now) (g.S.PageStore.free c.rebalance_pages.new.store) c.args.page c.args.height c.args.inner.now c.args.i c.pair_at-j.result c.child-left.result c.key-key.result c.child-right.result c.drop_child.result (g.S.PageStore.told c.drop_child.new.store) (g.S.PageStore.free c.drop_child.new.store) (c.pair_at-j.result + 1) (record {
+    joined_left (g.S.PageStore.told c.args.store.now) (g.S.PageStore.told c.rebalance_pages.new.store) (g.S.PageStore.free c.args.store.now)
+    (g.S.PageStore.free c.rebalance_pages.new.store) c.args.page c.args.height c.args.inner.now c.args.i c.pair_at-j.result c.child-left.result
+    c.key-key.result c.child-right.result c.drop_child.result (g.S.PageStore.told c.drop_child.new.store) (g.S.PageStore.free c.drop_child.new.store)
+    (c.pair_at-j.result + 1) (record {
       in_range = subst (λ n. c.pair_at-j.result + 1 < n) c.len.ensures.length c.pair_at-j.ensures.both;
       one = c.pair_at-j.ensures.one;
       is_next = omega arith;
@@ -36,7 +40,9 @@ returns-in-Ok-Joined-clause-leaves g c =
 pub returns-in-Ok-Joined-clause-sound : goal.returns-in-Ok-Joined-clause-sound
 returns-in-Ok-Joined-clause-sound g c =
     let found = rw c.in-Ok-Joined.field-0-is at c.in-Ok-Joined.ensures in
-    joined_sound (g.S.PageStore.told c.args.store.now) (g.S.PageStore.told c.rebalance_pages.new.store) (g.S.PageStore.free c.args.store.now) (g.S.PageStore.free c.rebalance_pages.new.store) c.args.page c.args.height c.args.inner.now c.args.i c.pair_at-j.result c.child-left.result c.key-key.result c.child-right.result c.drop_child.result (c.pair_at-j.result + 1) (record {
+    joined_sound (g.S.PageStore.told c.args.store.now) (g.S.PageStore.told c.rebalance_pages.new.store) (g.S.PageStore.free c.args.store.now)
+    (g.S.PageStore.free c.rebalance_pages.new.store) c.args.page c.args.height c.args.inner.now c.args.i c.pair_at-j.result c.child-left.result
+    c.key-key.result c.child-right.result c.drop_child.result (c.pair_at-j.result + 1) (record {
       in_range = subst (λ n. c.pair_at-j.result + 1 < n) c.len.ensures.length c.pair_at-j.ensures.both;
       one = c.pair_at-j.ensures.one;
       is_next = omega arith;
@@ -86,7 +92,8 @@ returns-in-Ok-clause-leaves g c =
 
 pub returns-in-Err-clause-bad : goal.returns-in-Err-clause-bad
 returns-in-Err-clause-bad g c =
-    names_beside (g.S.PageStore.told c.args.store.now) c.args.height c.args.inner.now c.args.i c.pair_at-j.result c.child-left.result c.child-right.result
+    names_beside (g.S.PageStore.told c.args.store.now) c.args.height c.args.inner.now c.args.i c.pair_at-j.result c.child-left.result
+    c.child-right.result
     c.child.result c.other_of-spare.result _ c.requires.height (subst (λ n. c.pair_at-j.result + 1 < n) c.len.ensures.length c.pair_at-j.ensures.both)
     c.child-left.ensures.child c.child-right.ensures.child c.child.ensures.child c.other_of-spare.ensures c.in-Err.ensures.bad
 

@@ -82,7 +82,8 @@ returns-else-left-lt-LEAST_RECORDS-clause-finds g c = λ height rs one s.
 pub returns-in_err-leaf-clause-names : goal.returns-in_err-leaf-clause-names
 returns-in_err-leaf-clause-names g c =
     let p = err_from_is_err_and c.from_residual.result c.from_residual.ensures.1 in
-    rw (p.1, p.2) (names_more (c.args.page + 1) (g.S.PageStore.size c.args.store.now) _ (let q = c.requires.1 in omega arith) c.in_err-leaf.ensures.names)
+    rw (p.1, p.2)
+    (names_more (c.args.page + 1) (g.S.PageStore.size c.args.store.now) _ (let q = c.requires.1 in omega arith) c.in_err-leaf.ensures.names)
 
 pub returns-in_err-leaf-clause-bad : goal.returns-in_err-leaf-clause-bad
 returns-in_err-leaf-clause-bad g c =

@@ -38,7 +38,8 @@ returns-then-now-most-clause-goes_on g c = record {
 
 pub returns-in-Ok-fault_at-clause-sound : goal.returns-in-Ok-fault_at-clause-sound
 returns-in-Ok-fault_at-clause-sound g c = λ low rs is b page e. rest_adds (g.S.PageStore.told c.args.store.now) c.args.self.now c.args.from.now
-    c.args.high.now c.in-Some.field-0 c.args.most (records_of c.in-Ok-add_at.ensures.adds.bytes) c.args.records.now.items c.add_at.new.records.items rs
+    c.args.high.now c.in-Some.field-0 c.args.most (records_of c.in-Ok-add_at.ensures.adds.bytes) c.args.records.now.items c.add_at.new.records.items
+    rs
     c.in-Ok.found.high (record {
       some = let h = c.requires.height in omega arith;
       leads = (c.in-Ok.ensures.arrives c.in-Ok-add_at.ensures.adds.bytes (told_before _ _ _ _ (sym c.in-Ok.ensures.left.told) c.in-Ok-add_at.ensures.adds.are)).leads;
@@ -71,7 +72,8 @@ returns-in_default-clause-goes_on g c = record {
             (records_of c.in-Ok-add_at.ensures.adds.bytes) ((c.in-Ok.ensures.arrives c.in-Ok-add_at.ensures.adds.bytes (told_before _ _ _ _ (sym c.in-Ok.ensures.left.told) c.in-Ok-add_at.ensures.adds.are)).leaf rs s);
       }) is b c.in-Some.ensures.0);
   adds =
-      let m = added_most c.args.most c.args.records.now.items _ _ c.in-Ok-add_at.ensures.adds.added (let r = c.requires.room in omega (arith, c.args.records.now.ok.0)) in
+      let m = added_most c.args.most c.args.records.now.items _ _ c.in-Ok-add_at.ensures.adds.added
+      (let r = c.requires.room in omega (arith, c.args.records.now.ok.0)) in
       let e = c.in-Ok-add_at.ensures.number in
       let f = c.len-had.ensures in
       let t = c.if-now-had.false in
@@ -109,10 +111,8 @@ returns-then-now-most-clause-grows g c = record {
       search rules;
   within =
       λ low le old.
-      added_within low c.args.from.now c.args.high.now c.args.most
-      c.in-Ok-add_at.ensures.adds.some c.args.records.now.items
-      c.add_at.new.records.items
-      (c.in-Ok-add_at.ensures.adds.added) le old;
+      added_within low c.args.from.now c.args.high.now le c.args.most c.in-Ok-add_at.ensures.adds.some c.args.records.now.items
+      c.add_at.new.records.items (c.in-Ok-add_at.ensures.adds.added) old;
   more =
       search rules;
 }
@@ -120,32 +120,32 @@ returns-then-now-most-clause-grows g c = record {
 pub returns-in_default-clause-grows : goal.returns-in_default-clause-grows
 returns-in_default-clause-grows g c = record {
   room =
-      let m = added_most c.args.most c.args.records.now.items _ _ c.in-Ok-add_at.ensures.adds.added (let r = c.requires.room in omega (arith, c.args.records.now.ok.0)) in
+      let m = added_most c.args.most c.args.records.now.items _ _ c.in-Ok-add_at.ensures.adds.added
+      (let r = c.requires.room in omega (arith, c.args.records.now.ok.0)) in
       omega (arith, m.0, c.add_at.new.records.ok.0);
   within =
       λ low le old.
-      added_within low c.args.from.now c.args.high.now c.args.most
-      c.in-Ok-add_at.ensures.adds.some c.args.records.now.items
-      c.add_at.new.records.items
-      (c.in-Ok-add_at.ensures.adds.added) le old;
+      added_within low c.args.from.now c.args.high.now le c.args.most c.in-Ok-add_at.ensures.adds.some c.args.records.now.items
+      c.add_at.new.records.items (c.in-Ok-add_at.ensures.adds.added) old;
   more =
-      let m = added_most c.args.most c.args.records.now.items _ _ c.in-Ok-add_at.ensures.adds.added (let r = c.requires.room in omega (arith, c.args.records.now.ok.0)) in
+      let m = added_most c.args.most c.args.records.now.items _ _ c.in-Ok-add_at.ensures.adds.added
+      (let r = c.requires.room in omega (arith, c.args.records.now.ok.0)) in
       omega (arith, m.1, c.args.records.now.ok.0, c.add_at.new.records.ok.0);
 }
 
 pub returns-in_default-2-clause-grows : goal.returns-in_default-2-clause-grows
 returns-in_default-2-clause-grows g c = record {
   room =
-      let m = added_most c.args.most c.args.records.now.items _ _ c.in-Ok-add_at.ensures.adds.added (let r = c.requires.room in omega (arith, c.args.records.now.ok.0)) in
+      let m = added_most c.args.most c.args.records.now.items _ _ c.in-Ok-add_at.ensures.adds.added
+      (let r = c.requires.room in omega (arith, c.args.records.now.ok.0)) in
       omega (arith, m.0, c.add_at.new.records.ok.0);
   within =
       λ low le old.
-      added_within low c.args.from.now c.args.high.now c.args.most
-      c.in-Ok-add_at.ensures.adds.some c.args.records.now.items
-      c.add_at.new.records.items
-      (c.in-Ok-add_at.ensures.adds.added) le old;
+      added_within low c.args.from.now c.args.high.now le c.args.most c.in-Ok-add_at.ensures.adds.some c.args.records.now.items
+      c.add_at.new.records.items (c.in-Ok-add_at.ensures.adds.added) old;
   more =
-      let m = added_most c.args.most c.args.records.now.items _ _ c.in-Ok-add_at.ensures.adds.added (let r = c.requires.room in omega (arith, c.args.records.now.ok.0)) in
+      let m = added_most c.args.most c.args.records.now.items _ _ c.in-Ok-add_at.ensures.adds.added
+      (let r = c.requires.room in omega (arith, c.args.records.now.ok.0)) in
       omega (arith, m.1, c.args.records.now.ok.0, c.add_at.new.records.ok.0);
 }
 

@@ -92,10 +92,12 @@ returns-clause-count g c = rw (← c.edits-run.ensures.edits) ((made_all (g.S.Pa
 
 pub returns-clause-list : goal.returns-clause-list
 returns-clause-list g c = rw (← c.edits-run.ensures.edits) (λ rs w due.
-    edits_are c.edits-run.result.now rs (subst (λ l. is_ascending (edit_keys l) ≡ true) (sym c.edits-run.ensures.edits) c.edits-run.ensures.order) (whole_rises (g.S.PageStore.told c.args.store.now) (g.S.PageStore.free c.args.store.now)
+    edits_are c.edits-run.result.now rs (subst (λ l. is_ascending (edit_keys l) ≡ true) (sym c.edits-run.ensures.edits) c.edits-run.ensures.order)
+    (whole_rises (g.S.PageStore.told c.args.store.now) (g.S.PageStore.free c.args.store.now)
     (g.S.PageStore.size c.args.store.now) c.args.self.now rs w) due)
 
 pub returns-in-Err-clause-list : goal.returns-in-Err-clause-list
 returns-in-Err-clause-list g c = rw (← c.edits-run.ensures.edits) (λ rs w due.
-    edits_are c.edits-run.result.now rs (subst (λ l. is_ascending (edit_keys l) ≡ true) (sym c.edits-run.ensures.edits) c.edits-run.ensures.order) (whole_rises (g.S.PageStore.told c.args.store.now) (g.S.PageStore.free c.args.store.now)
+    edits_are c.edits-run.result.now rs (subst (λ l. is_ascending (edit_keys l) ≡ true) (sym c.edits-run.ensures.edits) c.edits-run.ensures.order)
+    (whole_rises (g.S.PageStore.told c.args.store.now) (g.S.PageStore.free c.args.store.now)
     (g.S.PageStore.size c.args.store.now) c.args.self.now rs w) due)

@@ -39,7 +39,8 @@ returns-in-Err-insert-2-clause-fails g c rs w =
     let h = c.in-Ok-remove.ensures.removes.removed rs w in
     let mid = subst (λ n. IsWhole (g.S.PageStore.told c.remove-in-Replace.new.store) (g.S.PageStore.free c.remove-in-Replace.new.store) n
     c.remove-in-Replace.new.self (without c.in-Replace.record.key rs)) (sym c.in-Ok-remove.ensures.left.size) h.1 in
-    run_zero (is_due c.args.edit.now rs ≡ false) c.in-Err-insert-2.e c.stop_behind.result 1 (stops_behind c.in-Err-insert-2.e c.stop_behind.result 1 c.stop_behind.ensures)
+    run_zero (is_due c.args.edit.now rs ≡ false) c.in-Err-insert-2.e c.stop_behind.result 1
+    (stops_behind c.in-Err-insert-2.e c.stop_behind.result 1 c.stop_behind.ensures)
     (λ page is. absurd (c.in-Err-insert-2.ensures.sound (without c.in-Replace.record.key rs) mid page is))
 
 pub returns-then-is_new-2-clause-edited : goal.returns-then-is_new-2-clause-edited

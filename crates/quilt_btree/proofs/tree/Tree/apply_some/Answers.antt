@@ -8,7 +8,8 @@ use Rattle.quilt_btree.proofs.tree.Tree.apply_some.Goals as goal
 
 pub returns-in-Err-clause-fails : goal.returns-in-Err-clause-fails
 returns-in-Err-clause-fails g c rs w page is =
-    whole_fails (g.S.PageStore.told c.args.store.now) (g.S.PageStore.free c.args.store.now) (g.S.PageStore.size c.args.store.now) c.args.self.now c.args.run.now c.in-Err.e rs
+    whole_fails (g.S.PageStore.told c.args.store.now) (g.S.PageStore.free c.args.store.now) (g.S.PageStore.size c.args.store.now) c.args.self.now
+    c.args.run.now c.in-Err.e rs
     (record {
       rooted = c.requires.rooted;
       least = (g.met.S.PageStore.in_range c.args.store.now).0;
@@ -45,7 +46,8 @@ returns-in-Err-clause-left g c =
 
 pub returns-in-None-clause-left : goal.returns-in-None-clause-left
 returns-in-None-clause-left g c =
-    first_stopped _ c.args.run.now c.args.self.now.height _ (some_cost c.args.run.now c.requires.some) (λ is. absurd (damaged_device is)) c.in-Ok.ensures.left
+    first_stopped _ c.args.run.now c.args.self.now.height _ (some_cost c.args.run.now c.requires.some) (λ is. absurd (damaged_device is))
+    c.in-Ok.ensures.left
 
 pub records_behind-requires : goal.records_behind-requires
 records_behind-requires g c =
@@ -95,7 +97,8 @@ returns-then-self-eq0-clause-left g c = first_spared _ c.apply_first.ensures.lef
 
 pub returns-then-n-eq0-clause-left : goal.returns-then-n-eq0-clause-left
 returns-then-n-eq0-clause-left g c =
-    first_behind _ g.met.S.PageStore.goes_on c.args.self.now.height c.requires.rooted.height c.in-Ok.ensures.left c.apply_first-then-n-eq0.ensures.left
+    first_behind _ g.met.S.PageStore.goes_on c.args.self.now.height c.requires.rooted.height c.in-Ok.ensures.left
+    c.apply_first-then-n-eq0.ensures.left
 
 pub returns-in-Some-clause-left : goal.returns-in-Some-clause-left
 returns-in-Some-clause-left g c =

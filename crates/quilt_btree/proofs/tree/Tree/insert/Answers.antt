@@ -28,17 +28,14 @@ returns-in-Ok-clause-inserts g c = record {
       λ rs w.
       let range = g.met.S.PageStore.in_range c.args.store.now in
       whole_first c.args.r.now (g.S.PageStore.told c.args.store.now) (g.S.PageStore.told c.write_new.new.store) (g.S.PageStore.free c.args.store.now)
-      (g.S.PageStore.free c.write_new.new.store) (g.S.PageStore.size c.args.store.now) c.args.self.now rs c.in-Ok.root c.bytes.result.now
-      (record {
+      (g.S.PageStore.free c.write_new.new.store) (g.S.PageStore.size c.args.store.now) c.args.self.now rs c.in-Ok.root c.bytes.result.now (record {
         rooted = c.requires.rooted;
         room = c.requires.room;
         least = range.0;
         most = range.1;
         inside = g.met.S.PageStore.free_pages_are c.args.store.now;
         many = g.met.S.PageStore.as_many c.args.store.now;
-      })
-      c.if-self-eq0.true (c.bytes.ensures.leaf ∙ ap Some c.one-leaf.ensures) c.in-Ok.ensures.page c.in-Ok.ensures.free c.in-Ok.ensures.taken
-      c.in-Ok.ensures.told w;
+      }) w c.if-self-eq0.true (c.bytes.ensures.leaf ∙ ap Some c.one-leaf.ensures) c.in-Ok.ensures.page c.in-Ok.ensures.free c.in-Ok.ensures.taken c.in-Ok.ensures.told;
   answer =
       λ rs is.
       ap not (finds_empty (g.S.PageStore.told c.args.store.now) c.args.self.now c.args.r.now.key rs c.if-self-eq0.true is);
@@ -97,15 +94,17 @@ returns-in-Ok-There-clause-inserts g c = record {
         inside = g.met.S.PageStore.free_pages_are c.args.store.now;
         many = g.met.S.PageStore.as_many c.args.store.now;
       })
-      c.if-self-eq0.false (rw c.in-Ok-There.field-0-is at c.in-Ok-There.ensures.inserted) (c.in-Ok-There.ensures.leaves.same c.in-Ok-There.field-0-is).told
+      c.if-self-eq0.false (rw c.in-Ok-There.field-0-is at c.in-Ok-There.ensures.inserted)
+      (c.in-Ok-There.ensures.leaves.same c.in-Ok-There.field-0-is).told
       (c.in-Ok-There.ensures.leaves.same c.in-Ok-There.field-0-is).free w;
   answer =
       λ rs is.
-      ap not (finds_root (g.S.PageStore.told c.args.store.now) c.args.self.now c.args.r.now.key true rs c.if-self-eq0.false
-      (rw c.in-Ok-There.field-0-is at c.in-Ok-There.ensures.finds) is);
+      ap not (finds_root (g.S.PageStore.told c.args.store.now) c.args.r.now.key true c.args.self.now rs c.if-self-eq0.false (rw c.in-Ok-There.field-0-is at c.in-Ok-There.ensures.finds) is);
   changes =
       λ rs w room.
-      same_tree (g.S.PageStore.told c.args.store.now) (g.S.PageStore.free c.args.store.now) c.args.self.now rs (g.S.PageStore.told c.insert_under.new.store) (g.S.PageStore.free c.insert_under.new.store) (c.in-Ok-There.ensures.leaves.same c.in-Ok-There.field-0-is).told
+      same_tree (g.S.PageStore.told c.args.store.now) (g.S.PageStore.free c.args.store.now) c.args.self.now rs
+      (g.S.PageStore.told c.insert_under.new.store) (g.S.PageStore.free c.insert_under.new.store)
+      (c.in-Ok-There.ensures.leaves.same c.in-Ok-There.field-0-is).told
       (c.in-Ok-There.ensures.leaves.same c.in-Ok-There.field-0-is).free w;
   count = λ e. absurd (false≢true e);
 }
@@ -115,7 +114,8 @@ returns-in-Ok-Done-clause-inserts g c = record {
   inserted =
       λ rs w.
       let range = g.met.S.PageStore.in_range c.args.store.now in
-      whole_done c.args.r.now (g.S.PageStore.told c.args.store.now) (g.S.PageStore.told c.insert_under.new.store) (g.S.PageStore.free c.args.store.now)
+      whole_done c.args.r.now (g.S.PageStore.told c.args.store.now) (g.S.PageStore.told c.insert_under.new.store)
+      (g.S.PageStore.free c.args.store.now)
       (g.S.PageStore.free c.insert_under.new.store) (g.S.PageStore.size c.args.store.now) c.args.self.now rs
       (record {
         rooted = c.requires.rooted;
@@ -128,8 +128,7 @@ returns-in-Ok-Done-clause-inserts g c = record {
       c.if-self-eq0.false (rw c.in-Ok-Done.field-0-is at c.in-Ok-Done.ensures.inserted) w;
   answer =
       λ rs is.
-      ap not (finds_root (g.S.PageStore.told c.args.store.now) c.args.self.now c.args.r.now.key false rs c.if-self-eq0.false
-      (rw c.in-Ok-Done.field-0-is at c.in-Ok-Done.ensures.finds) is);
+      ap not (finds_root (g.S.PageStore.told c.args.store.now) c.args.r.now.key false c.args.self.now rs c.if-self-eq0.false (rw c.in-Ok-Done.field-0-is at c.in-Ok-Done.ensures.finds) is);
   changes =
       λ rs w room.
       kept_done c.args.r.now (g.S.PageStore.told c.args.store.now) (g.S.PageStore.told c.insert_under.new.store) (g.S.PageStore.free c.args.store.now)
@@ -165,32 +164,26 @@ returns-in-Ok-write_new-clause-inserts g c = record {
       rw c.in-Ok-Split.field-0-is at c.in-Ok-Split.ensures.leaves.right in
       let new_in : (1 ≤ c.in-Ok-write_new.root) × (c.in-Ok-write_new.root < g.S.PageStore.size c.args.store.now) =
       subst (λ n. (1 ≤ c.in-Ok-write_new.root) × (c.in-Ok-write_new.root < n)) c.in-Ok-Split.ensures.left.size c.in-Ok-write_new.ensures.page in
-      whole_split c.args.r.now (g.S.PageStore.told c.args.store.now) (g.S.PageStore.told c.insert_under.new.store)
-      (g.S.PageStore.told c.write_new-in-Ok-Split.new.store) (g.S.PageStore.free c.args.store.now) (g.S.PageStore.free c.insert_under.new.store)
-      (g.S.PageStore.free c.write_new-in-Ok-Split.new.store)
-      (g.S.PageStore.size c.args.store.now) c.args.self.now rs c.in-Ok-Split.key c.in-Ok-Split.right c.in-Ok-write_new.root
-      c.bytes-in-Ok-Split.result.now (c.args.self.now.height - 1)
-      (record {
+      whole_split c.args.r.now (g.S.PageStore.told c.args.store.now) (g.S.PageStore.told c.write_new-in-Ok-Split.new.store)
+      (g.S.PageStore.free c.args.store.now) (g.S.PageStore.free c.write_new-in-Ok-Split.new.store) (g.S.PageStore.size c.args.store.now)
+      c.args.self.now rs c.in-Ok-write_new.root c.bytes-in-Ok-Split.result.now (record {
         rooted = c.requires.rooted;
         room = c.requires.room;
         least = range.0;
         most = range.1;
         inside = g.met.S.PageStore.free_pages_are c.args.store.now;
         many = g.met.S.PageStore.as_many c.args.store.now;
-      })
-      tall (rw c.in-Ok-Split.field-0-is at c.in-Ok-Split.ensures.inserted)
-      (record {
+      }) w (g.S.PageStore.told c.insert_under.new.store) (g.S.PageStore.free c.insert_under.new.store) c.in-Ok-Split.key c.in-Ok-Split.right (c.args.self.now.height - 1) tall (rw c.in-Ok-Split.field-0-is at c.in-Ok-Split.ensures.inserted) (record {
         is_written = subst (λ (x : Inner). IsWritten c.bytes-in-Ok-Split.result.now x) c.pair-page.ensures c.bytes-in-Ok-Split.ensures.inner;
         right_in = right_in;
         new_in = new_in;
         was_free = c.in-Ok-write_new.ensures.free;
         taken = c.in-Ok-write_new.ensures.taken;
         wrote = c.in-Ok-write_new.ensures.told;
-      }) w;
+      });
   answer =
       λ rs is.
-      ap not (finds_root (g.S.PageStore.told c.args.store.now) c.args.self.now c.args.r.now.key false rs c.if-self-eq0.false
-      (rw c.in-Ok-Split.field-0-is at c.in-Ok-Split.ensures.finds) is);
+      ap not (finds_root (g.S.PageStore.told c.args.store.now) c.args.r.now.key false c.args.self.now rs c.if-self-eq0.false (rw c.in-Ok-Split.field-0-is at c.in-Ok-Split.ensures.finds) is);
   changes =
       λ rs w room.
       let ne = c.if-self-eq0.false in
@@ -224,11 +217,13 @@ returns-then-self-eq3-clause-goes g c rs w n room =
     absurd (kept_low c.args.r.now (g.S.PageStore.told c.args.store.now) (g.S.PageStore.told c.insert_under.new.store)
     (g.S.PageStore.free c.args.store.now) (g.S.PageStore.free c.insert_under.new.store) (g.S.PageStore.size c.args.store.now)
     c.args.self.now rs c.in-Ok-Split.key c.in-Ok-Split.right
-    c.requires.room (g.met.S.PageStore.in_range c.args.store.now).1 c.if-self-eq3.true (rw c.in-Ok-Split.field-0-is at c.in-Ok-Split.ensures.inserted) room n w)
+    c.requires.room (g.met.S.PageStore.in_range c.args.store.now).1 c.if-self-eq3.true (rw c.in-Ok-Split.field-0-is at c.in-Ok-Split.ensures.inserted)
+    room n w)
 
 pub returns-in-Err-insert_under-clause-goes : goal.returns-in-Err-insert_under-clause-goes
 returns-in-Err-insert_under-clause-goes g c rs w n room =
-    sound_kept (g.S.PageStore.told c.args.store.now) (g.S.PageStore.free c.args.store.now) c.args.self.now rs c.in-Err-insert_under.e (g.S.PageStore.size c.args.store.now) c.args.r.now.key c.if-self-eq0.false c.in-Err-insert_under.ensures.sound
+    sound_kept (g.S.PageStore.told c.args.store.now) (g.S.PageStore.free c.args.store.now) c.args.self.now rs c.in-Err-insert_under.e
+    (g.S.PageStore.size c.args.store.now) c.args.r.now.key c.if-self-eq0.false c.in-Err-insert_under.ensures.sound
     (few_records (g.S.PageStore.size c.args.store.now) c.args.self.now.records rs n c.requires.room (g.met.S.PageStore.in_range c.args.store.now).1) room w
 
 pub returns-in-Err-write_new-clause-goes : goal.returns-in-Err-write_new-clause-goes

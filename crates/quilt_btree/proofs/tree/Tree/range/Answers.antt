@@ -70,7 +70,8 @@ returns-in-Err-add_rest-clause-sound g c =
 pub returns-in-Ok-add_rest-clause-range : goal.returns-in-Ok-add_rest-clause-range
 returns-in-Ok-add_rest-clause-range g c =
     first_result (g.S.PageStore.told c.args.store.now) (g.S.PageStore.told c.add_at.new.store) c.args.self.now c.args.low.now c.args.high.now
-    c.in-Some.next c.args.most (records_of c.in-Ok-add_at.ensures.adds.bytes) c.add_at.new.records.items c.add_rest.new.records.items c.in-Ok.found.high
+    c.in-Some.next c.args.most (records_of c.in-Ok-add_at.ensures.adds.bytes) c.add_at.new.records.items c.add_rest.new.records.items
+    c.in-Ok.found.high
     (c.in-Ok-add_at.ensures.looks.left.told ∙ c.in-Ok.ensures.left.told) (record {
       some = c.if-self-eq0.false;
       leads = (c.in-Ok.ensures.arrives c.in-Ok-add_at.ensures.adds.bytes (told_before _ _ _ _ (sym c.in-Ok.ensures.left.told) c.in-Ok-add_at.ensures.adds.are)).leads;

@@ -11,17 +11,20 @@ use Rattle.quilt_btree.proofs.tree.Tree.remove.Goals as goal
 pub returns-then-self-eq0-clause-removes : goal.returns-then-self-eq0-clause-removes
 returns-then-self-eq0-clause-removes g c = record {
   removed =
-      λ rs w. whole_none c.args.k.now (g.S.PageStore.told c.args.store.now) (g.S.PageStore.free c.args.store.now) (g.S.PageStore.size c.args.store.now)
+      λ rs w. whole_none c.args.k.now (g.S.PageStore.told c.args.store.now) (g.S.PageStore.free c.args.store.now)
+      (g.S.PageStore.size c.args.store.now)
       c.args.self.now rs c.if-self-eq0.true w;
   answer =
       λ rs is. finds_empty (g.S.PageStore.told c.args.store.now) c.args.self.now c.args.k.now rs c.if-self-eq0.true is;
   changes =
-      λ rs w. out_none c.args.k.now (g.S.PageStore.told c.args.store.now) (g.S.PageStore.free c.args.store.now) c.args.self.now rs c.if-self-eq0.true w;
+      λ rs w. out_none c.args.k.now (g.S.PageStore.told c.args.store.now) (g.S.PageStore.free c.args.store.now) c.args.self.now rs c.if-self-eq0.true
+      w;
 }
 
 pub returns-in-Err-clause-sound : goal.returns-in-Err-clause-sound
 returns-in-Err-clause-sound g c =
-    λ rs w. sound_root (g.S.PageStore.told c.args.store.now) (g.S.PageStore.free c.args.store.now) (g.S.PageStore.size c.args.store.now) c.args.self.now c.in-Err.e rs
+    λ rs w. sound_root (g.S.PageStore.told c.args.store.now) (g.S.PageStore.free c.args.store.now) (g.S.PageStore.size c.args.store.now)
+    c.args.self.now c.in-Err.e rs
     (record {
       rooted = c.requires.rooted;
       least = (g.met.S.PageStore.in_range c.args.store.now).0;
@@ -43,7 +46,7 @@ returns-in-Ok-Missing-clause-removes g c = record {
       }) found.removed (found.remains.same refl).told (found.remains.same refl).free w;
   answer =
       λ rs is.
-      finds_root (g.S.PageStore.told c.args.store.now) c.args.self.now c.args.k.now false rs c.if-self-eq0.false
+      finds_root (g.S.PageStore.told c.args.store.now) c.args.k.now false c.args.self.now rs c.if-self-eq0.false
       (rw c.in-Ok-Missing.field-0-is at c.in-Ok-Missing.ensures.finds) is;
   changes =
       let found = rw c.in-Ok-Missing.field-0-is at c.in-Ok-Missing.ensures in
@@ -56,12 +59,10 @@ pub returns-in-Ok-Done-clause-removes : goal.returns-in-Ok-Done-clause-removes
 returns-in-Ok-Done-clause-removes g c = record {
   removed =
       let found = rw c.in-Ok-Done.field-0-is at c.in-Ok-Done.ensures in
-      shrunk c.shrink.result c.args.k.now (g.S.PageStore.told c.args.store.now) (g.S.PageStore.told c.remove_under.new.store)
-      (g.S.PageStore.free c.args.store.now) (g.S.PageStore.free c.remove_under.new.store) (g.S.PageStore.size c.args.store.now)
-      c.args.self.now c.shrink.new.self
-      (record { root = c.args.self.now.root; height = c.args.self.now.height; records = c.args.self.now.records - 1 })
-      c.shrink.ensures.tree c.shrink.ensures.answer
-      (λ rs w. whole_done c.args.k.now (g.S.PageStore.told c.args.store.now) (g.S.PageStore.told c.remove_under.new.store)
+      shrunk c.args.k.now (g.S.PageStore.told c.args.store.now) (g.S.PageStore.free c.args.store.now) (g.S.PageStore.size c.args.store.now)
+      c.args.self.now c.shrink.result (g.S.PageStore.told c.remove_under.new.store) (g.S.PageStore.free c.remove_under.new.store) c.shrink.new.self
+      (record { root = c.args.self.now.root; height = c.args.self.now.height; records = c.args.self.now.records - 1 }) c.shrink.ensures.tree
+      c.shrink.ensures.answer (λ rs w. whole_done c.args.k.now (g.S.PageStore.told c.args.store.now) (g.S.PageStore.told c.remove_under.new.store)
       (g.S.PageStore.free c.args.store.now) (g.S.PageStore.free c.remove_under.new.store) (g.S.PageStore.size c.args.store.now) c.args.self.now rs
       (record {
         rooted = c.requires.rooted;
@@ -71,11 +72,10 @@ returns-in-Ok-Done-clause-removes g c = record {
       }) found.removed w);
   answer =
       shrunk_answer c.shrink.result (g.S.PageStore.told c.args.store.now) c.args.self.now c.args.k.now c.shrink.ensures.answer
-      (λ rs is. finds_root (g.S.PageStore.told c.args.store.now) c.args.self.now c.args.k.now true rs c.if-self-eq0.false
-      (rw c.in-Ok-Done.field-0-is at c.in-Ok-Done.ensures.finds) is);
+      (λ rs is. finds_root (g.S.PageStore.told c.args.store.now) c.args.k.now true c.args.self.now rs c.if-self-eq0.false (rw c.in-Ok-Done.field-0-is at c.in-Ok-Done.ensures.finds) is);
   changes =
-      out_shrunk c.shrink.result c.args.k.now (g.S.PageStore.told c.args.store.now) (g.S.PageStore.told c.remove_under.new.store)
-      (g.S.PageStore.free c.args.store.now) (g.S.PageStore.free c.remove_under.new.store) c.args.self.now c.shrink.new.self
+      out_shrunk (g.S.PageStore.told c.args.store.now) (g.S.PageStore.free c.args.store.now) c.args.self.now c.shrink.result c.args.k.now
+      (g.S.PageStore.told c.remove_under.new.store) (g.S.PageStore.free c.remove_under.new.store) c.shrink.new.self
       (record { root = c.args.self.now.root; height = c.args.self.now.height; records = c.args.self.now.records - 1 }) c.shrink.ensures.tree
       (λ rs w. out_done c.args.k.now (g.S.PageStore.told c.args.store.now) (g.S.PageStore.told c.remove_under.new.store)
       (g.S.PageStore.free c.args.store.now) (g.S.PageStore.free c.remove_under.new.store) c.args.self.now rs c.if-self-eq0.false
@@ -85,7 +85,8 @@ returns-in-Ok-Done-clause-removes g c = record {
 pub returns-in-Ok-Done-clause-sound : goal.returns-in-Ok-Done-clause-sound
 returns-in-Ok-Done-clause-sound g c =
     let found = rw c.in-Ok-Done.field-0-is at c.in-Ok-Done.ensures in
-    shrunk_sound (g.S.PageStore.told c.args.store.now) (g.S.PageStore.free c.args.store.now) (g.S.PageStore.size c.args.store.now) c.args.self.now c.shrink.result (c.args.self.now.height ≡ 0 → (c.args.self.now.root ≡ 0) × (c.args.self.now.records ≡ 1)) (1 ≤ c.args.self.now.height
+    shrunk_sound (g.S.PageStore.told c.args.store.now) (g.S.PageStore.free c.args.store.now) (g.S.PageStore.size c.args.store.now) c.args.self.now
+    c.shrink.result (c.args.self.now.height ≡ 0 → (c.args.self.now.root ≡ 0) × (c.args.self.now.records ≡ 1)) (1 ≤ c.args.self.now.height
     → 2 ≤ c.args.self.now.records) c.shrink.ensures.sound
     (λ rs w. (
       λ e. absurd (c.if-self-eq0.false e),
@@ -103,9 +104,9 @@ pub returns-in-Ok-Underfull-clause-removes : goal.returns-in-Ok-Underfull-clause
 returns-in-Ok-Underfull-clause-removes g c = record {
   removed =
       let found = rw c.in-Ok-Underfull.field-0-is at c.in-Ok-Underfull.ensures in
-      shrunk c.shrink-in-Ok-Underfull.result c.args.k.now (g.S.PageStore.told c.args.store.now) (g.S.PageStore.told c.remove_under.new.store)
-      (g.S.PageStore.free c.args.store.now) (g.S.PageStore.free c.remove_under.new.store) (g.S.PageStore.size c.args.store.now)
-      c.args.self.now c.shrink-in-Ok-Underfull.new.self
+      shrunk c.args.k.now (g.S.PageStore.told c.args.store.now) (g.S.PageStore.free c.args.store.now) (g.S.PageStore.size c.args.store.now)
+      c.args.self.now c.shrink-in-Ok-Underfull.result (g.S.PageStore.told c.remove_under.new.store) (g.S.PageStore.free c.remove_under.new.store)
+      c.shrink-in-Ok-Underfull.new.self
       (record { root = c.args.self.now.root; height = c.args.self.now.height; records = c.args.self.now.records - 1 })
       c.shrink-in-Ok-Underfull.ensures.tree c.shrink-in-Ok-Underfull.ensures.answer
       (λ rs w. whole_underfull c.args.k.now (g.S.PageStore.told c.args.store.now) (g.S.PageStore.told c.remove_under.new.store)
@@ -117,13 +118,14 @@ returns-in-Ok-Underfull-clause-removes g c = record {
         above = c.if-self-eq0.false;
       }) found.removed w);
   answer =
-      shrunk_answer c.shrink-in-Ok-Underfull.result (g.S.PageStore.told c.args.store.now) c.args.self.now c.args.k.now c.shrink-in-Ok-Underfull.ensures.answer
-      (λ rs is. finds_root (g.S.PageStore.told c.args.store.now) c.args.self.now c.args.k.now true rs c.if-self-eq0.false
-      (rw c.in-Ok-Underfull.field-0-is at c.in-Ok-Underfull.ensures.finds) is);
+      shrunk_answer c.shrink-in-Ok-Underfull.result (g.S.PageStore.told c.args.store.now) c.args.self.now c.args.k.now
+      c.shrink-in-Ok-Underfull.ensures.answer
+      (λ rs is. finds_root (g.S.PageStore.told c.args.store.now) c.args.k.now true c.args.self.now rs c.if-self-eq0.false (rw c.in-Ok-Underfull.field-0-is at c.in-Ok-Underfull.ensures.finds) is);
   changes =
-      out_shrunk c.shrink-in-Ok-Underfull.result c.args.k.now (g.S.PageStore.told c.args.store.now) (g.S.PageStore.told c.remove_under.new.store)
-      (g.S.PageStore.free c.args.store.now) (g.S.PageStore.free c.remove_under.new.store) c.args.self.now c.shrink-in-Ok-Underfull.new.self
-      (record { root = c.args.self.now.root; height = c.args.self.now.height; records = c.args.self.now.records - 1 }) c.shrink-in-Ok-Underfull.ensures.tree
+      out_shrunk (g.S.PageStore.told c.args.store.now) (g.S.PageStore.free c.args.store.now) c.args.self.now c.shrink-in-Ok-Underfull.result
+      c.args.k.now (g.S.PageStore.told c.remove_under.new.store) (g.S.PageStore.free c.remove_under.new.store) c.shrink-in-Ok-Underfull.new.self
+      (record { root = c.args.self.now.root; height = c.args.self.now.height; records = c.args.self.now.records - 1 })
+      c.shrink-in-Ok-Underfull.ensures.tree
       (λ rs w. out_underfull c.args.k.now (g.S.PageStore.told c.args.store.now) (g.S.PageStore.told c.remove_under.new.store)
       (g.S.PageStore.free c.args.store.now) (g.S.PageStore.free c.remove_under.new.store) c.args.self.now rs c.if-self-eq0.false
       (rw c.in-Ok-Underfull.field-0-is at c.in-Ok-Underfull.ensures.removed) w);
@@ -132,7 +134,8 @@ returns-in-Ok-Underfull-clause-removes g c = record {
 pub returns-in-Ok-Underfull-clause-sound : goal.returns-in-Ok-Underfull-clause-sound
 returns-in-Ok-Underfull-clause-sound g c =
     let found = rw c.in-Ok-Underfull.field-0-is at c.in-Ok-Underfull.ensures in
-    shrunk_sound (g.S.PageStore.told c.args.store.now) (g.S.PageStore.free c.args.store.now) (g.S.PageStore.size c.args.store.now) c.args.self.now c.shrink-in-Ok-Underfull.result (c.args.self.now.height ≡ 0 → (c.args.self.now.root ≡ 0)
+    shrunk_sound (g.S.PageStore.told c.args.store.now) (g.S.PageStore.free c.args.store.now) (g.S.PageStore.size c.args.store.now) c.args.self.now
+    c.shrink-in-Ok-Underfull.result (c.args.self.now.height ≡ 0 → (c.args.self.now.root ≡ 0)
     × (c.args.self.now.records ≡ 1)) (1 ≤ c.args.self.now.height → 2 ≤ c.args.self.now.records) c.shrink-in-Ok-Underfull.ensures.sound
     (λ rs w. (
       λ e. absurd (c.if-self-eq0.false e),
@@ -163,10 +166,10 @@ pub returns-in-Ok-clause-removes : goal.returns-in-Ok-clause-removes
 returns-in-Ok-clause-removes g c = record {
   removed =
       let found = rw c.in-Ok-Emptied.field-0-is at c.in-Ok-Emptied.ensures in
-      shrunk c.shrink-in-Ok.result c.args.k.now (g.S.PageStore.told c.args.store.now) (g.S.PageStore.told c.give_back.new.store)
-      (g.S.PageStore.free c.args.store.now) (g.S.PageStore.free c.give_back.new.store) (g.S.PageStore.size c.args.store.now)
-      c.args.self.now c.shrink-in-Ok.new.self (record { root = 0; height = 0; records = c.args.self.now.records - 1 })
-      c.shrink-in-Ok.ensures.tree c.shrink-in-Ok.ensures.answer
+      shrunk c.args.k.now (g.S.PageStore.told c.args.store.now) (g.S.PageStore.free c.args.store.now) (g.S.PageStore.size c.args.store.now)
+      c.args.self.now c.shrink-in-Ok.result (g.S.PageStore.told c.give_back.new.store) (g.S.PageStore.free c.give_back.new.store)
+      c.shrink-in-Ok.new.self (record { root = 0; height = 0; records = c.args.self.now.records - 1 }) c.shrink-in-Ok.ensures.tree
+      c.shrink-in-Ok.ensures.answer
       (λ rs w. whole_emptied c.args.k.now (g.S.PageStore.told c.args.store.now) (g.S.PageStore.told c.remove_under.new.store)
       (g.S.PageStore.told c.give_back.new.store) (g.S.PageStore.free c.args.store.now) (g.S.PageStore.free c.remove_under.new.store)
       (g.S.PageStore.free c.give_back.new.store) (g.S.PageStore.size c.args.store.now) c.args.self.now rs
@@ -178,11 +181,10 @@ returns-in-Ok-clause-removes g c = record {
       }) found.removed c.in-Ok.ensures.told c.in-Ok.ensures.free w);
   answer =
       shrunk_answer c.shrink-in-Ok.result (g.S.PageStore.told c.args.store.now) c.args.self.now c.args.k.now c.shrink-in-Ok.ensures.answer
-      (λ rs is. finds_root (g.S.PageStore.told c.args.store.now) c.args.self.now c.args.k.now true rs c.if-self-eq0.false
-      (rw c.in-Ok-Emptied.field-0-is at c.in-Ok-Emptied.ensures.finds) is);
+      (λ rs is. finds_root (g.S.PageStore.told c.args.store.now) c.args.k.now true c.args.self.now rs c.if-self-eq0.false (rw c.in-Ok-Emptied.field-0-is at c.in-Ok-Emptied.ensures.finds) is);
   changes =
-      out_shrunk c.shrink-in-Ok.result c.args.k.now (g.S.PageStore.told c.args.store.now) (g.S.PageStore.told c.give_back.new.store)
-      (g.S.PageStore.free c.args.store.now) (g.S.PageStore.free c.give_back.new.store) c.args.self.now c.shrink-in-Ok.new.self
+      out_shrunk (g.S.PageStore.told c.args.store.now) (g.S.PageStore.free c.args.store.now) c.args.self.now c.shrink-in-Ok.result c.args.k.now
+      (g.S.PageStore.told c.give_back.new.store) (g.S.PageStore.free c.give_back.new.store) c.shrink-in-Ok.new.self
       (record { root = 0; height = 0; records = c.args.self.now.records - 1 }) c.shrink-in-Ok.ensures.tree
       (λ rs w. out_emptied c.args.k.now (g.S.PageStore.told c.args.store.now) (g.S.PageStore.told c.remove_under.new.store)
       (g.S.PageStore.told c.give_back.new.store) (g.S.PageStore.free c.args.store.now) (g.S.PageStore.free c.remove_under.new.store)
@@ -193,7 +195,8 @@ returns-in-Ok-clause-removes g c = record {
 pub returns-in-Ok-clause-sound : goal.returns-in-Ok-clause-sound
 returns-in-Ok-clause-sound g c =
     let found = rw c.in-Ok-Emptied.field-0-is at c.in-Ok-Emptied.ensures in
-    shrunk_sound (g.S.PageStore.told c.args.store.now) (g.S.PageStore.free c.args.store.now) (g.S.PageStore.size c.args.store.now) c.args.self.now c.shrink-in-Ok.result (0 ≡ 0 → (0 ≡ 0) × (c.args.self.now.records ≡ 1)) (1 ≤ 0 → 2 ≤ c.args.self.now.records)
+    shrunk_sound (g.S.PageStore.told c.args.store.now) (g.S.PageStore.free c.args.store.now) (g.S.PageStore.size c.args.store.now) c.args.self.now
+    c.shrink-in-Ok.result (0 ≡ 0 → (0 ≡ 0) × (c.args.self.now.records ≡ 1)) (1 ≤ 0 → 2 ≤ c.args.self.now.records)
     c.shrink-in-Ok.ensures.sound
     (λ rs w. (
       λ e. (
@@ -226,9 +229,9 @@ pub returns-in-Ok-give_back-clause-removes : goal.returns-in-Ok-give_back-clause
 returns-in-Ok-give_back-clause-removes g c = record {
   removed =
       let found = rw c.in-Ok-Only.field-0-is at c.in-Ok-Only.ensures in
-      shrunk c.shrink-in-Ok-give_back.result c.args.k.now (g.S.PageStore.told c.args.store.now) (g.S.PageStore.told c.give_back-in-Ok-Only.new.store)
-      (g.S.PageStore.free c.args.store.now) (g.S.PageStore.free c.give_back-in-Ok-Only.new.store) (g.S.PageStore.size c.args.store.now)
-      c.args.self.now c.shrink-in-Ok-give_back.new.self
+      shrunk c.args.k.now (g.S.PageStore.told c.args.store.now) (g.S.PageStore.free c.args.store.now) (g.S.PageStore.size c.args.store.now)
+      c.args.self.now c.shrink-in-Ok-give_back.result (g.S.PageStore.told c.give_back-in-Ok-Only.new.store)
+      (g.S.PageStore.free c.give_back-in-Ok-Only.new.store) c.shrink-in-Ok-give_back.new.self
       (record { root = c.in-Ok-Only.child; height = c.args.self.now.height - 1; records = c.args.self.now.records - 1 })
       c.shrink-in-Ok-give_back.ensures.tree c.shrink-in-Ok-give_back.ensures.answer
       (λ rs w. whole_only c.args.k.now (g.S.PageStore.told c.args.store.now) (g.S.PageStore.told c.remove_under.new.store)
@@ -242,14 +245,15 @@ returns-in-Ok-give_back-clause-removes g c = record {
             c.if-self-eq0.false;
       }) found.removed c.in-Ok-give_back.ensures.told c.in-Ok-give_back.ensures.free w);
   answer =
-      shrunk_answer c.shrink-in-Ok-give_back.result (g.S.PageStore.told c.args.store.now) c.args.self.now c.args.k.now c.shrink-in-Ok-give_back.ensures.answer
-      (λ rs is. finds_root (g.S.PageStore.told c.args.store.now) c.args.self.now c.args.k.now true rs c.if-self-eq0.false
-      (rw c.in-Ok-Only.field-0-is at c.in-Ok-Only.ensures.finds) is);
+      shrunk_answer c.shrink-in-Ok-give_back.result (g.S.PageStore.told c.args.store.now) c.args.self.now c.args.k.now
+      c.shrink-in-Ok-give_back.ensures.answer
+      (λ rs is. finds_root (g.S.PageStore.told c.args.store.now) c.args.k.now true c.args.self.now rs c.if-self-eq0.false (rw c.in-Ok-Only.field-0-is at c.in-Ok-Only.ensures.finds) is);
   changes =
-      out_shrunk c.shrink-in-Ok-give_back.result c.args.k.now (g.S.PageStore.told c.args.store.now)
-      (g.S.PageStore.told c.give_back-in-Ok-Only.new.store) (g.S.PageStore.free c.args.store.now)
-      (g.S.PageStore.free c.give_back-in-Ok-Only.new.store) c.args.self.now c.shrink-in-Ok-give_back.new.self
-      (record { root = c.in-Ok-Only.child; height = c.args.self.now.height - 1; records = c.args.self.now.records - 1 }) c.shrink-in-Ok-give_back.ensures.tree
+      out_shrunk (g.S.PageStore.told c.args.store.now) (g.S.PageStore.free c.args.store.now) c.args.self.now c.shrink-in-Ok-give_back.result
+      c.args.k.now (g.S.PageStore.told c.give_back-in-Ok-Only.new.store) (g.S.PageStore.free c.give_back-in-Ok-Only.new.store)
+      c.shrink-in-Ok-give_back.new.self
+      (record { root = c.in-Ok-Only.child; height = c.args.self.now.height - 1; records = c.args.self.now.records - 1 })
+      c.shrink-in-Ok-give_back.ensures.tree
       (λ rs w. out_only c.args.k.now (g.S.PageStore.told c.args.store.now) (g.S.PageStore.told c.remove_under.new.store)
       (g.S.PageStore.told c.give_back-in-Ok-Only.new.store) (g.S.PageStore.free c.args.store.now) (g.S.PageStore.free c.remove_under.new.store)
       (g.S.PageStore.free c.give_back-in-Ok-Only.new.store) c.in-Ok-Only.child c.args.self.now rs c.if-self-eq0.false
@@ -259,10 +263,12 @@ returns-in-Ok-give_back-clause-removes g c = record {
 pub returns-in-Ok-give_back-clause-sound : goal.returns-in-Ok-give_back-clause-sound
 returns-in-Ok-give_back-clause-sound g c =
     let found = rw c.in-Ok-Only.field-0-is at c.in-Ok-Only.ensures in
-    shrunk_sound (g.S.PageStore.told c.args.store.now) (g.S.PageStore.free c.args.store.now) (g.S.PageStore.size c.args.store.now) c.args.self.now c.shrink-in-Ok-give_back.result (c.args.self.now.height - 1 ≡ 0 → (c.in-Ok-Only.child ≡ 0)
+    shrunk_sound (g.S.PageStore.told c.args.store.now) (g.S.PageStore.free c.args.store.now) (g.S.PageStore.size c.args.store.now) c.args.self.now
+    c.shrink-in-Ok-give_back.result (c.args.self.now.height - 1 ≡ 0 → (c.in-Ok-Only.child ≡ 0)
     × (c.args.self.now.records ≡ 1)) (1 ≤ c.args.self.now.height - 1 → 2 ≤ c.args.self.now.records) c.shrink-in-Ok-give_back.ensures.sound
     (λ rs w. (
-      λ e. absurd ((one_only (g.S.PageStore.told c.args.store.now) (g.S.PageStore.free c.args.store.now) (g.S.PageStore.size c.args.store.now) c.args.self.now c.args.k.now (g.S.PageStore.told c.remove_under.new.store) (g.S.PageStore.free c.remove_under.new.store) c.in-Ok-Only.child rs
+      λ e. absurd
+          ((one_only (g.S.PageStore.told c.args.store.now) (g.S.PageStore.free c.args.store.now) (g.S.PageStore.size c.args.store.now) c.args.self.now c.args.k.now (g.S.PageStore.told c.remove_under.new.store) (g.S.PageStore.free c.remove_under.new.store) c.in-Ok-Only.child rs
           (record {
             rooted = c.requires.rooted;
             least = (g.met.S.PageStore.in_range c.args.store.now).0;
@@ -279,8 +285,7 @@ returns-in-Ok-give_back-clause-sound g c =
     ))
 
 pub returns-in-Err-clause-goes : goal.returns-in-Err-clause-goes
-returns-in-Err-clause-goes g c = λ rs w n. sound_out c.in-Err.e (g.S.PageStore.told c.args.store.now) (g.S.PageStore.free c.args.store.now)
-    c.args.self.now rs c.if-self-eq0.false c.in-Err.ensures.sound w
+returns-in-Err-clause-goes g c = λ rs w n. sound_out (g.S.PageStore.told c.args.store.now) (g.S.PageStore.free c.args.store.now) c.args.self.now c.in-Err.e rs c.if-self-eq0.false c.in-Err.ensures.sound w
 
 pub returns-in-Ok-Done-clause-goes : goal.returns-in-Ok-Done-clause-goes
 returns-in-Ok-Done-clause-goes g c =
@@ -363,11 +368,13 @@ returns-in-Err-give_back-2-clause-names g c =
 
 pub returns-in-Err-give_back-2-clause-bad : goal.returns-in-Err-give_back-2-clause-bad
 returns-in-Err-give_back-2-clause-bad g c =
-    zero_names (g.S.PageStore.told c.args.store.now) c.args.self.now.height c.args.self.now.root c.in-Err-give_back-2.e c.in-Err-give_back-2.ensures.names
+    zero_names (g.S.PageStore.told c.args.store.now) c.args.self.now.height c.args.self.now.root c.in-Err-give_back-2.e
+    c.in-Err-give_back-2.ensures.names
 
 pub returns-in-Ok-Done-clause-bad : goal.returns-in-Ok-Done-clause-bad
 returns-in-Ok-Done-clause-bad g c =
-    zero_named c.shrink.result (g.S.PageStore.told c.args.store.now) c.args.self.now.height c.args.self.now.root (c.shrink.ensures.names 1 (omega arith))
+    zero_named c.shrink.result (g.S.PageStore.told c.args.store.now) c.args.self.now.height c.args.self.now.root
+    (c.shrink.ensures.names 1 (omega arith))
 
 pub returns-in-Ok-Underfull-clause-bad : goal.returns-in-Ok-Underfull-clause-bad
 returns-in-Ok-Underfull-clause-bad g c =
