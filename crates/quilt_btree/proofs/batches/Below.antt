@@ -63,14 +63,13 @@ pub all_first : (p : Key → Bool) (n : ℕ) (run : List Edit) → list_all p (e
 all_first p n run h = ap (list_all p) (keys_take n run) ∙ all_take p (edit_keys run) n h
 
 -- the leaf was written once
-pub leaf_edited : (told now_told : Option (List (List ℕ))) (free now : ℕ → Bool) (size page : ℕ) (bytes : List ℕ) (is_root : Bool) (b : Bounds)
-    (rs : List Record) (used : List ℕ) (high : Option Key) (leaf new : List Record) (xs : List Edit)
-    → page < size → TellsAll told size → leaf_of bytes ≡ Some new → IsEdited leaf new xs → leaf ≡ rs
-    → list_all (is_below high) (edit_keys xs) ≡ true
-    → Goes (λ old new. new ≡ slice_set old page bytes) told now_told → now ≡ free → (if is_root then 1 else 72) ≤ length new
-    → b.high ≡ high → list_all (is_above b.low) (edit_keys xs) ≡ true → CanEdit told free page 1 is_root b rs used
+pub leaf_edited : {told : Option (List (List ℕ))} (now_told : Option (List (List ℕ))) {free now : ℕ → Bool} (size : ℕ) {page : ℕ} (bytes : List ℕ)
+    {is_root : Bool} {b : Bounds} {rs : List Record} {used : List ℕ} (high : Option Key) (leaf new : List Record) (xs : List Edit) → page < size
+    → TellsAll told size → leaf_of bytes ≡ Some new → IsEdited leaf new xs → leaf ≡ rs → list_all (is_below high) (edit_keys xs) ≡ true
+    → Goes (λ old new. new ≡ slice_set old page bytes) told now_told → now ≡ free → (if is_root then 1 else 72) ≤ length new → b.high ≡ high
+    → list_all (is_above b.low) (edit_keys xs) ≡ true → CanEdit told free page 1 is_root b rs used
     → DidEdit xs told now_told free now page 1 is_root b rs used
-leaf_edited told now_told free now size page bytes is_root b rs used high leaf new xs inside many is d same below wrote same_free least top above can =
+leaf_edited {told = told} now_told {free = free} {now = now} size {page = page} bytes {is_root = is_root} {b = b} {rs = rs} {used = used} high leaf new xs inside many is d same below wrote same_free least top above can =
     let pages = can.pages in
     let s = can.subtree in
     let written = tells_at (λ old new. new ≡ slice_set old page bytes) told now_told pages wrote can.is_told in

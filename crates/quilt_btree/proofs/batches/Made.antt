@@ -47,16 +47,17 @@ module _ (told : Option (List (List ℕ))) (free : ℕ → Bool) (page : ℕ) (i
       differ h = cc
 
 -- the first edits of the run were made where the leaf lies
-pub leaf_made : (told now_told : Option (List (List ℕ))) (free now : ℕ → Bool) (size page least : ℕ) (is_root : Bool) (b : Bounds) (rs : List Record)
-    (used : List ℕ) (high : Option Key) (run : List Edit) (n : ℕ) (old bytes : List ℕ) → page < size → TellsAll told size
-    → IfSome told (λ pages. old ≡ slice_index_or pages page []) → ((rs : List Record) → leaf_of old ≡ Some rs → EditsLeaf least run n rs bytes) → 1 ≤ n
-    → Goes (λ before after. after ≡ slice_set before page bytes) told now_told → least ≡ (if is_root then 1 else 72)
-    → list_all (is_below high) (edit_keys (take n run)) ≡ true → now ≡ free → b.high ≡ high → list_all (is_above b.low) (edit_keys run) ≡ true
+pub leaf_made : {told : Option (List (List ℕ))} (now_told : Option (List (List ℕ))) {free now : ℕ → Bool} (size : ℕ) {page least : ℕ} {is_root : Bool}
+    {b : Bounds} {rs : List Record} {used : List ℕ} (high : Option Key) (run : List Edit) (n : ℕ) (old bytes : List ℕ) → page < size
+    → TellsAll told size → IfSome told (λ pages. old ≡ slice_index_or pages page [])
+    → ((rs : List Record) → leaf_of old ≡ Some rs → EditsLeaf least run n rs bytes) → 1 ≤ n
+    → Goes (λ before after. after ≡ slice_set before page bytes) told now_told → least ≡ (if is_root then 1 else 72) → list_all (is_below high)
+    (edit_keys (take n run)) ≡ true → now ≡ free → b.high ≡ high → list_all (is_above b.low) (edit_keys run) ≡ true
     → CanEdit told free page 1 is_root b rs used → DidEdit (take n run) told now_told free now page 1 is_root b rs used
-leaf_made told now_told free now size page least is_root b rs used high run n old bytes inside many shown edits one wrote lower below same_free top above
+leaf_made {told = told} now_told {free = free} {now = now} size {page = page} {least = least} {is_root = is_root} {b = b} {rs = rs} {used = used} high run n old bytes inside many shown edits one wrote lower below same_free top above
     can =
     let m = edits rs (lent_leaf told free page is_root b rs used old shown can) in
-    leaf_edited told now_told free now size page bytes is_root b rs used high rs (edit_all (take n run) rs) (take n run) inside many m.is
+    leaf_edited now_told size bytes high rs (edit_all (take n run) rs) (take n run) inside many m.is
     (record { is = refl; due = m.due }) refl below wrote same_free
     (subst (λ k. k ≤ length (edit_all (take n run) rs)) lower (m.enough one))
     top (all_first (is_above b.low) n run above) can

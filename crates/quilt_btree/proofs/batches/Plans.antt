@@ -72,9 +72,9 @@ record IsNext (run : List Edit) (n i m : ℕ) : Type 0 where
   pub count_is : m ≡ size_after (take (i + 1) run) n
   pub room : HasRoomFor (take (i + 1) run) n
 
-count_next : (run : List Edit) (n i count m : ℕ) → i < length run → count ≡ size_after (take i run) n → HasRoomFor (take i run) n
+count_next : (run : List Edit) (n i : ℕ) {count m : ℕ} → i < length run → count ≡ size_after (take i run) n → HasRoomFor (take i run) n
     → HasRoom (edit_at run i) count → m ≡ size_behind (edit_at run i) count → IsNext run n i m
-count_next run n i count m lt c h r e =
+count_next run n i {count = count} {m = m} lt c h r e =
     let t = sym (taken run i lt) in
     record {
       count_is = e ∙ ap (size_behind (edit_at run i)) c ∙ sym (size_on (take i run) (edit_at run i) n) ∙ ap (λ l. size_after l n) t;
@@ -87,7 +87,7 @@ module _ (high : Option Key) (run : List Edit) (n least i best count m : ℕ) (l
   pub planned_best : least ≤ m → IsPlanned high run n least (i + 1) (i + 1) m
   planned_best le =
       let s = seen_next high run i lt p.seen below in
-      let x = count_next run n i count m lt p.count_is p.so_far r e in
+      let x = count_next run n i lt p.count_is p.so_far r e in
       record {
         nearer = omega arith;
         most = h;
@@ -101,7 +101,7 @@ module _ (high : Option Key) (run : List Edit) (n least i best count m : ℕ) (l
 
   pub planned_same : IsPlanned high run n least (i + 1) best m
   planned_same =
-      let x = count_next run n i count m lt p.count_is p.so_far r e in
+      let x = count_next run n i lt p.count_is p.so_far r e in
       record {
         nearer = let k = p.nearer in omega (arith, k);
         most = h;

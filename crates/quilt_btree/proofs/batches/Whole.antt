@@ -191,7 +191,7 @@ module _ (told now_told : Option (List (List ℕ))) (free now : ℕ → Bool) (s
       let number : length (edit_all xs rs) ≡ records =
       same (length (edit_all xs rs)) (fewer xs) (more xs) (length rs) t.records records (length_all xs rs rises.ascends did.due) w.number count in (
         did.due,
-        whole_again did.pages did.news now_told free now size t.root t.height records a.used did.becomes.uses
+        whole_again size t.root t.height records
             (edit_all xs rs) did.is tall did.becomes.subtree did.becomes.moves a.can.apart a.balance number,
       )
     where

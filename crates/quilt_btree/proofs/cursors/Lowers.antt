@@ -81,13 +81,12 @@ last_cut [] r h = cc
 last_cut (x ∷ []) r h = ([], cc)
 last_cut (x ∷ y ∷ xs) r h = let m = last_cut (y ∷ xs) r h in (x ∷ m.0, ap (λ l. x ∷ l) m.1)
 
-pub lower_before : (old new newer : Option (List (List ℕ))) (page height child prior i : ℕ) (k : Key) (inner : Inner) (r : Record)
-    → AtFloor old new page height child i k inner → i ≢ 0 → newer ≡ old
-    → prior ≡ slice_index inner.children (i - 1)
+pub lower_before : {old new newer : Option (List (List ℕ))} {page height child prior i : ℕ} {k : Key} {inner : Inner} (r : Record)
+    → AtFloor old new page height child i k inner → i ≢ 0 → newer ≡ old → prior ≡ slice_index inner.children (i - 1)
     → ((rs : List Record) → Spells new child (height - 1) rs → list_all (λ (r : Record). is_le (key_cmp k r.key)) rs ≡ true)
-    → ((rs : List Record) → Spells newer prior (height - 1) rs → last_or None rs ≡ Some r)
-    → (rs : List Record) → Spells old page height rs → IsLast k rs r
-lower_before old new newer page height child prior i k inner r a some t is f g rs s =
+    → ((rs : List Record) → Spells newer prior (height - 1) rs → last_or None rs ≡ Some r) → {rs : List Record} → Spells old page height rs
+    → IsLast k rs r
+lower_before {old = old} {new = new} {newer = newer} {page = page} {height = height} {child = child} {prior = prior} {i = i} {k = k} {inner = inner} r a some t is f g {rs = rs} s =
     let at = leads_below old page height rs inner i k a.some a.above s a.reads a.place in
     let h = f at.here (subst (λ c. Spells new c (height - 1) at.here) (sym a.is_child)
     (along_told old new (slice_index inner.children i) (height - 1) at.here a.told at.spells)) in

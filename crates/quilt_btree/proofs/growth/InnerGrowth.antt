@@ -32,12 +32,11 @@ pub pending_taken : {told : Option (List (List ℕ))} {free : ℕ → Bool} {pag
     {under : List ℕ} → IsPending told free page is_root b inner all under → free page ≡ false
 pending_taken {told = told} {free = free} {page = page} {is_root = is_root} {b = b} {inner = inner} {all = all} {under = under} p = used_not_free free (under ++ page ∷ []) page p.apart (page_in page under)
 
-pub put_done : (told now_told : Option (List (List ℕ))) (free now : ℕ → Bool) (size page height : ℕ) (inner : Inner) (bytes : List ℕ)
-    (is_root : Bool) (b : Bounds) (all : List Record) (under : List ℕ)
-    → page < size → TellsAll told size → IsWritten bytes inner → inner.height ≡ height
-    → Goes (λ old new. new ≡ slice_set old page bytes) told now_told → now ≡ free
+pub put_done : {told : Option (List (List ℕ))} (now_told : Option (List (List ℕ))) {free now : ℕ → Bool} (size : ℕ) {page : ℕ} (height : ℕ)
+    {inner : Inner} (bytes : List ℕ) {is_root : Bool} {b : Bounds} {all : List Record} {under : List ℕ} → page < size → TellsAll told size
+    → IsWritten bytes inner → inner.height ≡ height → Goes (λ old new. new ≡ slice_set old page bytes) told now_told → now ≡ free
     → IsPending told free page is_root b inner all under → DidPut told now_told free now page height is_root b (under ++ page ∷ []) all inserted.Done
-put_done told now_told free now size page height inner bytes is_root b all under inside many is tall wrote same p =
+put_done {told = told} now_told {free = free} {now = now} size {page = page} height {inner = inner} bytes {is_root = is_root} {b = b} {all = all} {under = under} inside many is tall wrote same p =
     let written = tells_at (λ old new. new ≡ slice_set old page bytes) told now_told p.pages wrote p.is_told in
     let news = slice_set p.pages page bytes in
     let becomes = parent_written p.pages free p.below page is_root b inner bytes under all (all_told told size page p.pages many p.is_told inside)
@@ -81,12 +80,12 @@ none_each p under rest first e h =
     right : (u r f : ℕ) → u ≡ r + f → u ≡ 0 → f ≡ 0
     right u r f e h = omega arith
 
-pub put_split : (told now_told : Option (List (List ℕ))) (free now : ℕ → Bool) (size page new height : ℕ) (inner : Inner) (left right : List ℕ)
-    (key : Key) (is_root : Bool) (b : Bounds) (all : List Record) (under : List ℕ)
-    → page < size → new < size → TellsAll told size → AreParts inner left right key → inner.height ≡ height → free new ≡ true → FreesOnly new false free now
-    → Goes (λ old now. now ≡ slice_set (slice_set old page left) new right) told now_told
-    → IsPending told free page is_root b inner all under → DidPut told now_told free now page height is_root b (under ++ page ∷ []) all (inserted.Split key new)
-put_split told now_told free now size page new height inner left right key is_root b all under inside inside_new many h tall t f wrote p =
+pub put_split : {told : Option (List (List ℕ))} (now_told : Option (List (List ℕ))) {free now : ℕ → Bool} (size : ℕ) {page new : ℕ} (height : ℕ)
+    {inner : Inner} (left right : List ℕ) (key : Key) {is_root : Bool} {b : Bounds} {all : List Record} {under : List ℕ} → page < size → new < size
+    → TellsAll told size → AreParts inner left right key → inner.height ≡ height → free new ≡ true → FreesOnly new false free now
+    → Goes (λ old now. now ≡ slice_set (slice_set old page left) new right) told now_told → IsPending told free page is_root b inner all under
+    → DidPut told now_told free now page height is_root b (under ++ page ∷ []) all (inserted.Split key new)
+put_split {told = told} now_told {free = free} {now = now} size {page = page} {new = new} height {inner = inner} left right key {is_root = is_root} {b = b} {all = all} {under = under} inside inside_new many h tall t f wrote p =
     let pages = p.pages in
     let S = Subtree pages (suc p.below) false in
     let news = slice_set (slice_set pages page left) new right in

@@ -53,12 +53,12 @@ at_root told free t rs ne w =
     }
 
 -- a subtree that has come of a tree by an edit is the tree
-pub kept_again : (pages news : List (List ℕ)) (now_told : Option (List (List ℕ))) (free now : ℕ → Bool) (root height records : ℕ)
-    (used uses : List ℕ) (all : List Record)
-    → now_told ≡ Some news → 1 ≤ height → Subtree news height true (root, everywhere) all uses → Moves pages news free now used uses → AreApart free used
+pub kept_again : {pages news : List (List ℕ)} {now_told : Option (List (List ℕ))} {free now : ℕ → Bool} (root height records : ℕ) {used uses : List ℕ}
+    (all : List Record) → now_told ≡ Some news → 1 ≤ height → Subtree news height true (root, everywhere) all uses
+    → Moves pages news free now used uses → AreApart free used
     → HasItsPages now_told now (record { root = root; height = height; records = records }) all
 unfolding tree_again
-kept_again pages news now_told free now root height records used uses all is some s m apart =
+kept_again {pages = pages} {news = news} {now_told = now_told} {free = free} {now = now} root height records {used = used} {uses = uses} all is some s m apart =
     let still = apart_then pages news free now used uses m apart in
     record {
       tree = tree_again news now_told now root height records uses all is some s still;
@@ -82,19 +82,19 @@ module _ (told : Option (List (List ℕ))) (free : ℕ → Bool) (t : Tree) (rs 
       let a = at_root told free t rs ne w in
       f true everywhere rs a.used (insert_can told free size t k rs room a) few
 
-pub kept_split : (r : Record) (told mid_told now_told : Option (List (List ℕ))) (free mid now : ℕ → Bool) (size : ℕ) (t : Tree) (rs : List Record)
-    (key : Key) (right new : ℕ) (bytes : List ℕ) (h : ℕ) → IsRooted size t → TellsAll told size → t.height ≡ suc h
-    → UnderRoot r told mid_told free mid size t (inserted.Split key right) → IsNewRoot t mid_told now_told mid now size key right new bytes
-    → t.height < count_free free size → HasItsPages told free t rs
+pub kept_split : (r : Record) {told : Option (List (List ℕ))} (mid_told now_told : Option (List (List ℕ))) {free : ℕ → Bool} (mid now : ℕ → Bool)
+    {size : ℕ} {t : Tree} {rs : List Record} (key : Key) (right new : ℕ) (bytes : List ℕ) (h : ℕ) → IsRooted size t → TellsAll told size
+    → t.height ≡ suc h → UnderRoot r told mid_told free mid size t (inserted.Split key right)
+    → IsNewRoot t mid_told now_told mid now size key right new bytes → t.height < count_free free size → HasItsPages told free t rs
     → HasItsPages now_told now (record { root = new; height = t.height + 1; records = t.records + 1 }) (put r rs)
-kept_split r told mid_told now_told free mid now size t rs key right new bytes h rooted many tall f is room w =
+kept_split r {told = told} mid_told now_told {free = free} mid now {size = size} {t = t} {rs = rs} key right new bytes h rooted many tall f is room w =
     let ne : t.height ≢ 0 = omega arith in
     let a = at_root told free t rs ne w in
     let did = f true everywhere rs a.used (insert_can told free size t r.key rs room a) in
-    let grown = regrown_split told mid_told now_told did.pages did.news free mid now size t
-    (put r rs) a.used key right new bytes h rooted many tall did.was did.is did.done.1 a.can.apart is in
+    let grown = regrown_split
+    h rooted many tall did.was did.is did.done.1 a.can.apart is in
     let some : 1 ≤ t.height + 1 = omega arith in
-    kept_again did.pages grown.news now_told free now new (t.height + 1) (t.records + 1) a.used grown.uses
+    kept_again new (t.height + 1) (t.records + 1)
     (put r rs) grown.is some grown.subtree grown.moves a.can.apart
 
 module _ (r : Record) (told now_told : Option (List (List ℕ))) (free now : ℕ → Bool) (size : ℕ) (t : Tree) (rs : List Record) where
@@ -104,7 +104,7 @@ module _ (r : Record) (told now_told : Option (List (List ℕ))) (free now : ℕ
       let a = at_root told free t rs ne w in
       let did = f true everywhere rs a.used (insert_can told free size t r.key rs room a) in
       let grown = did.done.1 in
-      kept_again did.pages did.news now_told free now t.root t.height (t.records + 1) a.used grown.uses (put r rs) did.is
+      kept_again t.root t.height (t.records + 1) (put r rs) did.is
       (some_height t.height ne) grown.subtree grown.moves a.can.apart
 
   pub kept_first : (new : ℕ) (bytes : List ℕ) → TellsAll told size → t.height ≡ 0 → leaf_of bytes ≡ Some (r ∷ []) → (1 ≤ new) × (new < size)
@@ -120,7 +120,7 @@ module _ (r : Record) (told now_told : Option (List (List ℕ))) (free now : ℕ
       let here : 1 ≤ times new (new ∷ []) = first (times new (new ∷ [])) (times_here new []) in
       let moves = moves_then (moves_taken pages free now [] new was_free taken)
       (moves_written pages now (new ∷ []) new bytes (used_account now (new ∷ []) new here)) in
-      kept_again pages news now_told free now new 1 1 [] (new ∷ []) (put r rs) (written.1 ∙ ap Some written.2) one
+      kept_again new 1 1 (put r rs) (written.1 ∙ ap Some written.2) one
       (subst (λ l. Subtree news 1 true (new, everywhere) (put r l) (new ∷ [])) (sym no_rs)
       (record { page = ap leaf_of (get_or-set_same pages new bytes [] inside) ∙ leaf; enough = refl; within = refl; is_used = refl }))
       moves (λ p. none_used (free p))
@@ -141,11 +141,11 @@ room_left free now size mid_size height same few room =
     left c d h e f = omega arith
 
 -- a root of the greatest height is not split within the quota
-pub kept_low : (r : Record) (told now_told : Option (List (List ℕ))) (free now : ℕ → Bool) (size : ℕ) (t : Tree) (rs : List Record) (key : Key)
-    (right : ℕ) → t.records < quota size → size ≤ 30000 → t.height ≡ 3
+pub kept_low : (r : Record) {told : Option (List (List ℕ))} (now_told : Option (List (List ℕ))) {free : ℕ → Bool} (now : ℕ → Bool) (size : ℕ)
+    {t : Tree} {rs : List Record} (key : Key) (right : ℕ) → t.records < quota size → size ≤ 30000 → t.height ≡ 3
     → UnderRoot r told now_told free now size t (inserted.Split key right) → t.height < count_free free size → length rs ≡ t.records
     → HasItsPages told free t rs → ⊥
-kept_low r told now_told free now size t rs key right few most tall f room number w =
+kept_low r {told = told} now_told {free = free} now size {t = t} {rs = rs} key right few most tall f room number w =
     let ne : t.height ≢ 0 = omega arith in
     let a = at_root told free t rs ne w in
     let did = f true everywhere rs a.used (insert_can told free size t r.key rs room a) in
@@ -184,7 +184,7 @@ module _ (k : Key) (told now_told : Option (List (List ℕ))) (free now : ℕ �
       → Becomes pages news free now t.root t.height true everywhere a.used (without k rs)
       → HasItsPages now_told now (record { root = t.root; height = t.height; records = t.records - 1 }) (without k rs)
   became a pages news ne is b =
-      kept_again pages news now_told free now t.root t.height (t.records - 1) a.used b.uses (without k rs) is
+      kept_again t.root t.height (t.records - 1) (without k rs) is
       (some_height t.height ne) b.subtree b.moves a.can.apart
 
   pub out_done : t.height ≢ 0 → removals.UnderRoot k told now_told free now t removed.Done → HasItsPages told free t rs
@@ -228,9 +228,9 @@ module _ (k : Key) (told mid now_told : Option (List (List ℕ))) (free between 
       let did = f true everywhere rs a.used a.can in
       let only = did.1.left.1 in
       let grown =
-      removals.regrown_only told mid now_told did.1.pages did.1.news free between now t (without k rs) a.used child did.1.is only a.can.apart tells
+      removals.regrown_only told now_told t did.1.is only a.can.apart tells
       frees in
-      kept_again did.1.pages grown.news now_told free now child (t.height - 1) (t.records - 1) a.used grown.uses (without k rs) grown.is
+      kept_again child (t.height - 1) (t.records - 1) (without k rs) grown.is
       (removals.tall_above did.1.news t.height child (without k rs) only.below only.uses only.is_height only.subtree) grown.subtree grown.moves a.can.apart
 
 module _ (told : Option (List (List ℕ))) (free : ℕ → Bool) (t : Tree) where

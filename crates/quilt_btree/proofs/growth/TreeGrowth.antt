@@ -96,13 +96,12 @@ tree_again news now_told now root height records uses all is some s apart = reco
     once c t h = omega arith
 
 -- A subtree that has come of a whole tree by an edit is the whole tree.
-pub whole_again : (pages news : List (List ℕ)) (now_told : Option (List (List ℕ))) (free now : ℕ → Bool) (size root height records : ℕ)
-    (used uses : List ℕ) (all : List Record)
-    → now_told ≡ Some news → 1 ≤ height → Subtree news height true (root, everywhere) all uses → Moves pages news free now used uses
-    → AreApart free used → ((p : ℕ) → 1 ≤ p → p < size → account free used p ≡ 1) → length all ≡ records
+pub whole_again : {pages news : List (List ℕ)} {now_told : Option (List (List ℕ))} {free now : ℕ → Bool} (size root height records : ℕ)
+    {used uses : List ℕ} (all : List Record) → now_told ≡ Some news → 1 ≤ height → Subtree news height true (root, everywhere) all uses
+    → Moves pages news free now used uses → AreApart free used → ((p : ℕ) → 1 ≤ p → p < size → account free used p ≡ 1) → length all ≡ records
     → IsWhole now_told now size (record { root = root; height = height; records = records }) all
 unfolding tree_again
-whole_again pages news now_told free now size root height records used uses all is some s m apart balance number = record {
+whole_again {pages = pages} {news = news} {now_told = now_told} {free = free} {now = now} size root height records {used = used} {uses = uses} all is some s m apart balance number = record {
   tree = tree_again news now_told now root height records uses all is some s (apart_then pages news free now used uses m apart);
   number = number;
   balance = λ p low high. ap (λ u. account now u p) (append-nil uses) ∙ m.balance p ∙ balance p low high;
@@ -212,7 +211,7 @@ module _ (r : Record) (told now_told : Option (List (List ℕ))) (free now : ℕ
       let did = f true everywhere rs x.used (whole_can told free size t.root t.height r.key rs i.rooted.height x) in
       let grown = did.done.1 in (
         sym (ap not did.done.0),
-        whole_again did.pages did.news now_told free now size t.root t.height (t.records + 1) x.used grown.uses (put r rs) did.is
+        whole_again size t.root t.height (t.records + 1) (put r rs) did.is
             (some_height t.height ne) grown.subtree grown.moves x.apart x.balance (more_records r rs t.records w.number),
       )
 
@@ -280,12 +279,11 @@ pub record IsRegrown (pages : List (List ℕ)) (now_told : Option (List (List �
   pub subtree : Subtree news height true (root, everywhere) all uses
   pub moves : Moves pages news free now used uses
 
-pub regrown_split : (told mid_told now_told : Option (List (List ℕ))) (pages mids : List (List ℕ)) (free mid now : ℕ → Bool) (size : ℕ) (t : Tree)
-    (all : List Record) (used : List ℕ) (key : Key) (right new : ℕ) (bytes : List ℕ) (h : ℕ)
-    → IsRooted size t → TellsAll told size → t.height ≡ suc h → told ≡ Some pages → mid_told ≡ Some mids
-    → Separated pages mids free mid t.root t.height everywhere used all key right → AreApart free used
+pub regrown_split : {told mid_told now_told : Option (List (List ℕ))} {pages mids : List (List ℕ)} {free mid now : ℕ → Bool} {size : ℕ} {t : Tree}
+    {all : List Record} {used : List ℕ} {key : Key} {right new : ℕ} {bytes : List ℕ} (h : ℕ) → IsRooted size t → TellsAll told size → t.height ≡ suc h
+    → told ≡ Some pages → mid_told ≡ Some mids → Separated pages mids free mid t.root t.height everywhere used all key right → AreApart free used
     → IsNewRoot t mid_told now_told mid now size key right new bytes → IsRegrown pages now_told free now new (t.height + 1) used all
-regrown_split told mid_told now_told pages mids free mid now size t all used key right new bytes h rooted many tall was mid_is separated apart is =
+regrown_split {told = told} {mid_told = mid_told} {now_told = now_told} {pages = pages} {mids = mids} {free = free} {mid = mid} {now = now} {size = size} {t = t} {all = all} {used = used} {key = key} {right = right} {new = new} {bytes = bytes} h rooted many tall was mid_is separated apart is =
     let some : 1 ≤ t.height = omega arith in
     let S = Subtree mids (suc h) false in
     let U = separated.rest_uses ++ separated.first_uses in
@@ -349,11 +347,11 @@ module _ (r : Record) (told now_told : Option (List (List ℕ))) (free now : ℕ
       let ne : t.height ≢ 0 = omega arith in
       let x = insert_from told free size t rs i ne w in
       let did = f true everywhere rs x.used (whole_can told free size t.root t.height r.key rs i.rooted.height x) in
-      let grown = regrown_split told mid_told now_told did.pages did.news free mid now size t
-      (put r rs) x.used key right new bytes h i.rooted i.many tall did.was did.is did.done.1 x.apart is in
+      let grown = regrown_split
+      h i.rooted i.many tall did.was did.is did.done.1 x.apart is in
       let some_now : 1 ≤ t.height + 1 = omega arith in (
         sym (ap not did.done.0),
-        whole_again did.pages grown.news now_told free now size new (t.height + 1) (t.records + 1) x.used grown.uses
+        whole_again size new (t.height + 1) (t.records + 1)
             (put r rs) grown.is some_now grown.subtree grown.moves x.apart x.balance (more_records r rs t.records w.number),
       )
 
@@ -376,7 +374,7 @@ module _ (r : Record) (told now_told : Option (List (List ℕ))) (free now : ℕ
       let moves = moves_then (moves_taken pages free now [] new was_free taken)
       (moves_written pages now (new ∷ []) new bytes (used_account now (new ∷ []) new here)) in (
         sym (ap (λ l. not (list_any (has_key r.key) l)) no_rs),
-        whole_again pages news now_told free now size new 1 1 [] (new ∷ []) (put r rs) (written.1 ∙ ap Some written.2) one
+        whole_again size new 1 1 (put r rs) (written.1 ∙ ap Some written.2) one
             (subst (λ l. Subtree news 1 true (new, everywhere) (put r l) (new ∷ [])) (sym no_rs)
             (record { page = ap leaf_of (get_or-set_same pages new bytes [] inside) ∙ leaf; enough = refl; within = refl; is_used = refl }))
             moves apart balance (ap (λ l. length (put r l)) no_rs),

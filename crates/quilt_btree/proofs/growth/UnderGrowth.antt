@@ -178,14 +178,14 @@ pub record IsToTake (r : Record) (told now_told : Option (List (List ℕ))) (fre
   pub moves : Moves pages news free now used (under ++ page ∷ [])
   pub tall : inner.height ≡ height
 
-has_put : (r : Record) (pages mid news : List (List ℕ)) (free between now : ℕ → Bool) (page height : ℕ) (is_root : Bool) (b : Bounds)
-    (rs : List Record) (used more : List ℕ) (o : Inserted)
-    → list_any (has_key r.key) rs ≡ false → Moves pages mid free between used more
-    → HasPut mid news between now page height is_root b more (put r rs) o → HasInserted r pages news free now page height is_root b rs used o
-has_put r pages mid news free between now page height is_root b rs used more inserted.There none m h = absurd h
-has_put r pages mid news free between now page height is_root b rs used more inserted.Done none m h =
+has_put : (r : Record) {pages mid : List (List ℕ)} (news : List (List ℕ)) {free between : ℕ → Bool} (now : ℕ → Bool) (page height : ℕ)
+    (is_root : Bool) (b : Bounds) (rs : List Record) {used more : List ℕ} (o : Inserted) → list_any (has_key r.key) rs ≡ false
+    → Moves pages mid free between used more → HasPut mid news between now page height is_root b more (put r rs) o
+    → HasInserted r pages news free now page height is_root b rs used o
+has_put r {pages = pages} {mid = mid} news {free = free} {between = between} now page height is_root b rs {used = used} {more = more} inserted.There none m h = absurd h
+has_put r {pages = pages} {mid = mid} news {free = free} {between = between} now page height is_root b rs {used = used} {more = more} inserted.Done none m h =
     (none, becomes_then m h)
-has_put r pages mid news free between now page height is_root b rs used more (inserted.Split key right) none m h = (
+has_put r {pages = pages} {mid = mid} news {free = free} {between = between} now page height is_root b rs {used = used} {more = more} (inserted.Split key right) none m h = (
   none,
   record {
     first = h.first;
@@ -303,7 +303,7 @@ module _ (r : Record) (told then_told : Option (List (List ℕ))) (free then_fre
         news = did.news;
         was = x.was;
         is = did.is;
-        done = has_put r x.pages x.news did.news free mid now page height is_root b rs used (x.under ++ page ∷ []) o x.not_there x.moves
+        done = has_put r did.news now page height is_root b rs o x.not_there x.moves
             (subst (λ p. HasPut p did.news mid now page height is_root b (x.under ++ page ∷ []) (put r rs) o) same
             (subst (λ n. HasPut did.pages did.news mid now page n is_root b (x.under ++ page ∷ []) (put r rs) o) x.tall did.done));
       }
@@ -326,13 +326,12 @@ module _ (r : Record) (told then_told : Option (List (List ℕ))) (free then_fre
       left c d h some e f = omega arith
 
 -- an error of the child
-pub sound_under : (e : Stop) (told then_told : Option (List (List ℕ))) (free then_free : ℕ → Bool) (size then_size page height child i : ℕ) (k : Key)
-    (inner : Inner) (is_root : Bool) (b : Bounds) (rs : List Record) (used : List ℕ)
+pub sound_under : (e : Stop) {told : Option (List (List ℕ))} (then_told : Option (List (List ℕ))) {free : ℕ → Bool} (then_free : ℕ → Bool) {size : ℕ}
+    (then_size : ℕ) {page height : ℕ} (child i : ℕ) {k : Key} (inner : Inner) {is_root : Bool} {b : Bounds} {rs : List Record} {used : List ℕ}
     → LeadsToChild told then_told free then_free size then_size page height child i k inner
-    → ((is_root : Bool) (b : Bounds) (rs : List Record) (used : List ℕ)
-    → CanInsert then_told then_free then_size child (height - 1) is_root b k rs used → AreFew rs → IsSound e)
+    → ((is_root : Bool) (b : Bounds) (rs : List Record) (used : List ℕ) → CanInsert then_told then_free then_size child (height - 1) is_root b k rs used → AreFew rs → IsSound e)
     → CanInsert told free size page height is_root b k rs used → AreFew rs → IsSound e
-sound_under e told then_told free then_free size then_size page height child i k inner is_root b rs used l f can few =
+sound_under e {told = told} then_told {free = free} then_free {size = size} then_size {page = page} {height = height} child i {k = k} inner {is_root = is_root} {b = b} {rs = rs} {used = used} l f can few =
     let x = insert_below told then_told free then_free size then_size page height child i k inner is_root b rs used l can in
     f false (child_bounds inner b i) x.at.here x.at.here_used
     (child_can told then_told free then_free size then_size page height child i k inner is_root b rs used l can x)
@@ -343,10 +342,9 @@ sound_under e told then_told free then_free size then_size page height child i k
     fewer n f h l e lt = omega arith
 
 -- a leaf at height 1
-pub sound_leaf : (result : Result Inserted Stop) (told : Option (List (List ℕ))) (free : ℕ → Bool) (size page height : ℕ) (k : Key) → height ≡ 1
+pub sound_leaf : (result : Result Inserted Stop) (told : Option (List (List ℕ))) (free : ℕ → Bool) (size page : ℕ) {height : ℕ} (k : Key) → height ≡ 1
     → IfErr result (λ e. (is_root : Bool) (b : Bounds) (rs : List Record) (used : List ℕ) → CanInsert told free size page 1 is_root b k rs used → IsSound e)
-    → IfErr result (λ e. (is_root : Bool) (b : Bounds) (rs : List Record) (used : List ℕ)
-    → CanInsert told free size page height is_root b k rs used → AreFew rs → IsSound e)
-sound_leaf (Ok o) told free size page height k one f = f
-sound_leaf (Err e) told free size page height k one f =
+    → IfErr result (λ e. (is_root : Bool) (b : Bounds) (rs : List Record) (used : List ℕ) → CanInsert told free size page height is_root b k rs used → AreFew rs → IsSound e)
+sound_leaf (Ok o) told free size page {height = height} k one f = f
+sound_leaf (Err e) told free size page {height = height} k one f =
     λ is_root b rs used can few. f is_root b rs used (subst (λ h. CanInsert told free size page h is_root b k rs used) one can)

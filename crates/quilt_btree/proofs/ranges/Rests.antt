@@ -110,10 +110,10 @@ module _ (told : Option (List (List ℕ))) (t : Tree) (low high : Key) where
       let l = first_so_far told t low high most leaf new rs up c is in
       rest_goes_on told t low low high next most leaf [] new rs up c is l.0 l.1 (same_le low) e
 
-pub rest_next : (told : Option (List (List ℕ))) (t : Tree) (low from high next : Key) (most : ℕ) (leaf old new rs : List Record) (up : Option Key)
-    (c : CameTo told t from high most leaf old new up) (is : IsTree told t rs)
+pub rest_next : {told : Option (List (List ℕ))} {t : Tree} (low from high : Key) {next : Key} (most : ℕ) (leaf old new : List Record)
+    {rs : List Record} {up : Option Key} (c : CameTo told t from high most leaf old new up) (is : IsTree told t rs)
     → Before told t low high most from rs old → up ≡ Some next → Before told t low high most next rs new
-rest_next told t low from high next most leaf old new rs up c is b e =
+rest_next {told = told} {t = t} low from high {next = next} most leaf old new {rs = rs} {up = up} c is b e =
     let l = rest_so_far told t low from high most leaf old new rs up c is b in
     rest_goes_on told t low from high next most leaf old new rs up c is l.0 l.1 b.3 e
 
@@ -145,24 +145,24 @@ none_is None f = refl
 none_is (Some k) f = absurd (f k refl)
 
 -- one leaf after those so far, of which the first is the one at `start`
-pub loop_goes_on : (o : Option Key) (told now : Option (List (List ℕ))) (t : Tree) (high start from next : Key) (most : ℕ)
+pub loop_goes_on : {o : Option Key} {told now : Option (List (List ℕ))} (t : Tree) (high start from : Key) {next : Key} (most : ℕ)
     (first old new : List Record) → now ≡ told → o ≡ Some next
     → ((low : Key) (rs : List Record) → IsTree told t rs → Before told t low high most start rs first → Before told t low high most from rs old)
     → IfSome o (λ k. (low : Key) (rs : List Record) → IsTree now t rs → Before now t low high most from rs old → Before now t low high most k rs new)
     → (low : Key) (rs : List Record) → IsTree told t rs → Before told t low high most start rs first → Before told t low high most next rs new
-loop_goes_on None told now t high start from next most first old new same is s f = cc
-loop_goes_on (Some k) told now t high start from next most first old new same is s f = λ low rs tree b.
+loop_goes_on {o = None} {told = told} {now = now} t high start from {next = next} most first old new same is s f = cc
+loop_goes_on {o = (Some k)} {told = told} {now = now} t high start from {next = next} most first old new same is s f = λ low rs tree b.
     let e : k ≡ next = cc in
     subst (λ n. Before told t low high most n rs new) e
     (along_before now told t low high most k rs new (sym same)
     (f low rs (along_tree told now t rs same tree) (along_before told now t low high most from rs old same (s low rs tree b))))
 
-pub loop_ends : (o : Option Key) (told now : Option (List (List ℕ))) (t : Tree) (high start from : Key) (most : ℕ) (first old new : List Record)
+pub loop_ends : {o : Option Key} {told now : Option (List (List ℕ))} (t : Tree) (high start from : Key) (most : ℕ) (first old new : List Record)
     → now ≡ told → o ≡ None
     → ((low : Key) (rs : List Record) → IsTree told t rs → Before told t low high most start rs first → Before told t low high most from rs old)
     → (o ≡ None → (low : Key) (rs : List Record) → IsTree now t rs → Before now t low high most from rs old → new ≡ range_of low high most rs)
     → (low : Key) (rs : List Record) → IsTree told t rs → Before told t low high most start rs first → new ≡ range_of low high most rs
-loop_ends o told now t high start from most first old new same is s f = λ low rs tree b.
+loop_ends {o = o} {told = told} {now = now} t high start from most first old new same is s f = λ low rs tree b.
     f is low rs (along_tree told now t rs same tree) (along_before told now t low high most from rs old same (s low rs tree b))
 
 pub loop_sound : (e : Stop) (told now : Option (List (List ℕ))) (t : Tree) (high start from : Key) (most : ℕ) (first old : List Record) → now ≡ told

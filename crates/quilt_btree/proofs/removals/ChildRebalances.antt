@@ -66,9 +66,9 @@ module _ (told mid : Option (List (List ℕ))) (free between : ℕ → Bool) (pa
       let m = rebalances n.pages n.is_told d in
       let apart = subst (AreApart free) n.is_used n.apart in
       let S = Subtree m.news (suc below) false in
-      let changed = middle_changed S n.pages m.news free between below page (same_subtree m.news below) (front n.cut.ca n.cut.ka b) ((left, gap) ∷ [])
+      let changed = middle_changed S below page (same_subtree m.news below) (front n.cut.ca n.cut.ka b) ((left, gap) ∷ [])
       (rear n.cut.cb n.cut.kb b.high) n.first n.here n.last
-      n.first_used n.here_used n.last_used m.done.uses n.under apart n.is_under n.row_before n.row_behind
+      n.first_used n.last_used apart n.is_under n.row_before n.row_behind
       (row_one S (left, gap) n.here m.done.uses m.done.subtree) m.done.moves in
       let kids : remove inner.children (suc j) ≡ n.cut.ca ++ left ∷ n.cut.cb =
       ap (λ x. remove x (suc j)) n.cut.children ∙ remove_second n.cut.ca left right n.cut.cb j (n.cut.before ∙ n.cut.place) in
@@ -127,10 +127,10 @@ module _ (told : Option (List (List ℕ))) (free : ℕ → Bool) (page below : �
           records = m.done.records;
           is_used = refl;
         }) in
-        let changed = middle_changed S n.pages m.news free between below page (same_subtree m.news below) (front n.cut.ca n.cut.ka b)
+        let changed = middle_changed S below page (same_subtree m.news below) (front n.cut.ca n.cut.ka b)
         (low ∷ high ∷ [])
         (rear n.cut.cb n.cut.kb b.high) n.first n.here n.last
-        n.first_used n.here_used n.last_used uses n.under apart n.is_under n.row_before n.row_behind two m.done.moves in
+        n.first_used n.last_used apart n.is_under n.row_before n.row_behind two m.done.moves in
         let keys = set_is in
         let fits = separated_ascends told mid free between page below inner j left key right is_root b rs used separator n d in
         let row = subst (λ x. Row S x (n.first ++ (n.here ++ n.last)) changed.uses)

@@ -44,7 +44,7 @@ module _ (told : Option (List (List ℕ))) (free : ℕ → Bool) (page height : 
       → (s : HasUnderfull told free page height inner i is_root b rs used)
       → Neighbours told free page s.below inner j left key right is_root b rs used
   chosen is_root b rs used c s =
-      neighbours told free page height inner i is_root b rs used s j next left key right c.in_range c.one c.is_next c.is_left c.is_right c.is_key
+      neighbours s j key c.in_range c.one c.is_next c.is_left c.is_right c.is_key
 
   -- the two can be rebalanced
   pub sound_rebalance : (e : Stop) → Choice told page inner i j next left key right

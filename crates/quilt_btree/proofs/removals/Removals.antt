@@ -59,9 +59,9 @@ places_cut inner b i lt n =
 one_less : (height below : ℕ) → height ≡ suc (suc below) → height - 1 ≡ suc below
 one_less height below e = omega arith
 
-total : (p : ℕ) (used under l h f : List ℕ) (page : ℕ) → used ≡ under ++ page ∷ [] → under ≡ (l ++ h) ++ f
+total : (p : ℕ) {used under : List ℕ} (l h f : List ℕ) (page : ℕ) → used ≡ under ++ page ∷ [] → under ≡ (l ++ h) ++ f
     → times p used ≡ times p l + times p h + times p f + times p (page ∷ [])
-total p used under l h f page e g = ap (times p) e ∙ times-append p under (page ∷ []) ∙ ap (λ n. n + times p (page ∷ [])) (ap (times p) g ∙ times-three p l h f)
+total p {used = used} {under = under} l h f page e g = ap (times p) e ∙ times-append p under (page ∷ []) ∙ ap (λ n. n + times p (page ∷ [])) (ap (times p) g ∙ times-three p l h f)
 
 module _ (told : Option (List (List ℕ))) (free : ℕ → Bool) (page height : ℕ) where
   pub at_inner : (inner : Inner) (i : ℕ) (k : Key) (is_root : Bool) (b : Bounds) (rs : List Record) (used : List ℕ) → 1 ≤ height → height ≢ 1
@@ -131,7 +131,7 @@ module _ (told mid : Option (List (List ℕ))) (free was : ℕ → Bool) (page h
             (subst (λ n. Subtree a.pages (suc a.below) false (n, child_bounds inner b i) at.here at.here_used) (sym c) s);
         apart =
             apart_some was at.here_used used (λ p. inside (times p used) (times p at.last_used) (times p at.here_used) (times p at.first_used)
-            (times p (page ∷ [])) (total p used a.under at.last_used at.here_used at.first_used page a.is_used at.is_used))
+            (times p (page ∷ [])) (total p at.last_used at.here_used at.first_used page a.is_used at.is_used))
             (subst (λ g. AreApart g used) (sym f) a.apart);
       }
     where
@@ -202,11 +202,11 @@ module _ (k : Key) (told mid between : Option (List (List ℕ))) (free was then 
       let l = child_left k told mid between free was
       then page height child i inner is_root false b rs used a c.is_mid c.is_free c.is_child did.1.pages did.1.news did.1.was did.1.is did.1.left in
       let S = Subtree l.news (suc a.below) false in
-      let changed = middle_changed S a.pages l.news free
-      then a.below page (same_subtree l.news a.below) (front (take i inner.children) (take i inner.keys) b)
+      let changed = middle_changed S
+      a.below page (same_subtree l.news a.below) (front (take i inner.children) (take i inner.keys) b)
       ((slice_index inner.children i, child_bounds inner b i) ∷ [])
       (tail_places (drop (suc i) inner.children) (drop i inner.keys) (from_keys (take i inner.keys) b)) at.first
-      (without k at.here) at.last at.first_used at.here_used at.last_used l.uses a.under (subst (AreApart free) a.is_used a.apart) at.is_used
+      (without k at.here) at.last at.first_used at.last_used (subst (AreApart free) a.is_used a.apart) at.is_used
       at.row_before at.row_behind (row_one S (slice_index inner.children i, child_bounds inner b i) (without k at.here) l.uses l.subtree) l.moves in
       let row = subst (λ x. Row S x (at.first ++ (without k at.here ++ at.last)) changed.uses) (sym (places_cut inner b i a.in_range a.list.keys))
       changed.row in
@@ -241,16 +241,16 @@ pub record UnderfullChild (k : Key) (between : Option (List (List ℕ))) (free t
   pub moves : Moves pages mids free then used more
 
 -- what is left behind two edits
-left_then : (pages mids news : List (List ℕ)) (free then now : ℕ → Bool) (page height : ℕ) (is_root : Bool) (b : Bounds) (used more : List ℕ)
-    (all : List Record) (o : Removed) → height ≢ 1 → Moves pages mids free then used more
+left_then : {pages mids : List (List ℕ)} (news : List (List ℕ)) {free then : ℕ → Bool} (now : ℕ → Bool) (page height : ℕ) (is_root : Bool)
+    (b : Bounds) {used more : List ℕ} (all : List Record) (o : Removed) → height ≢ 1 → Moves pages mids free then used more
     → HasLeft mids news then now page height is_root b more all o → HasLeft pages news free now page height is_root b used all o
-left_then pages mids news free then now page height is_root b used more all removed.Missing ne m l = l
-left_then pages mids news free then now page height is_root b used more all removed.Done ne m l = becomes_then
+left_then {pages = pages} {mids = mids} news {free = free} {then = then} now page height is_root b {used = used} {more = more} all removed.Missing ne m l = l
+left_then {pages = pages} {mids = mids} news {free = free} {then = then} now page height is_root b {used = used} {more = more} all removed.Done ne m l = becomes_then
     m l
-left_then pages mids news free then now page height is_root b used more all removed.Underfull ne m l =
+left_then {pages = pages} {mids = mids} news {free = free} {then = then} now page height is_root b {used = used} {more = more} all removed.Underfull ne m l =
     (l.0, becomes_then m l.1)
-left_then pages mids news free then now page height is_root b used more all removed.Emptied ne m l = absurd (ne l.is_leaf)
-left_then pages mids news free then now page height is_root b used more all (removed.Only child) ne m l =
+left_then {pages = pages} {mids = mids} news {free = free} {then = then} now page height is_root b {used = used} {more = more} all removed.Emptied ne m l = absurd (ne l.is_leaf)
+left_then {pages = pages} {mids = mids} news {free = free} {then = then} now page height is_root b {used = used} {more = more} all (removed.Only child) ne m l =
     let c = l.1 in (
       l.0,
       record {
@@ -274,8 +274,8 @@ did_leave told {between = between} {now_told = now_told} {free = free} {then = t
       news = d.news;
       was = e;
       is = d.is;
-      left = left_then pages mids d.news free
-          then now page height is_root b used more all o ne m (subst (λ p. HasLeft p d.news then now page height is_root b more all o) same d.left);
+      left = left_then d.news
+          now page height is_root b all o ne m (subst (λ p. HasLeft p d.news then now page height is_root b more all o) same d.left);
     }
   where
     some_same : (x y : List (List ℕ)) → Some x ≡ Some y → x ≡ y
@@ -312,11 +312,11 @@ module _ (k : Key) (told mid between : Option (List (List ℕ))) (free was then 
       let here : T (underfull, child_bounds inner b i) (without k at.here) l.uses =
       subst (λ r. Subtree l.news (suc a.below) r (underfull, child_bounds inner b i) (without k at.here) l.uses) (sym (self_test underfull))
       l.subtree in
-      let changed = middle_changed T a.pages l.news free
-      then a.below page (to_partly l.news a.below underfull) (front (take i inner.children) (take i inner.keys) b)
+      let changed = middle_changed T
+      a.below page (to_partly l.news a.below underfull) (front (take i inner.children) (take i inner.keys) b)
       ((underfull, child_bounds inner b i) ∷ [])
       (tail_places (drop (suc i) inner.children) (drop i inner.keys) (from_keys (take i inner.keys) b)) at.first
-      (without k at.here) at.last at.first_used at.here_used at.last_used l.uses a.under (subst (AreApart free) a.is_used a.apart) at.is_used
+      (without k at.here) at.last at.first_used at.last_used (subst (AreApart free) a.is_used a.apart) at.is_used
       at.row_before at.row_behind (row_one T (underfull, child_bounds inner b i) (without k at.here) l.uses here) l.moves in
       let row = subst (λ x. Row T x (at.first ++ (without k at.here ++ at.last)) changed.uses) (sym (places_cut inner b i a.in_range a.list.keys))
       changed.row in

@@ -86,7 +86,7 @@ module _ (k : Key) (told now_told : Option (List (List ℕ))) (free now : ℕ �
       (without k rs)
   root_became a pages news ne had is becomes = (
     sym had,
-    whole_again pages news now_told free now size t.root t.height (t.records - 1) a.used becomes.uses (without k rs) is
+    whole_again size t.root t.height (t.records - 1) (without k rs) is
         (some_height t.height ne) becomes.subtree becomes.moves a.can.apart a.balance (a.fewer k had),
   )
 
@@ -169,11 +169,11 @@ tall_above news height child rs below uses e s =
     down : (h below : ℕ) → h ≡ suc below → h - 1 ≡ 0 → below ≡ 0
     down h below e f = omega arith
 
-pub regrown_only : (told mid now_told : Option (List (List ℕ))) (pages mids : List (List ℕ)) (free between now : ℕ → Bool) (t : Tree)
-    (all : List Record) (used : List ℕ) (child : ℕ) → mid ≡ Some mids
+pub regrown_only : (told : Option (List (List ℕ))) {mid : Option (List (List ℕ))} (now_told : Option (List (List ℕ))) {pages mids : List (List ℕ)}
+    {free between now : ℕ → Bool} (t : Tree) {all : List Record} {used : List ℕ} {child : ℕ} → mid ≡ Some mids
     → OnlyChild pages mids free between t.root t.height everywhere used all child → AreApart free used → Goes (HasGiven t.root) mid now_told
     → FreesOnly t.root true between now → IsRegrown pages now_told free now child (t.height - 1) used all
-regrown_only told mid now_told pages mids free between now t all used child mid_is only apart_used tells frees =
+regrown_only told {mid = mid} now_told {pages = pages} {mids = mids} {free = free} {between = between} {now = now} t {all = all} {used = used} {child = child} mid_is only apart_used tells frees =
     let on = tells_on (HasGiven t.root) mid now_told mids mid_is tells in
     let apart = apart_then pages mids free between used (only.uses ++ t.root ∷ []) only.moves apart_used in
     let is_used = used_not_free between (only.uses ++ t.root ∷ []) t.root apart
@@ -235,10 +235,10 @@ module _ (k : Key) (told mid now_told : Option (List (List ℕ))) (free between 
       let a = at_root told free size t rs i w in
       let did = f true everywhere rs a.used a.can in
       let only = did.1.left.1 in
-      let grown = regrown_only told mid now_told did.1.pages did.1.news free between now t (without k rs) a.used child did.1.is only a.can.apart tells
+      let grown = regrown_only told now_told t did.1.is only a.can.apart tells
       frees in (
         sym did.0,
-        whole_again did.1.pages grown.news now_told free now size child (t.height - 1) (t.records - 1) a.used grown.uses (without k rs) grown.is
+        whole_again size child (t.height - 1) (t.records - 1) (without k rs) grown.is
             (tall_above did.1.news t.height child (without k rs) only.below only.uses only.is_height only.subtree)
             grown.subtree grown.moves a.can.apart a.balance (a.fewer k did.0),
       )

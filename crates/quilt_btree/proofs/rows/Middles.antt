@@ -67,10 +67,9 @@ pub record CutTwo (cs : List ℕ) (ks : List Key) (j left : ℕ) (key : Key) (ri
   pub behind : length cb ≡ length kb
   pub place : length ka ≡ j
 
-pub cut_two : (cs : List ℕ) (ks : List Key) (j next left : ℕ) (key : Key) (right : ℕ) → length cs ≡ length ks + 1 → j + 1 < length cs → next ≡ suc j
-    → left ≡ slice_index cs j → right ≡ slice_index cs next → slice_get ks j ≡ Some key
-    → CutTwo cs ks j left key right
-cut_two cs ks j next left key right n lt nx l r k =
+pub cut_two : (cs : List ℕ) (ks : List Key) (j : ℕ) {next left : ℕ} (key : Key) {right : ℕ} → length cs ≡ length ks + 1 → j + 1 < length cs
+    → next ≡ suc j → left ≡ slice_index cs j → right ≡ slice_index cs next → slice_get ks j ≡ Some key → CutTwo cs ks j left key right
+cut_two cs ks j {next = next} {left = left} key {right = right} n lt nx l r k =
     let here : j < length cs = omega arith in
     let there : suc j < length cs = omega arith in
     let low : j ≤ length cs = omega arith in
@@ -160,14 +159,13 @@ pub record RowChanged (T : Reading) (pages news : List (List ℕ)) (free now : �
   pub page_stays : slice_index_or news page [] ≡ slice_index_or pages page []
 
 -- The children before and behind stay, and those in the middle become others by an edit of their pages.
-pub middle_changed : (T : Reading) (pages news : List (List ℕ)) (free now : ℕ → Bool) (h page : ℕ)
-    → ((c : ℕ × Bounds) (ss : List Record) (u : List ℕ) → Subtree news (suc h) false c ss u → T c ss u)
-    → (before others behind : List (ℕ × Bounds)) (first all last : List Record) (fu hu lu uses under : List ℕ) → AreApart free (under ++ page ∷ [])
-    → under ≡ (lu ++ hu) ++ fu
-    → Row (Subtree pages (suc h) false) before first fu → Row (Subtree pages (suc h) false) behind last lu → Row T others all uses
-    → Moves pages news free now hu uses
-    → RowChanged T pages news free now page (before ++ (others ++ behind)) (first ++ (all ++ last)) under
-middle_changed T pages news free now h page embed before others behind first all last fu hu lu uses under apart is row_before row_behind row moves =
+pub middle_changed : (T : Reading) {pages news : List (List ℕ)} {free now : ℕ → Bool} (h page : ℕ)
+    → ((c : ℕ × Bounds) (ss : List Record) (u : List ℕ) → Subtree news (suc h) false c ss u → T c ss u) → (before others behind : List (ℕ × Bounds))
+    (first all last : List Record) (fu : List ℕ) {hu : List ℕ} (lu : List ℕ) {uses under : List ℕ} → AreApart free (under ++ page ∷ [])
+    → under ≡ (lu ++ hu) ++ fu → Row (Subtree pages (suc h) false) before first fu → Row (Subtree pages (suc h) false) behind last lu
+    → Row T others all uses → Moves pages news free now hu uses → RowChanged T pages news free now page (before ++ (others ++ behind))
+    (first ++ (all ++ last)) under
+middle_changed T {pages = pages} {news = news} {free = free} {now = now} h page embed before others behind first all last fu {hu = hu} lu {uses = uses} {under = under} apart is row_before row_behind row moves =
     let total : (p : ℕ) → times p (under ++ page ∷ []) ≡ times p lu + times p hu + times p fu + times p (page ∷ []) =
     λ p. times-append p under (page ∷ []) ∙ ap (λ n. n + times p (page ∷ [])) (ap (times p) is ∙ times-three p lu hu fu) in
     let total_now : (p : ℕ) → times p (((lu ++ uses) ++ fu) ++ page ∷ []) ≡ times p lu + times p uses + times p fu + times p (page ∷ []) =

@@ -245,13 +245,13 @@ leads_on told height i k inner rs start at leaf high l = record {
   here_under = l.here_under;
 }
 
-pub leads_up : (r : Result Found Stop) (leaf : List Record) (old new : Option (List (List ℕ))) (page height child i : ℕ) (k : Key) (inner : Inner)
-    (start high : Option Key) → new ≡ old → 1 ≤ height → height ≢ 1
-    → ReadsInner old page inner → IsPlace inner.keys k i → child ≡ slice_index inner.children i → high ≡ option_or (slice_get inner.keys i) start
+pub leads_up : (r : Result Found Stop) (leaf : List Record) {old new : Option (List (List ℕ))} (page height : ℕ) {child i : ℕ} {k : Key}
+    (inner : Inner) (start : Option Key) {high : Option Key} → new ≡ old → 1 ≤ height → height ≢ 1 → ReadsInner old page inner
+    → IsPlace inner.keys k i → child ≡ slice_index inner.children i → high ≡ option_or (slice_get inner.keys i) start
     → IfOk r (λ f. (rs : List Record) (s : Spells new child (height - 1) rs) → s.bounds.high ≡ high → LeadsTo k rs leaf high f.high)
     → IfOk r (λ f. (rs : List Record) (s : Spells old page height rs) → s.bounds.high ≡ start → LeadsTo k rs leaf start f.high)
-leads_up (Err e) leaf old new page height child i k inner start high t some ne reads p e1 e2 f = f
-leads_up (Ok v) leaf old new page height child i k inner start high t some ne reads p e1 e2 f = λ rs s h.
+leads_up (Err e) leaf {old = old} {new = new} page height {child = child} {i = i} {k = k} inner start {high = high} t some ne reads p e1 e2 f = f
+leads_up (Ok v) leaf {old = old} {new = new} page height {child = child} {i = i} {k = k} inner start {high = high} t some ne reads p e1 e2 f = λ rs s h.
     let at = subst (λ o. LeadsBelow old height inner i k rs o) h (leads_below old page height rs inner i k some ne s reads p) in
     let same : at.high ≡ high = at.is_next ∙ sym e2 in
     let here : Spells new (slice_index inner.children i) (height - 1) at.here =
@@ -350,13 +350,12 @@ module _ (old new : Option (List (List ℕ))) (page height child i : ℕ) (k : K
       ap (last_or None) (sym (at.none_before zero_place)) ∙ ap (λ o. option_or o (last_or None at.first)) here
       ∙ sym (floor_between k at.first at.here at.last rs at.among)
 
-pub floor_before : (old new newer : Option (List (List ℕ))) (page height child prior i : ℕ) (k : Key) (inner : Inner) (r : Record)
-    → AtFloor old new page height child i k inner → i ≢ 0 → newer ≡ old
-    → prior ≡ slice_index inner.children (i - 1)
+pub floor_before : {old new newer : Option (List (List ℕ))} {page height child prior i : ℕ} {k : Key} {inner : Inner} (r : Record)
+    → AtFloor old new page height child i k inner → i ≢ 0 → newer ≡ old → prior ≡ slice_index inner.children (i - 1)
     → ((rs : List Record) → Spells new child (height - 1) rs → None ≡ floor_of k rs)
-    → ((rs : List Record) → Spells newer prior (height - 1) rs → last_or None rs ≡ Some r)
-    → (rs : List Record) → Spells old page height rs → Some r ≡ floor_of k rs
-floor_before old new newer page height child prior i k inner r a some t is f g rs s =
+    → ((rs : List Record) → Spells newer prior (height - 1) rs → last_or None rs ≡ Some r) → {rs : List Record} → Spells old page height rs
+    → Some r ≡ floor_of k rs
+floor_before {old = old} {new = new} {newer = newer} {page = page} {height = height} {child = child} {prior = prior} {i = i} {k = k} {inner = inner} r a some t is f g {rs = rs} s =
     let at = leads_below old page height rs inner i k a.some a.above s a.reads a.place in
     let here =
     f at.here (subst (λ c. Spells new c (height - 1) at.here) (sym a.is_child)

@@ -279,11 +279,11 @@ no_besides (Err e) told height inner i f = no_beside told height inner i e f
     no_beside told height inner i e n = λ q is ne. absurd (ne (zero q (subst (NamesPage 1) is n)))
 
 -- the leaf beside a child
-pub names_beside : (told : Option (List (List ℕ))) (height : ℕ) (inner : Inner) (i j left right child spare : ℕ) (e : Stop) → 2 ≤ height
-    → j + 1 < length inner.children
-    → left ≡ slice_index inner.children j → right ≡ slice_index inner.children (j + 1) → child ≡ slice_index inner.children i
-    → (spare ≢ 0 → ((spare ≡ left) ⊎ (spare ≡ right)) × (spare ≢ child)) → NamesSpare told (height - 1) spare e → NamesBeside told height inner i e
-names_beside told height inner i j left right child spare e many lt l r c other names = λ q is ne.
+pub names_beside : (told : Option (List (List ℕ))) (height : ℕ) (inner : Inner) (i j : ℕ) {left right child : ℕ} (spare : ℕ) (e : Stop) → 2 ≤ height
+    → j + 1 < length inner.children → left ≡ slice_index inner.children j → right ≡ slice_index inner.children (j + 1)
+    → child ≡ slice_index inner.children i → (spare ≢ 0 → ((spare ≡ left) ⊎ (spare ≡ right)) × (spare ≢ child)) → NamesSpare told (height - 1) spare e
+    → NamesBeside told height inner i e
+names_beside told height inner i j {left = left} {right = right} {child = child} spare e many lt l r c other names = λ q is ne.
     let n = names q is ne in
     let o = other n.1 in
     let two : height ≡ 2 = let h = n.0 in omega arith in
@@ -306,15 +306,14 @@ names_beside told height inner i j left right child spare e many lt l r c other 
     }
 
 -- and it is bad at the call, since it was not written
-pub beside_named : {T : Type 0} (result : Result T Stop) (told mid now : Option (List (List ℕ))) (page height size i child : ℕ) (bytes : List ℕ)
-    (inner : Inner)
-    → IsRead told mid page height size bytes → inner_of size bytes ≡ Some inner → child ≡ slice_index inner.children i
-    → (height - 1 ≡ 1 → Goes (OthersStay child) mid now) → IfErr result (NamesBeside now height inner i)
+pub beside_named : {T : Type 0} (result : Result T Stop) {told mid : Option (List (List ℕ))} (now : Option (List (List ℕ))) {page height size : ℕ}
+    (i : ℕ) {child : ℕ} {bytes : List ℕ} (inner : Inner) → IsRead told mid page height size bytes → inner_of size bytes ≡ Some inner
+    → child ≡ slice_index inner.children i → (height - 1 ≡ 1 → Goes (OthersStay child) mid now) → IfErr result (NamesBeside now height inner i)
     → IfErr result (λ e. e ≢ Damaged 0 → NamesBad told height page e)
-beside_named (Ok v) told mid now page height size i child bytes inner r is c others f = f
-beside_named (Err Device) told mid now page height size i child bytes inner r is c others f = λ ne. tt
-beside_named (Err Memory) told mid now page height size i child bytes inner r is c others f = λ ne. tt
-beside_named (Err (Damaged q)) told mid now page height size i child bytes inner r is c others f = λ ne.
+beside_named (Ok v) {told = told} {mid = mid} now {page = page} {height = height} {size = size} i {child = child} {bytes = bytes} inner r is c others f = f
+beside_named (Err Device) {told = told} {mid = mid} now {page = page} {height = height} {size = size} i {child = child} {bytes = bytes} inner r is c others f = λ ne. tt
+beside_named (Err Memory) {told = told} {mid = mid} now {page = page} {height = height} {size = size} i {child = child} {bytes = bytes} inner r is c others f = λ ne. tt
+beside_named (Err (Damaged q)) {told = told} {mid = mid} now {page = page} {height = height} {size = size} i {child = child} {bytes = bytes} inner r is c others f = λ ne.
     let b = f q refl (λ z. ne (ap Damaged z)) in
     let one : height - 1 ≡ 1 = let t = b.two in omega arith in
     let l = inner_list size bytes inner is in

@@ -66,7 +66,7 @@ step_led d v leaf f rs s top =
     let is = d.is_read in
     let h = page_here is s in
     let st = d.steps h.inner h.is in
-    leads_up (Ok v) leaf d.old d.new d.page d.height d.child st.place d.key h.inner d.start d.next is.told is.some is.above h.reads st.is_place
+    leads_up (Ok v) leaf d.page d.height h.inner d.start is.told is.some is.above h.reads st.is_place
     st.child_is st.next_is f rs s top
 
 step_cut : (d : Down) (leaf : List Record) (high : Option Key)
@@ -77,7 +77,7 @@ step_cut d leaf high f g =
     let up : (rs : List Record) → Spells d.old d.page d.height rs → IsCut d.old d.page d.height d.key d.start leaf high = λ rs s.
     let h = page_here is s in
     let st = d.steps h.inner h.is in
-    cut_up d.old d.new d.page d.height d.child st.place d.key h.inner d.start d.next leaf high
+    cut_up d.old d.page d.height st.place h.inner d.start
     (record { told = is.told; some = is.some; above = is.above; reads = h.reads; place = st.is_place; is_child = st.child_is }) st.next_is f g in
     record {
       starts = λ pages rs t s top e. (up rs s).starts pages rs t s top e;

@@ -79,14 +79,12 @@ module _ (old new : Option (List (List ℕ))) (page height child i : ℕ) (k : K
       (part_free (under ++ more) under more h1 b c refl (g pages (at.told ∙ is)))
 
 -- the last record before it too
-pub floor_touched_more : (old new newer : Option (List (List ℕ))) (page height child prior i : ℕ) (k : Key) (inner : Inner)
-    (h0 h1 h2 h3 : Option (List ℕ)) → AtFloor old new page height child i k inner
-    → i ≡ place_of k inner → i ≢ 0 → newer ≡ old → prior ≡ slice_index inner.children (i - 1)
-    → ((pages : List (List ℕ)) → new ≡ Some pages → finds_floor pages k (height - 1) child ≡ false)
+pub floor_touched_more : {old new newer : Option (List (List ℕ))} {page height child prior i : ℕ} {k : Key} {inner : Inner}
+    (h0 h1 h2 h3 : Option (List ℕ)) → AtFloor old new page height child i k inner → i ≡ place_of k inner → i ≢ 0 → newer ≡ old
+    → prior ≡ slice_index inner.children (i - 1) → ((pages : List (List ℕ)) → new ≡ Some pages → finds_floor pages k (height - 1) child ≡ false)
     → Goes (Touches page) h0 h1 → TouchesInTurn (λ pages. floor_pages pages k (height - 1) child) new h1 h2
-    → TouchesInTurn (λ pages. last_pages pages (height - 1) prior) newer h2 h3
-    → TouchesInTurn (λ pages. floor_pages pages k height page) old h0 h3
-floor_touched_more old new newer page height child prior i k inner h0 h1 h2 h3 a place ne told was lacks t f g = λ pages is.
+    → TouchesInTurn (λ pages. last_pages pages (height - 1) prior) newer h2 h3 → TouchesInTurn (λ pages. floor_pages pages k height page) old h0 h3
+floor_touched_more {old = old} {new = new} {newer = newer} {page = page} {height = height} {child = child} {prior = prior} {i = i} {k = k} {inner = inner} h0 h1 h2 h3 a place ne told was lacks t f g = λ pages is.
     let under = floor_pages pages k (height - 1) child in
     let more = last_pages pages (height - 1) prior in
     let parts : floor_pages pages k height page ≡ page ∷ (under ++ more) =
@@ -95,14 +93,13 @@ floor_touched_more old new newer page height child prior i k inner h0 h1 h2 h3 a
     more_turns (floor_pages pages k height page) (page ∷ []) (under ++ more) h0 h1 h3 parts (one_turn (page ∷ []) page h0 h1 refl t)
     (more_turns (under ++ more) under more h1 h2 h3 refl (f pages (a.told ∙ is)) (g pages (told ∙ is)))
 
-pub floor_again_more : (old new newer : Option (List (List ℕ))) (page height child prior i : ℕ) (k : Key) (inner : Inner)
-    (h0 h1 h2 : Option (List ℕ)) (a b c d : Option ℕ) → AtFloor old new page height child i k inner
-    → i ≡ place_of k inner → i ≢ 0 → newer ≡ old → prior ≡ slice_index inner.children (i - 1)
-    → ((pages : List (List ℕ)) → new ≡ Some pages → finds_floor pages k (height - 1) child ≡ false)
+pub floor_again_more : {old new newer : Option (List (List ℕ))} {page height child prior i : ℕ} {k : Key} {inner : Inner} (h0 h1 h2 : Option (List ℕ))
+    (a b c d : Option ℕ) → AtFloor old new page height child i k inner → i ≡ place_of k inner → i ≢ 0 → newer ≡ old
+    → prior ≡ slice_index inner.children (i - 1) → ((pages : List (List ℕ)) → new ≡ Some pages → finds_floor pages k (height - 1) child ≡ false)
     → Goes (Touches page) h0 h1 → OneFree page h0 a b → TouchesInTurn (λ pages. floor_pages pages k (height - 1) child) new h1 h2
-    → ReadsNone (λ pages. floor_pages pages k (height - 1) child) new h1 b c
-    → ReadsNone (λ pages. last_pages pages (height - 1) prior) newer h2 c d → ReadsNone (λ pages. floor_pages pages k height page) old h0 a d
-floor_again_more old new newer page height child prior i k inner h0 h1 h2 a b c d at place ne told was lacks t f s g l = λ pages is.
+    → ReadsNone (λ pages. floor_pages pages k (height - 1) child) new h1 b c → ReadsNone (λ pages. last_pages pages (height - 1) prior) newer h2 c d
+    → ReadsNone (λ pages. floor_pages pages k height page) old h0 a d
+floor_again_more {old = old} {new = new} {newer = newer} {page = page} {height = height} {child = child} {prior = prior} {i = i} {k = k} {inner = inner} h0 h1 h2 a b c d at place ne told was lacks t f s g l = λ pages is.
     let under = floor_pages pages k (height - 1) child in
     let more = last_pages pages (height - 1) prior in
     let parts : floor_pages pages k height page ≡ page ∷ (under ++ more) =

@@ -14,7 +14,7 @@ use Rattle.quilt_btree.proofs.inserting.+insert_under.Goals as goal
 pub returns-then-height-eq1-clause-sound : goal.returns-then-height-eq1-clause-sound
 returns-then-height-eq1-clause-sound g t c =
     sound_leaf c.insert_leaf.result (g.S.PageStore.told c.args.store.now) (g.S.PageStore.free c.args.store.now) (g.S.PageStore.size c.args.store.now)
-    c.args.page c.args.height c.args.r.now.key c.if-height-eq1.true c.insert_leaf.ensures.sound
+    c.args.page c.args.r.now.key c.if-height-eq1.true c.insert_leaf.ensures.sound
 
 pub returns-in-Err-clause-sound : goal.returns-in-Err-clause-sound
 returns-in-Err-clause-sound g t c is_root b rs used can few =
@@ -26,10 +26,10 @@ returns-in-Err-insert_under-clause-sound g t c is_root b rs used can few =
     let h = c.in-Ok.ensures.here c.args.height rs c.requires.height c.if-height-eq1.false
     (edit_spells (g.S.PageStore.told c.args.store.now) (g.S.PageStore.free c.args.store.now) c.args.page c.args.height is_root b rs used can.can_edit) in
     let w = c.in-Ok.ensures.way h.inner h.is in
-    sound_under c.in-Err-insert_under.e (g.S.PageStore.told c.args.store.now) (g.S.PageStore.told c.read_way.new.store)
-    (g.S.PageStore.free c.args.store.now) (g.S.PageStore.free c.read_way.new.store)
-    (g.S.PageStore.size c.args.store.now) (g.S.PageStore.size c.read_way.new.store) c.args.page c.args.height c.in-Ok.way.child c.in-Ok.way.place
-    c.args.r.now.key h.inner is_root b rs used
+    sound_under c.in-Err-insert_under.e (g.S.PageStore.told c.read_way.new.store)
+    (g.S.PageStore.free c.read_way.new.store)
+    (g.S.PageStore.size c.read_way.new.store) c.in-Ok.way.child c.in-Ok.way.place
+    h.inner
     (record {
       same = record { same_pages = c.in-Ok.ensures.left.told; same_free = c.in-Ok.ensures.left.free; same_size = c.in-Ok.ensures.left.size };
       some = c.requires.height;

@@ -11,9 +11,9 @@ returns-in-Err-clause-sound g c is_root b all under p room low = c.in-Err.ensure
 
 pub returns-in-Ok-clause-put : goal.returns-in-Ok-clause-put
 returns-in-Ok-clause-put g c is_root b all under p =
-    put_done (g.S.PageStore.told c.args.store.now) (g.S.PageStore.told c.write_page.new.store) (g.S.PageStore.free c.args.store.now)
-    (g.S.PageStore.free c.write_page.new.store) (g.S.PageStore.size c.args.store.now)
-    c.args.page c.args.inner.now.height _ c.bytes.result.now is_root b all under c.requires.page.1 (g.met.S.PageStore.as_many c.args.store.now)
+    put_done (g.S.PageStore.told c.write_page.new.store)
+    (g.S.PageStore.size c.args.store.now)
+    c.args.inner.now.height c.bytes.result.now c.requires.page.1 (g.met.S.PageStore.as_many c.args.store.now)
     (subst (λ (x : Inner). IsWritten c.bytes.result.now x) c.insert.ensures c.bytes.ensures.inner) refl c.in-Ok.ensures.told c.in-Ok.ensures.free p
 
 pub returns-in-Err-write_split-clause-sound : goal.returns-in-Err-write_split-clause-sound
@@ -28,10 +28,10 @@ returns-in-Ok-write_split-clause-put g c is_root b all under p =
     let behind : suc c.args.i ≤ length c.args.inner.now.children = let q = c.requires.place in omega arith in
     let full : length (insert c.args.inner.now.children (suc c.args.i) c.args.child) ≡ 255 =
     omega (arith, length-insert c.args.inner.now.children (suc c.args.i) c.args.child behind) in
-    put_split (g.S.PageStore.told c.args.store.now) (g.S.PageStore.told c.write_split.new.store) (g.S.PageStore.free c.args.store.now)
-    (g.S.PageStore.free c.write_split.new.store) (g.S.PageStore.size c.args.store.now)
-    c.args.page c.in-Ok-write_split.new c.args.inner.now.height (with_child c.args.inner.now c.args.i c.args.key.now c.args.child)
-    c.bytes-2.result.now c.bytes-3.result.now c.insert_split-right.result.0 is_root b all under
+    put_split (g.S.PageStore.told c.write_split.new.store)
+    (g.S.PageStore.size c.args.store.now)
+    c.args.inner.now.height
+    c.bytes-2.result.now c.bytes-3.result.now c.insert_split-right.result.0
     c.requires.page.1 c.in-Ok-write_split.ensures.page.1 (g.met.S.PageStore.as_many c.args.store.now)
     (record {
       full = full;

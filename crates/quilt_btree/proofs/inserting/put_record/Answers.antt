@@ -30,10 +30,8 @@ returns-in-Ok-write_split-clause-put g c is_root b rs used same can =
     let e = c.len.ensures.length in
     let r = c.len.ensures.range in
     let f = c.if-len-lt-MOST_RECORDS.false in
-    leaf_split (g.S.PageStore.told c.args.store.now) (g.S.PageStore.told c.write_split.new.store) (g.S.PageStore.free c.args.store.now)
-    (g.S.PageStore.free c.write_split.new.store) (g.S.PageStore.size c.args.store.now)
-    c.args.page c.in-Ok-write_split.new c.args.i c.args.r.now c.bytes-2.result.now c.bytes-3.result.now c.rec.result.key c.rec.result is_root b rs
-    used
+    leaf_split (g.S.PageStore.told c.write_split.new.store)
+    c.args.i c.args.r.now c.bytes-2.result.now c.bytes-3.result.now c.rec.result.key c.rec.result
     (record {
       inside = c.requires.page.1;
       many = g.met.S.PageStore.as_many c.args.store.now;

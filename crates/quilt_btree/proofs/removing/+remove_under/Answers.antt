@@ -264,9 +264,9 @@ returns-in-Some-clause-bad g t c =
     let same : c.pages.result ≡ g.S.PageStore.size c.args.store.now = c.pages.ensures ∙ c.in-Ok-Underfull.ensures.left.size ∙ c.in-Ok.ensures.left.size in
     let is : inner_of (g.S.PageStore.size c.args.store.now) c.read_way.new.bytes ≡ Some c.in-Some.inner =
     subst (λ n. inner_of n c.read_way.new.bytes ≡ Some c.in-Some.inner) same c.in-Some.ensures.inner in
-    beside_named c.rebalance_child.result (g.S.PageStore.told c.args.store.now) (g.S.PageStore.told c.read_way.new.store)
-    (g.S.PageStore.told c.remove_under.new.store) c.args.page c.args.height (g.S.PageStore.size c.args.store.now) c.in-Ok.way.place c.in-Ok.way.child
-    c.read_way.new.bytes c.in-Some.inner
+    beside_named c.rebalance_child.result
+    (g.S.PageStore.told c.remove_under.new.store) c.in-Ok.way.place
+    c.in-Some.inner
     (read_ok (g.S.PageStore.told c.args.store.now) (g.S.PageStore.told c.read_way.new.store) c.args.page c.args.height
     (g.S.PageStore.size c.args.store.now) (g.S.PageStore.size c.args.store.now) c.read_way.new.bytes c.requires.height c.if-height-eq1.false
     c.in-Ok.ensures.left.told (g.met.S.PageStore.as_many c.args.store.now) refl c.in-Ok.ensures.bytes)

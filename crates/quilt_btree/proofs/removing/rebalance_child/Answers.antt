@@ -92,9 +92,8 @@ returns-in-Ok-clause-leaves g c =
 
 pub returns-in-Err-clause-bad : goal.returns-in-Err-clause-bad
 returns-in-Err-clause-bad g c =
-    names_beside (g.S.PageStore.told c.args.store.now) c.args.height c.args.inner.now c.args.i c.pair_at-j.result c.child-left.result
-    c.child-right.result
-    c.child.result c.other_of-spare.result _ c.requires.height (subst (λ n. c.pair_at-j.result + 1 < n) c.len.ensures.length c.pair_at-j.ensures.both)
+    names_beside (g.S.PageStore.told c.args.store.now) c.args.height c.args.inner.now c.args.i c.pair_at-j.result
+    c.other_of-spare.result _ c.requires.height (subst (λ n. c.pair_at-j.result + 1 < n) c.len.ensures.length c.pair_at-j.ensures.both)
     c.child-left.ensures.child c.child-right.ensures.child c.child.ensures.child c.other_of-spare.ensures c.in-Err.ensures.bad
 
 pub returns-in-Ok-Joined-clause-bad : goal.returns-in-Ok-Joined-clause-bad

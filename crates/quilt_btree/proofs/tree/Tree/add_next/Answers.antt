@@ -61,8 +61,8 @@ returns-in_default-clause-goes_on g c = record {
       search rules;
   goes_on =
       rw c.in-Some.is (λ low rs is b.
-      rest_next (g.S.PageStore.told c.args.store.now) c.args.self.now low c.args.from.now c.args.high.now c.in-Some.field-0 c.args.most
-      (records_of c.in-Ok-add_at.ensures.adds.bytes) c.args.records.now.items c.add_at.new.records.items rs c.in-Ok.found.high (record {
+      rest_next low c.args.from.now c.args.high.now c.args.most
+      (records_of c.in-Ok-add_at.ensures.adds.bytes) c.args.records.now.items c.add_at.new.records.items (record {
         some = let h = c.requires.height in omega arith;
         leads = (c.in-Ok.ensures.arrives c.in-Ok-add_at.ensures.adds.bytes (told_before _ _ _ _ (sym c.in-Ok.ensures.left.told) c.in-Ok-add_at.ensures.adds.are)).leads;
         cut = (c.in-Ok.ensures.arrives c.in-Ok-add_at.ensures.adds.bytes (told_before _ _ _ _ (sym c.in-Ok.ensures.left.told) c.in-Ok-add_at.ensures.adds.are)).cut;

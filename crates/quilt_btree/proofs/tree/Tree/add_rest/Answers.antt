@@ -20,8 +20,8 @@ loop-k-preserved g c =
     let adds = if_some c.in_ok-k.field-0 c.in-Some.k (vec_len c.loop-k.records < vec_len c.add_next.new.records) c.in-Some.is
     c.in_ok-k.ensures.goes_on.adds in
     record {
-      goes_on = loop_goes_on c.in_ok-k.field-0 (g.S.PageStore.told c.args.store.now) (g.S.PageStore.told c.loop-k.store) c.args.self.now
-          c.args.high.now c.args.from.now c.loop-k.next c.in-Some.k c.args.most c.args.records.now.items c.loop-k.records.items
+      goes_on = loop_goes_on c.args.self.now
+          c.args.high.now c.args.from.now c.loop-k.next c.args.most c.args.records.now.items c.loop-k.records.items
           c.add_next.new.records.items
           c.loop-k.invariant.left.told c.in-Some.is c.loop-k.invariant.goes_on c.in_ok-k.ensures.goes_on.goes_on;
       room = c.in_ok-k.ensures.grows.room;
@@ -38,7 +38,7 @@ loop-k-preserved g c =
 
 pub returns-clause-rest : goal.returns-clause-rest
 returns-clause-rest g c =
-    loop_ends c.in_ok-k.field-0 (g.S.PageStore.told c.args.store.now) (g.S.PageStore.told c.loop-k.store)
+    loop_ends
     c.args.self.now c.args.high.now c.args.from.now c.loop-k.next c.args.most c.args.records.now.items c.loop-k.records.items
     c.add_next.new.records.items
     c.loop-k.invariant.left.told (none_is c.in_ok-k.field-0 c.in_default.not-Some) c.loop-k.invariant.goes_on c.in_ok-k.ensures.goes_on.ends

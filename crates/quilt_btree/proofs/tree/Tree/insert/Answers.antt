@@ -192,10 +192,10 @@ returns-in-Ok-write_new-clause-inserts g c = record {
       rw c.in-Ok-Split.field-0-is at c.in-Ok-Split.ensures.leaves.right in
       let new_in : (1 ≤ c.in-Ok-write_new.root) × (c.in-Ok-write_new.root < (g.S.PageStore.size c.args.store.now)) =
       subst (λ n. (1 ≤ c.in-Ok-write_new.root) × (c.in-Ok-write_new.root < n)) c.in-Ok-Split.ensures.left.size c.in-Ok-write_new.ensures.page in
-      kept_split c.args.r.now (g.S.PageStore.told c.args.store.now) (g.S.PageStore.told c.insert_under.new.store)
-      (g.S.PageStore.told c.write_new-in-Ok-Split.new.store) (g.S.PageStore.free c.args.store.now) (g.S.PageStore.free c.insert_under.new.store)
+      kept_split c.args.r.now (g.S.PageStore.told c.insert_under.new.store)
+      (g.S.PageStore.told c.write_new-in-Ok-Split.new.store) (g.S.PageStore.free c.insert_under.new.store)
       (g.S.PageStore.free c.write_new-in-Ok-Split.new.store)
-      (g.S.PageStore.size c.args.store.now) c.args.self.now rs c.in-Ok-Split.key c.in-Ok-Split.right c.in-Ok-write_new.root
+      c.in-Ok-Split.key c.in-Ok-Split.right c.in-Ok-write_new.root
       c.bytes-in-Ok-Split.result.now (c.args.self.now.height - 1)
       c.requires.rooted (g.met.S.PageStore.as_many c.args.store.now) tall (rw c.in-Ok-Split.field-0-is at c.in-Ok-Split.ensures.inserted)
       (record {
@@ -214,9 +214,9 @@ returns-in-Err-clause-goes g c rs w n room = c.in-Err.ensures.sound (let r = roo
 
 pub returns-then-self-eq3-clause-goes : goal.returns-then-self-eq3-clause-goes
 returns-then-self-eq3-clause-goes g c rs w n room =
-    absurd (kept_low c.args.r.now (g.S.PageStore.told c.args.store.now) (g.S.PageStore.told c.insert_under.new.store)
-    (g.S.PageStore.free c.args.store.now) (g.S.PageStore.free c.insert_under.new.store) (g.S.PageStore.size c.args.store.now)
-    c.args.self.now rs c.in-Ok-Split.key c.in-Ok-Split.right
+    absurd (kept_low c.args.r.now (g.S.PageStore.told c.insert_under.new.store)
+    (g.S.PageStore.free c.insert_under.new.store) (g.S.PageStore.size c.args.store.now)
+    c.in-Ok-Split.key c.in-Ok-Split.right
     c.requires.room (g.met.S.PageStore.in_range c.args.store.now).1 c.if-self-eq3.true (rw c.in-Ok-Split.field-0-is at c.in-Ok-Split.ensures.inserted)
     room n w)
 
