@@ -117,6 +117,41 @@ fn fits(inner: &InnerPage, i: usize, k: &Key) -> bool
     is_over(inner, i, k) && is_under(inner, i, k)
 }
 
+/// Puts key `i` and child `i + 1` into a full inner page, which is split, and writes both halves. It stands by itself so that the page on the right is
+/// cleared only here.
+fn split_child<S: PageStore>(
+    store: &mut S,
+    page: u32,
+    inner: &mut InnerPage,
+    i: usize,
+    key: &Key,
+    child: u32,
+) -> Result<Inserted, Stop>
+    requires page { (1 ≤ page) × (page < S.size store.old) }
+    requires children { are_pages (S.size store.old) inner.old.children ≡ true }
+    requires place { (i < length inner.old.children) × (length inner.old.children ≡ 254) }
+    requires child { 1 ≤ child }
+    requires order { is_ascending (insert inner.old.keys i key.now) ≡ true }
+    ensures put { IfOk result (λ o. (is_root : Bool) (b : Bounds) (all : List Record) (under : List ℕ)
+        → IsPending (S.told store.old) (S.free store.old) page is_root b (with_child inner.old i key.now child) all under
+        → DidPut (S.told store.old) (S.told store.new) (S.free store.old) (S.free store.new) page inner.old.height is_root b (under ++ page ∷ []) all o) }
+    ensures sound { IfErr result (λ e. (is_root : Bool) (b : Bounds) (all : List Record) (under : List ℕ)
+        → IsPending (S.told store.old) (S.free store.old) page is_root b (with_child inner.old i key.now child) all under
+        → 0 < count_free (S.free store.old) (S.size store.old) → IsSound e) }
+    ensures leaves { LeavesPut S.PageStore store.old store.new result }
+    ensures names { IfErr result (NamesPage 1) }
+    ensures left { EditsWithin S.PageStore 2 0 store.old store.new result }
+{
+    let (separator, right) = inner.insert_split(i, key, child);
+    match write_split(store, page, inner.bytes(), right.bytes()) {
+        Err(e) => Err(e),
+        Ok(new) => Ok(Inserted::Split {
+            key: separator,
+            right: new,
+        }),
+    }
+}
+
 /// Puts key `i` and child `i + 1` into an inner page, and writes it to its page. One at height 3, where the root stands, is not
 /// split: page 0 is said to be damaged then, before anything is written.
 pub fn put_child<S: PageStore>(
@@ -155,14 +190,7 @@ pub fn put_child<S: PageStore>(
     if inner.height() == 3 {
         return Err(Stop::Damaged { page: 0 });
     }
-    let (separator, right) = inner.insert_split(i, key, child);
-    match write_split(store, page, inner.bytes(), right.bytes()) {
-        Err(e) => Err(e),
-        Ok(new) => Ok(Inserted::Split {
-            key: separator,
-            right: new,
-        }),
-    }
+    split_child(store, page, inner, i, key, child)
 }
 
 /// Puts a record into the subtree at a page.
