@@ -1,5 +1,6 @@
 -- A subtree that is edited in one leaf.
 use Rattle.std.proofs.Common.{◌≡◌, ℕ, zero, suc, ◌+◌, ◌-◌, ◌<◌, ◌≤◌, Bool, true, false, ◌&&◌, List, [], ◌∷◌, ◌++◌, length, take, drop}
+use Rattle.std.proofs.lemmas.Bool.{and_from, and_parts}
 use Rattle.std.proofs.Common.{Option, Some, Result, Ok, Err, IfOk, IfErr, slice_index, slice_set, refl, sym, ◌∙◌, ap, subst, arith, get_or-set_same}
 use Rattle.std.specs.Prelude.{slice_get, if◌then◌else◌}
 use Rattle.std.specs.List.{list_all}
@@ -36,7 +37,6 @@ use Rattle.quilt_btree.proofs.stores.Writes.{tells_at, TellsAll, all_told}
 use Rattle.quilt_btree.proofs.subtrees.Along.{IsSame}
 use Rattle.quilt_btree.proofs.subtrees.Descents.{child_bounds}
 use Rattle.quilt_btree.proofs.subtrees.Trees.{all_both}
-use Rattle.quilt_btree.proofs.subtrees.Walks.{and_parts, and_both}
 use Rattle.quilt_btree.proofs.ways.Forks.{IsRead, page_here}
 use Rattle.quilt_btree.proofs.ways.Steps.{StepsTo}
 
@@ -107,7 +107,7 @@ all_above_child inner b i k [] p h g = refl
 all_above_child inner b i k (x ∷ xs) p h g =
     let s = and_parts (is_above b.low x) (list_all (is_above b.low) xs) h in
     let t = and_parts (is_le (key_cmp k x)) (list_all (λ x. is_le (key_cmp k x)) xs) g in
-    and_both (is_above (child_bounds inner b i).low x) (list_all (is_above (child_bounds inner b i).low) xs)
+    and_from (is_above (child_bounds inner b i).low x) (list_all (is_above (child_bounds inner b i).low) xs)
     (subst (λ o. is_above o x ≡ true) (sym (child_low (drop i inner.keys) (from_keys (take i inner.keys) b)))
     (above_from (take i inner.keys) b x
     (all_follow (λ l. is_le (key_cmp l k)) (λ l. is_le (key_cmp l x)) (λ l e. le_le l k x e t.0) (take i inner.keys) p.before) s.0))

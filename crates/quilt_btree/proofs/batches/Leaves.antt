@@ -1,5 +1,6 @@
 -- Edits that are made one after the other, in a leaf and in a list.
 use Rattle.std.proofs.Common.{◌≡◌, ℕ, zero, suc, ◌+◌, ◌<◌, Bool, true, false, not, ◌&&◌, List, [], ◌∷◌, ◌++◌, length, take, drop, get_or}
+use Rattle.std.proofs.lemmas.Bool.{and_from, and_parts}
 use Rattle.std.proofs.Common.{Option, refl, sym, ◌∙◌, ap, subst, arith, add-one, take-append-drop}
 use Rattle.std.specs.List.{list_all, insert, remove}
 use Rattle.std.specs.Ordering.{is_lt}
@@ -15,7 +16,6 @@ use Rattle.quilt_btree.specs.declared.edit.Edit.TheVariants as edit
 use Rattle.quilt_btree.specs.Batches.{key_of, edit_keys, is_due, edited, edit_all, are_due}
 use Rattle.quilt_btree.proofs.lists.Lists.{IsAmong, put_between, without_between, any_between}
 use Rattle.quilt_btree.proofs.removals.Drains.{AreAmong, head_among, rest_among}
-use Rattle.quilt_btree.proofs.subtrees.Walks.{and_parts, and_both}
 use Rattle.quilt_btree.proofs.ways.Leaves.{put_gap, without_found}
 
 -- the gap where a record was
@@ -90,8 +90,8 @@ module _ (leaf now : List Record) where
       let e = edit_at run i in
       subst (IsEdited leaf new) (sym (taken run i lt)) (record {
         is = is ∙ ap (edited e) d.is ∙ sym (edit_all-append xs (e ∷ []) leaf);
-        due = are_due-append xs (e ∷ []) leaf ∙ and_both (are_due xs leaf) (is_due e (edit_all xs leaf) && true) d.due
-            (and_both (is_due e (edit_all xs leaf)) true (subst (λ l. is_due e l ≡ true) d.is due) refl);
+        due = are_due-append xs (e ∷ []) leaf ∙ and_from (are_due xs leaf) (is_due e (edit_all xs leaf) && true) d.due
+            (and_from (is_due e (edit_all xs leaf)) true (subst (λ l. is_due e l ≡ true) d.is due) refl);
       })
 
   pub edited_fails : (run : List Edit) (i : ℕ) → i < length run → IsEdited leaf now (take i run) → is_due (edit_at run i) now ≡ false
@@ -141,8 +141,8 @@ are_due_between first here last rs (x ∷ xs) e a =
     both a b c d h g = cc
 
 all_on : (p : Key → Bool) (xs : List Key) (x : Key) → list_all p xs ≡ true → p x ≡ true → list_all p (xs ++ x ∷ []) ≡ true
-all_on p [] x h g = and_both (p x) true g refl
-all_on p (y ∷ xs) x h g = let t = and_parts (p y) (list_all p xs) h in and_both (p y) (list_all p (xs ++ x ∷ [])) t.0 (all_on p xs x t.1 g)
+all_on p [] x h g = and_from (p x) true g refl
+all_on p (y ∷ xs) x h g = let t = and_parts (p y) (list_all p xs) h in and_from (p y) (list_all p (xs ++ x ∷ [])) t.0 (all_on p xs x t.1 g)
 
 pub seen_next : (high : Option Key) (run : List Edit) (i : ℕ) → i < length run → list_all (is_below high) (edit_keys (take i run)) ≡ true
     → is_below high (key_of (edit_at run i)) ≡ true → list_all (is_below high) (edit_keys (take (i + 1) run)) ≡ true

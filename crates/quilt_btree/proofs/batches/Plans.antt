@@ -1,5 +1,6 @@
 -- How many records a leaf has behind each edit of a run.
 use Rattle.std.proofs.Common.{◌≡◌, ℕ, zero, suc, ◌+◌, ◌-◌, ◌<◌, ◌≤◌, true, List, [], ◌∷◌, ◌++◌, length, take, set}
+use Rattle.std.proofs.lemmas.Bool.{and_parts}
 use Rattle.std.proofs.Common.{Option, Some, refl, sym, ◌∙◌, ap, subst, arith}
 use Rattle.std.specs.List.{list_all, insert, remove}
 use Rattle.quilt_record.specs.declared.key.Key.{Key}
@@ -13,7 +14,6 @@ use Rattle.quilt_btree.specs.Batches.{key_of, edit_keys, is_due, edited, edit_al
 use Rattle.quilt_btree.proofs.batches.Leaves.{edit_at, taken, seen_next, IsEdited, edited_next, put_over_many}
 use Rattle.quilt_btree.proofs.batches.Whole.{asc_edited, length_edited}
 use Rattle.quilt_btree.proofs.subtrees.Trees.{leaf_list}
-use Rattle.quilt_btree.proofs.subtrees.Walks.{and_parts}
 
 -- one edit more
 pub size_on : (xs : List Edit) (e : Edit) (n : ℕ) → size_after (xs ++ e ∷ []) n ≡ size_behind e (size_after xs n)

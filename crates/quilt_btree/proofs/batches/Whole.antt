@@ -1,5 +1,6 @@
 -- A whole tree behind edits.
 use Rattle.std.proofs.Common.{◌≡◌, ◌≢◌, ℕ, zero, suc, ◌+◌, ◌-◌, ◌<◌, ◌≤◌, Bool, true, false, not, ◌&&◌, ◌||◌, filter, List, [], ◌∷◌, ◌++◌, length, take, drop}
+use Rattle.std.proofs.lemmas.Bool.{and_from, and_parts, or_parts}
 use Rattle.std.proofs.Common.{Option, None, Result, Ok, Err, IfOk, IfErr, refl, sym, ◌∙◌, ap, subst, arith, take-append-drop, length-drop}
 use Rattle.std.proofs.Common.{◌*◌}
 use Rattle.std.proofs.Common.{Ordering, Less, Equal, Greater}
@@ -36,7 +37,6 @@ use Rattle.quilt_btree.proofs.removals.Drains.{asc_without}
 use Rattle.quilt_btree.proofs.removals.TreeRemovals.{IsRemoving, at_root}
 use Rattle.quilt_btree.proofs.subtrees.Holdings.{subtree_some}
 use Rattle.quilt_btree.proofs.subtrees.Trees.{subtree_rises, ascending_first, ascending_rest}
-use Rattle.quilt_btree.proofs.subtrees.Walks.{and_parts, and_both}
 
 -- counts of runs
 pub more-append : (xs ys : List Edit) → more (xs ++ ys) ≡ more xs + more ys
@@ -98,16 +98,12 @@ other_way a b h g = on (key_cmp a b) (key_cmp b a) (key_total.antisymm a b) h g
         no true h g = cc
         no false h g = cc
 
-or_none : (a b : Bool) → (a || b) ≡ false → (a ≡ false) × (b ≡ false)
-or_none true b h = cc
-or_none false b h = (refl, h)
-
 asc_step : (r s : Record) (rs : List Record) (b : Bool) → is_lt (key_cmp r.key s.key) ≡ b → is_ascending (keys_of (s ∷ rs)) ≡ true
     → list_any (has_key r.key) (s ∷ rs) ≡ false → is_ascending (keys_of (put r rs)) ≡ true
     → is_ascending (keys_of (if b then r ∷ s ∷ rs else s ∷ put r rs)) ≡ true
-asc_step r s rs true e a none h = and_both (is_lt (key_cmp r.key s.key)) (is_ascending (keys_of (s ∷ rs))) e a
+asc_step r s rs true e a none h = and_from (is_lt (key_cmp r.key s.key)) (is_ascending (keys_of (s ∷ rs))) e a
 asc_step r s rs false e a none h =
-    let n = or_none (has_key r.key s) (list_any (has_key r.key) rs) none in
+    let n = or_parts (has_key r.key s) (list_any (has_key r.key) rs) none in
     ascending_cons s.key (keys_of (put r rs))
     (within_put (λ m. is_lt (key_cmp s.key m)) r rs (other_way r.key s.key e n.0) (ascending_first s.key (keys_of rs) a)) h
 
@@ -116,7 +112,7 @@ pub asc_put : (r : Record) (rs : List Record) → is_ascending (keys_of rs) ≡ 
 asc_put r [] a none = refl
 asc_put r (s ∷ rs) a none =
     asc_step r s rs (is_lt (key_cmp r.key s.key)) refl a none
-    (asc_put r rs (ascending_rest s.key (keys_of rs) a) (or_none (has_key r.key s) (list_any (has_key r.key) rs) none).1)
+    (asc_put r rs (ascending_rest s.key (keys_of rs) a) (or_parts (has_key r.key s) (list_any (has_key r.key) rs) none).1)
 
 pub gone : (k : Key) (rs : List Record) → list_any (has_key k) (without k rs) ≡ false
 unfolding without
@@ -266,7 +262,7 @@ made_rest told mid now_told free was now size at i n t u v run same made rooted 
       whole = λ rs w.
           let h = made.whole rs w in
           let g = f (edit_all xs rs) (subst (λ m. IsWhole mid was m u (edit_all xs rs)) (sym same) h.1) in (
-            are_due-append xs ys rs ∙ and_both (are_due xs rs) (are_due ys (edit_all xs rs)) h.0 g.0,
+            are_due-append xs ys rs ∙ and_from (are_due xs rs) (are_due ys (edit_all xs rs)) h.0 g.0,
             subst (λ l. IsWhole now_told now size v l) (sym (edit_all-append xs ys rs))
                 (subst (λ m. IsWhole now_told now m v (edit_all ys (edit_all xs rs))) same g.1),
           );

@@ -1,5 +1,6 @@
 -- The record of the greatest key below one, in a leaf and in a subtree, and the step of a cursor back over it.
 use Rattle.std.proofs.Common.{◌≡◌, ◌≢◌, ℕ, suc, ◌-◌, ◌<◌, ◌≤◌, true, List, [], ◌∷◌, ◌++◌, length, take, drop, Option, Some, None}
+use Rattle.std.proofs.lemmas.Bool.{and_from, and_parts}
 use Rattle.std.proofs.Common.{refl, sym, ◌∙◌, ap, subst, append_assoc, slice_index, arith}
 use Rattle.std.specs.Prelude.{slice_get}
 use Rattle.std.specs.List.{list_all, last_or}
@@ -20,7 +21,6 @@ use Rattle.quilt_btree.proofs.lists.Rising.{all_append, all_map}
 use Rattle.quilt_btree.proofs.lists.RisingApart.{all_under, ascending_back}
 use Rattle.quilt_btree.proofs.subtrees.Descending.{AtFloor, leads_below, along_told}
 use Rattle.quilt_btree.proofs.subtrees.Trees.{subtree_rises, ascending_first, keys_append}
-use Rattle.quilt_btree.proofs.subtrees.Walks.{and_parts, and_both}
 use Rattle.quilt_btree.proofs.subtrees.Whole.{tree_spells}
 use Rattle.quilt_btree.proofs.ways.Leaves.{cut_at, same_le}
 
@@ -131,7 +131,7 @@ parted xs r ys a =
     let cut = subst (λ l. is_ascending l ≡ true) (keys_append xs (r ∷ ys)) a in
     let behind = ascending_first r.key (keys_of ys) (ascending_back (keys_of xs) (keys_of (r ∷ ys)) cut) in (
       all_map (λ (l : Record). l.key) (λ l. is_lt (key_cmp l r.key)) xs (all_under (keys_of xs) r.key (keys_of ys) cut),
-      and_both (is_le (key_cmp r.key r.key)) (list_all (λ (l : Record). is_le (key_cmp r.key l.key)) ys) (same_le r.key)
+      and_from (is_le (key_cmp r.key r.key)) (list_all (λ (l : Record). is_le (key_cmp r.key l.key)) ys) (same_le r.key)
           (over_le r.key ys (all_map (λ (l : Record). l.key) (λ l. is_lt (key_cmp r.key l)) ys behind)),
     )
 

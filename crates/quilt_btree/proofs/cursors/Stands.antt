@@ -1,5 +1,6 @@
 -- Where a cursor stands.
 use Rattle.std.proofs.Common.{◌≡◌, ◌≢◌, ℕ, zero, suc, ◌+◌, ◌<◌, ◌≤◌, Bool, true, false, List, [], ◌∷◌, ◌++◌, length, take, drop, Option, Some, None}
+use Rattle.std.proofs.lemmas.Bool.{and_from, and_parts}
 use Rattle.std.proofs.Common.{refl, sym, ◌∙◌, ap, subst, arith, add-one, take-append-drop}
 use Rattle.std.specs.Prelude.{slice_get, slice_index_or, IfSome, MatchOption}
 use Rattle.std.specs.List.{list_all}
@@ -20,7 +21,6 @@ use Rattle.quilt_btree.specs.Searches.{AreOf}
 use Rattle.quilt_btree.proofs.lists.Lists.{gt_not_le}
 use Rattle.quilt_btree.proofs.lists.Rising.{all_follow, all_append}
 use Rattle.quilt_btree.proofs.ranges.Rests.{next_divides}
-use Rattle.quilt_btree.proofs.subtrees.Walks.{and_parts, and_both}
 use Rattle.quilt_btree.proofs.subtrees.Whole.{tree_spells}
 use Rattle.quilt_btree.proofs.ways.Forks.{are_of}
 use Rattle.quilt_btree.proofs.ways.Leaves.{same_le}
@@ -48,7 +48,7 @@ drop_past (r ∷ rs) (suc i) h = drop_past rs i (fewer (length rs) i h)
 pub found_from : (k : Key) (rs : List Record) (i : ℕ) → IsFound k rs i → list_all (λ r. is_le (key_cmp k r.key)) (drop i rs) ≡ true
 found_from k rs i f =
     ap (list_all (λ (r : Record). is_le (key_cmp k r.key))) (drop_at rs i f.found f.here)
-    ∙ and_both (is_le (key_cmp k f.found.key)) (list_all (λ (r : Record). is_le (key_cmp k r.key)) (drop (suc i) rs))
+    ∙ and_from (is_le (key_cmp k f.found.key)) (list_all (λ (r : Record). is_le (key_cmp k r.key)) (drop (suc i) rs))
     (subst (λ m. is_le (key_cmp k m) ≡ true) (sym f.key) (same_le k)) (over_le k (drop (suc i) rs) f.behind)
   where
     over_le : (k : Key) (xs : List Record) → list_all (λ r. is_lt (key_cmp k r.key)) xs ≡ true → list_all (λ r. is_le (key_cmp k r.key)) xs ≡ true

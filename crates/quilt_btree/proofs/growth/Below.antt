@@ -1,5 +1,6 @@
 -- A subtree that is to be edited, and the child to which a key leads.
 use Rattle.std.proofs.Common.{◌≡◌, ◌≢◌, ℕ, suc, ◌+◌, ◌<◌, ◌≤◌, Bool, true, false, ◌||◌, nat_le, List, [], ◌∷◌, ◌++◌, length, take, drop, Option, Some}
+use Rattle.std.proofs.lemmas.Bool.{and_parts}
 use Rattle.std.proofs.Common.{slice_index, slice_index_or, refl, sym, ◌∙◌, ap, subst, arith, take-append-drop}
 use Rattle.std.specs.List.{list_all}
 use Rattle.std.specs.Ordering.{is_lt, is_le}
@@ -14,7 +15,6 @@ use Rattle.quilt_btree.specs.Edits.{times, CanEdit}
 use Rattle.quilt_btree.specs.Trees.{ReadsInner, Spells}
 use Rattle.quilt_btree.proofs.lists.Counts.{times-append, times-three}
 use Rattle.quilt_btree.proofs.stores.Moves.{AreApart, apart_some}
-use Rattle.quilt_btree.proofs.subtrees.Walks.{and_parts}
 use Rattle.quilt_btree.proofs.subtrees.Trees.{IsInnerList, inner_list}
 use Rattle.quilt_btree.proofs.rows.Places.{front, from_keys, head_bounds, tail_places, bounded_at, one_row, high_from}
 use Rattle.quilt_btree.proofs.lists.Lists.{IsAmong}

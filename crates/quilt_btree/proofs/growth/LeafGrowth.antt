@@ -1,5 +1,6 @@
 -- A record put into a leaf, over a store's pages.
 use Rattle.std.proofs.Common.{◌≡◌, ℕ, zero, suc, ◌+◌, ◌-◌, ◌<◌, ◌≤◌, Bool, true, false, ◌&&◌, ◌||◌, nat_le, List, [], ◌∷◌, ◌++◌, length, take, drop, Option}
+use Rattle.std.proofs.lemmas.Bool.{and_from, and_parts}
 use Rattle.std.proofs.Common.{Some, slice_index_or, slice_set, refl, sym, ◌∙◌, ap, subst, arith, take-append-drop, length-append, length-take-le, length-drop}
 use Rattle.std.proofs.Common.{get_or-set_same}
 use Rattle.std.specs.Prelude.{slice_get}
@@ -25,7 +26,6 @@ use Rattle.quilt_btree.proofs.subtrees.Trees.{leaf_list, keys_append}
 use Rattle.quilt_btree.specs.Trees.{ReadsLeaf, Spells}
 use Rattle.quilt_btree.proofs.ways.Leaves.{put_gap, gap_any, found_any, same_le}
 use Rattle.quilt_btree.proofs.lists.Separators.{separated_at}
-use Rattle.quilt_btree.proofs.subtrees.Walks.{and_parts, and_both}
 use Rattle.quilt_btree.proofs.stores.Writes.{tells_at, TellsAll, all_told, both_written}
 
 keys_insert : (rs : List Record) (i : ℕ) (r : Record) → keys_of (insert rs i r) ≡ insert (keys_of rs) i r.key
@@ -37,7 +37,7 @@ keys_take : (p : Key → Bool) (rs : List Record) (i : ℕ) → list_all (λ s. 
 keys_take p rs zero h = refl
 keys_take p [] (suc i) h = refl
 keys_take p (s ∷ rs) (suc i) h = let t = and_parts (p s.key) (list_all (λ (s : Record). p s.key) (take i rs)) h in
-    and_both (p s.key) (list_all p (take i (keys_of rs))) t.0 (keys_take p rs i t.1)
+    and_from (p s.key) (list_all p (take i (keys_of rs))) t.0 (keys_take p rs i t.1)
 
 keys_drop : (p : Key → Bool) (rs : List Record) (i : ℕ) → list_all (λ s. p s.key) (drop i rs) ≡ true → list_all p (drop i (keys_of rs)) ≡ true
 keys_drop p rs zero h = map_all (λ (s : Record). s.key) p rs h
@@ -57,8 +57,8 @@ within_insert b r rs i low high w =
     let p = λ (k : Key). is_above b.low k && is_below b.high k in
     subst (λ l. are_within b l ≡ true) (sym (keys_insert rs i r))
     (all_append p (take i (keys_of rs)) (r.key ∷ drop i (keys_of rs)) (all_take p (keys_of rs) i w)
-    (and_both (is_above b.low r.key && is_below b.high r.key) (are_within b (drop i (keys_of rs)))
-    (and_both (is_above b.low r.key) (is_below b.high r.key) low high) (all_drop p (keys_of rs) i w)))
+    (and_from (is_above b.low r.key && is_below b.high r.key) (are_within b (drop i (keys_of rs)))
+    (and_from (is_above b.low r.key) (is_below b.high r.key) low high) (all_drop p (keys_of rs) i w)))
 
 length_insert : (rs : List Record) (i : ℕ) (r : Record) → i ≤ length rs → length (insert rs i r) ≡ suc (length rs)
 length_insert rs i r h =
@@ -113,9 +113,9 @@ halves b xs n start a w h =
       below = parts.below;
       lower = parts.lower;
       higher = subst (λ l. are_within (record { low = Some start.key; high = b.high }) (keys_of l) ≡ true) (sym rest.1)
-          (and_both (is_le (key_cmp start.key start.key) && is_below b.high start.key)
+          (and_from (is_le (key_cmp start.key start.key) && is_below b.high start.key)
           (are_within (record { low = Some start.key; high = b.high }) (keys_of rest.0))
-          (and_both (is_le (key_cmp start.key start.key)) (is_below b.high start.key) (same_le start.key) parts.below) parts.higher);
+          (and_from (is_le (key_cmp start.key start.key)) (is_below b.high start.key) (same_le start.key) parts.below) parts.higher);
     }
 
 -- the leaf was split

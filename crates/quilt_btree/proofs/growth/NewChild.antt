@@ -1,5 +1,6 @@
 -- A child behind another one, where a key parts the two.
 use Rattle.std.proofs.Common.{◌≡◌, ℕ, zero, suc, ◌+◌, ◌<◌, ◌≤◌, Bool, true, ◌&&◌, List, [], ◌∷◌, ◌++◌, length, take, drop, Option, Some, slice_index}
+use Rattle.std.proofs.lemmas.Bool.{and_from, and_parts}
 use Rattle.std.proofs.Common.{slice_index_or, refl, sym, ◌∙◌, ap, subst, arith, take-append-drop, map}
 use Rattle.std.proofs.lemmas.List.{length-map}
 use Rattle.std.specs.List.{insert, list_all}
@@ -17,7 +18,6 @@ use Rattle.quilt_btree.proofs.subtrees.Trees.{leaf_list, inner_list, ascending_f
 use Rattle.quilt_btree.proofs.rows.Places.{front, from_keys, head_bounds, tail_places, bounded_front, bounded_head, high_from}
 use Rattle.quilt_btree.proofs.subtrees.Descents.{child_bounds, as_long, behind_many}
 use Rattle.quilt_btree.proofs.lists.Fitting.{are_under, are_over}
-use Rattle.quilt_btree.proofs.subtrees.Walks.{and_parts, and_both}
 
 insert_next : (cs : List ℕ) (i x : ℕ) → i < length cs → insert cs (suc i) x ≡ take i cs ++ slice_index cs i ∷ x ∷ drop (suc i) cs
 insert_next [] i x lt = absurd (omega arith)
@@ -75,16 +75,16 @@ bounds_part pages height is_root page low high o rs used e s =
 under_from : (ks : List Key) (b : Bounds) (key : Key) → is_ascending ks ≡ true
     → ((l : Key) → (from_keys ks b).low ≡ Some l → is_lt (key_cmp l key) ≡ true) → are_under key ks ≡ true
 under_from [] b key a f = refl
-under_from (k ∷ []) b key a f = and_both (is_lt (key_cmp k key)) true (f k refl) refl
+under_from (k ∷ []) b key a f = and_from (is_lt (key_cmp k key)) true (f k refl) refl
 under_from (k ∷ l ∷ ks) b key a f =
     let more = under_from (l ∷ ks) (record { low = Some k; high = b.high }) key (ascending_rest k (l ∷ ks) a) f in
     let next = (and_parts (is_lt (key_cmp l key)) (are_under key ks) more).0 in
     let first = (and_parts (is_lt (key_cmp k l)) (is_ascending (l ∷ ks)) a).0 in
-    and_both (is_lt (key_cmp k key)) (are_under key (l ∷ ks)) (lt_le k l key first (lt_to_le (key_cmp l key) next)) more
+    and_from (is_lt (key_cmp k key)) (are_under key (l ∷ ks)) (lt_le k l key first (lt_to_le (key_cmp l key) next)) more
 
 over_from : (ks : List Key) (b : Bounds) (key : Key) → is_ascending ks ≡ true → is_below (head_bounds ks b).high key ≡ true → are_over key ks ≡ true
 over_from [] b key a h = refl
-over_from (k ∷ ks) b key a h = and_both (is_lt (key_cmp key k)) (are_over key ks) h
+over_from (k ∷ ks) b key a h = and_from (is_lt (key_cmp key k)) (are_over key ks) h
     (all_follow (λ l. is_lt (key_cmp k l)) (λ l. is_lt (key_cmp key l)) (λ l g. lt_le key k l h (lt_to_le (key_cmp k l) g)) ks (ascending_first k ks a))
 
 above_all : (ks : List Key) (b : Bounds) (key : Key) → are_within b ks ≡ true → are_under key ks ≡ true → is_above (from_keys ks b).low key ≡ true
@@ -145,5 +145,5 @@ module _ (inner : Inner) (b : Bounds) (i : ℕ) (key : Key) where
       record {
         ascends = ascending_insert key inner.keys i a under over;
         within = all_append (λ k. is_above b.low k && is_below b.high k) ka (key ∷ kb) parts.0
-            (and_both (is_above b.low key && is_below b.high key) (are_within b kb) (and_both (is_above b.low key) (is_below b.high key) is_low is_high) parts.1);
+            (and_from (is_above b.low key && is_below b.high key) (are_within b kb) (and_from (is_above b.low key) (is_below b.high key) is_low is_high) parts.1);
       }

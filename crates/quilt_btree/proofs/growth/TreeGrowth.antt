@@ -1,5 +1,6 @@
 -- A record put into the whole tree.
 use Rattle.std.proofs.Common.{◌≡◌, ◌≢◌, ℕ, zero, suc, ◌+◌, ◌<◌, ◌≤◌, Bool, true, false, ◌&&◌, not, nat_le, cond, List, [], ◌∷◌, ◌++◌, length, Option, Some}
+use Rattle.std.proofs.lemmas.Bool.{and_from}
 use Rattle.std.proofs.Common.{None, slice_set, refl, sym, ◌∙◌, ap, subst, arith, length-append, get_or-set_same}
 use Rattle.std.specs.Prelude.{nat_lt, if◌then◌else◌}
 use Rattle.std.specs.List.{list_any}
@@ -32,7 +33,7 @@ use Rattle.quilt_btree.proofs.stores.Moves.{AreApart, moves_then, moves_taken, m
 use Rattle.quilt_btree.proofs.rows.Places.{row_one}
 use Rattle.quilt_btree.proofs.stores.Room.{count_left}
 use Rattle.quilt_btree.proofs.rows.Splices.{parent_written}
-use Rattle.quilt_btree.proofs.subtrees.Walks.{Found, walk_found, walk_again, and_both}
+use Rattle.quilt_btree.proofs.subtrees.Walks.{Found, walk_found, walk_again}
 use Rattle.quilt_btree.proofs.subtrees.Whole.{no_records}
 use Rattle.quilt_btree.proofs.stores.Writes.{tells_at, if_some_at, TellsAll, all_told}
 
@@ -255,7 +256,7 @@ pub record IsNewRoot (t : Tree) (mid_told now_told : Option (List (List ℕ))) (
 
 two_pages : (n size a b : ℕ) → n ≡ size → (1 ≤ a) × (a < size) → (1 ≤ b) × (b < size) → are_pages n (a ∷ b ∷ []) ≡ true
 two_pages n size a b e h g =
-    and_both (nat_le 1 a && nat_lt a n) ((nat_le 1 b && nat_lt b n) && true) (one a h) (and_both (nat_le 1 b && nat_lt b n) true (one b g) refl)
+    and_from (nat_le 1 a && nat_lt a n) ((nat_le 1 b && nat_lt b n) && true) (one a h) (and_from (nat_le 1 b && nat_lt b n) true (one b g) refl)
   where
     test : (a n size : ℕ) → n ≡ size → 1 ≤ a → a < size → (nat_le 1 a && nat_lt a n) ≡ true
     test a n size e low high = grind (arith, nat_tests)

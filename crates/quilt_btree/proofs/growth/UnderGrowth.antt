@@ -1,5 +1,6 @@
 -- A record put in below an inner page.
 use Rattle.std.proofs.Common.{◌≡◌, ◌≢◌, ℕ, suc, ◌+◌, ◌-◌, ◌<◌, ◌≤◌, Bool, true, false, ◌&&◌, ◌||◌, nat_le, List, [], ◌∷◌, ◌++◌, length, take, drop, Option}
+use Rattle.std.proofs.lemmas.Bool.{and_from}
 use Rattle.std.proofs.Common.{Some, Result, Ok, Err, IfOk, IfErr, slice_index, refl, sym, ◌∙◌, ap, subst, arith, length-append}
 use Rattle.std.specs.Prelude.{nat_lt}
 use Rattle.std.specs.List.{insert, list_any}
@@ -32,7 +33,6 @@ use Rattle.quilt_btree.proofs.growth.NewChild.{two_places, bounded_next, bounds_
 use Rattle.quilt_btree.proofs.rows.Places.{front, from_keys, tail_places, row_one}
 use Rattle.quilt_btree.proofs.lists.Rising.{all_append}
 use Rattle.quilt_btree.proofs.rows.Splices.{RowMoved, middle_moved, parent_stays, becomes_then}
-use Rattle.quilt_btree.proofs.subtrees.Walks.{and_both}
 use Rattle.quilt_btree.proofs.stores.Writes.{TellsAll, if_some_at}
 
 -- an inner page was read, and the key leads to this child
@@ -159,7 +159,7 @@ pages_with : (n : ℕ) (cs : List ℕ) (i right : ℕ) → are_pages n cs ≡ tr
     → are_pages n (insert cs i right) ≡ true
 pages_with n cs i right h g =
     all_append (λ c. nat_le 1 c && nat_lt c n) (take i cs) (right ∷ drop i cs) (all_take (λ c. nat_le 1 c && nat_lt c n) cs i h)
-    (and_both (nat_le 1 right && nat_lt right n) (are_pages n (drop i cs)) g (all_drop (λ c. nat_le 1 c && nat_lt c n) cs i h))
+    (and_from (nat_le 1 right && nat_lt right n) (are_pages n (drop i cs)) g (all_drop (λ c. nat_le 1 c && nat_lt c n) cs i h))
 
 still_enough : (is_root : Bool) (m n : ℕ) → n ≡ m + 1 → (is_root || nat_le 127 m) ≡ true → (is_root || nat_le 127 n) ≡ true
 still_enough true m n e h = refl

@@ -1,5 +1,6 @@
 -- Two keys tell whether ascending lists ascend one behind the other, and whether a key fits in the place of another.
 use Rattle.std.proofs.Common.{◌≡◌, ℕ, zero, suc, ◌-◌, ◌<◌, ◌≤◌, Bool, true, false, ◌&&◌, List, [], ◌∷◌, ◌++◌, length, Option, Some, None, refl, sym, ◌∙◌, ap}
+use Rattle.std.proofs.lemmas.Bool.{and_parts}
 use Rattle.std.proofs.Common.{subst, arith}
 use Rattle.std.specs.Prelude.{slice_get, slice_set}
 use Rattle.std.specs.Ordering.{is_lt}
@@ -8,7 +9,6 @@ use Rattle.quilt_record.specs.declared.record.Record.{Record}
 use Rattle.quilt_record.specs.Records.{key_cmp}
 use Rattle.quilt_node.specs.Pages.{is_ascending}
 use Rattle.quilt_node.specs.Nodes.{keys_of}
-use Rattle.quilt_btree.proofs.subtrees.Walks.{and_parts}
 use Rattle.quilt_btree.proofs.subtrees.Trees.{ascending_rest, keys_append}
 
 and_true : (a b : Bool) → a ≡ true → (a && b) ≡ b

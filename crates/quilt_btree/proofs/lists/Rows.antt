@@ -1,5 +1,6 @@
 -- Rows of places: parts of them, and what keeps them.
 use Rattle.std.proofs.Common.{◌≡◌, ℕ, zero, suc, Bool, true, false, ◌||◌, ◌==◌, List, [], ◌∷◌, ◌++◌, length, slice_index_or, refl, sym, ◌∙◌, ap, subst}
+use Rattle.std.proofs.lemmas.Bool.{or_left, or_right}
 use Rattle.std.proofs.Common.{append_assoc, arith}
 use Rattle.std.specs.List.{list_any}
 use Rattle.std.proofs.lemmas.List.{append-nil}
@@ -17,19 +18,11 @@ is_in p used = list_any (λ v. v == p) used
 abbrev pub SameOn : List (List ℕ) → List (List ℕ) → List ℕ → Type 0
 SameOn pages news used = (p : ℕ) → is_in p used ≡ true → slice_index_or news p [] ≡ slice_index_or pages p []
 
-or_first : (a b : Bool) → a ≡ true → (a || b) ≡ true
-or_first true b h = refl
-or_first false b h = cc
-
-or_second : (a b : Bool) → b ≡ true → (a || b) ≡ true
-or_second true b h = refl
-or_second false b h = h
-
 same_late : (pages news : List (List ℕ)) (late early : List ℕ) → SameOn pages news (late ++ early) → SameOn pages news late
-same_late pages news late early same p h = same p (list_any-append (λ v. v == p) late early ∙ or_first _ _ h)
+same_late pages news late early same p h = same p (list_any-append (λ v. v == p) late early ∙ or_left _ _ h)
 
 same_early : (pages news : List (List ℕ)) (late early : List ℕ) → SameOn pages news (late ++ early) → SameOn pages news early
-same_early pages news late early same p h = same p (list_any-append (λ v. v == p) late early ∙ or_second _ _ h)
+same_early pages news late early same p h = same p (list_any-append (λ v. v == p) late early ∙ or_right _ _ h)
 
 is_in_first : (p : ℕ) → is_in p (p ∷ []) ≡ true
 is_in_first p = grind arith

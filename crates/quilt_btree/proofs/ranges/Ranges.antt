@@ -1,5 +1,6 @@
 -- The records of a range, leaf by leaf.
 use Rattle.std.proofs.Common.{◌≡◌, ℕ, zero, suc, ◌+◌, ◌<◌, ◌≤◌, Bool, true, false, ◌&&◌, not, cond, List, [], ◌∷◌, ◌++◌, length, take, drop, filter, Option}
+use Rattle.std.proofs.lemmas.Bool.{and_from, and_parts}
 use Rattle.std.proofs.Common.{Some, None, refl, sym, ◌∙◌, ap, subst, append_assoc, arith, length-append, length-take, add-one, take_all, take-append-drop, min}
 use Rattle.std.specs.Prelude.{slice_get}
 use Rattle.std.specs.List.{list_all}
@@ -15,7 +16,6 @@ use Rattle.quilt_btree.specs.Trees.{LeadsTo, IsAsFar, is_past}
 use Rattle.quilt_record.proofs.Orders.{lt_le, le_le, lt_to_le, not_le}
 use Rattle.quilt_btree.proofs.lists.Rising.{all_follow, all_append}
 use Rattle.quilt_btree.proofs.lists.Lists.{AreBelow, filter_all, filter_none, filter_cond, gt_not_le}
-use Rattle.quilt_btree.proofs.subtrees.Walks.{and_parts, and_both}
 
 pub take_next : {X : Type 0} (xs : List X) (i : ℕ) (x : X) → slice_get xs i ≡ Some x → take (i + 1) xs ≡ take i xs ++ x ∷ []
 take_next xs i x h = ap (λ n. take n xs) (add-one i) ∙ next xs i x h
@@ -213,7 +213,7 @@ adds_some from high next n old new (r ∷ leaf) e some starts ends le room ne sa
     let a = (and_parts (is_le (key_cmp from r.key)) (list_all (λ (s : Record). is_le (key_cmp from s.key)) leaf) starts).0 in
     let b = (and_parts (is_lt (key_cmp r.key next)) (list_all (λ (s : Record). is_lt (key_cmp s.key next)) leaf) ends).0 in
     let passes : is_from_to from high r ≡ true =
-    and_both (is_le (key_cmp from r.key)) (is_le (key_cmp r.key high)) a (lt_to_le (key_cmp r.key high) (lt_le r.key next high b le)) in
+    and_from (is_le (key_cmp from r.key)) (is_le (key_cmp r.key high)) a (lt_to_le (key_cmp r.key high) (lt_le r.key next high b le)) in
     let more : filter (is_from_to from high) (r ∷ leaf) ≡ r ∷ filter (is_from_to from high) leaf =
     filter_cond (is_from_to from high) r (filter (is_from_to from high) leaf) (filter (is_from_to from high) leaf) true passes in
     let m : length new ≡ min n (length (old ++ r ∷ filter (is_from_to from high) leaf)) =

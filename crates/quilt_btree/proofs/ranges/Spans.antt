@@ -1,5 +1,6 @@
 -- The records of a range lie within its bounds, over every store.
 use Rattle.std.proofs.Common.{◌≡◌, ℕ, zero, suc, ◌≤◌, Bool, true, false, List, [], ◌∷◌, ◌++◌, take, filter, cond, Option, Some, None, IfSome, length, refl, ◌∙◌, ap, subst, arith}
+use Rattle.std.proofs.lemmas.Bool.{and_from, and_parts}
 use Rattle.std.specs.List.{list_all}
 use Rattle.std.specs.Ordering.{is_le, is_lt}
 use Rattle.quilt_record.specs.declared.key.Key.{Key}
@@ -10,10 +11,9 @@ use Rattle.quilt_node.proofs.Ascending.{all_take}
 use Rattle.quilt_btree.specs.Lists.{is_from_to}
 use Rattle.quilt_record.proofs.Orders.{le_le, lt_to_le}
 use Rattle.quilt_btree.proofs.lists.Rising.{all_follow, all_append}
-use Rattle.quilt_btree.proofs.subtrees.Walks.{and_parts, and_both}
 
 kept_one : {X : Type 0} (p : X → Bool) (x : X) (xs : List X) (b : Bool) → p x ≡ b → list_all p xs ≡ true → list_all p (cond (p x) (x ∷ xs) xs) ≡ true
-kept_one p x xs true e h = ap (λ c. list_all p (cond c (x ∷ xs) xs)) e ∙ and_both (p x) (list_all p xs) e h
+kept_one p x xs true e h = ap (λ c. list_all p (cond c (x ∷ xs) xs)) e ∙ and_from (p x) (list_all p xs) e h
 kept_one p x xs false e h = ap (λ c. list_all p (cond c (x ∷ xs) xs)) e ∙ h
 
 all_filter : {X : Type 0} (p : X → Bool) (xs : List X) → list_all p (filter p xs) ≡ true
@@ -46,7 +46,7 @@ module _ (low from high : Key) (le : is_le (key_cmp low from) ≡ true) where
       one : (r : Record) → is_from_to from high r ≡ true → is_from_to low high r ≡ true
       one r g =
           let t = and_parts (is_le (key_cmp from r.key)) (is_le (key_cmp r.key high)) g in
-          and_both (is_le (key_cmp low r.key)) (is_le (key_cmp r.key high)) (le_le low from r.key le t.0) t.1
+          and_from (is_le (key_cmp low r.key)) (is_le (key_cmp r.key high)) (le_le low from r.key le t.0) t.1
 
   -- records of one more leaf
   pub added_within : (most : ℕ) (leaf old new : List Record) → new ≡ take most (old ++ filter (is_from_to from high) leaf)

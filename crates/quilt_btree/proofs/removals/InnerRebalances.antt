@@ -1,5 +1,6 @@
 -- Two neighbouring inner pages are joined, or their children are redistributed.
 use Rattle.std.proofs.Common.{◌≡◌, ℕ, zero, suc, ◌+◌, ◌<◌, ◌≤◌, Bool, true, false, ◌&&◌, nat_le, nat_lt, List, [], ◌∷◌, ◌++◌, length, Option, Some, IfSome}
+use Rattle.std.proofs.lemmas.Bool.{and_from}
 use Rattle.std.proofs.Common.{slice_index_or, slice_set, refl, sym, ◌∙◌, ap, subst, arith, length-append}
 use Rattle.quilt_record.specs.declared.key.Key.{Key}
 use Rattle.quilt_record.specs.declared.record.Record.{Record}
@@ -27,7 +28,6 @@ use Rattle.quilt_btree.proofs.subtrees.Holdings.{ascends_from}
 use Rattle.quilt_btree.proofs.stores.Pairs.{ArePair, pair_apart, is_joined, are_written, under_stays, pair_moves, left_taken, right_taken}
 use Rattle.quilt_btree.proofs.lists.RisingApart.{rises_apart}
 use Rattle.quilt_btree.proofs.removals.LeafRemovals.{tells_on, has_many, many_enough}
-use Rattle.quilt_btree.proofs.subtrees.Walks.{and_both}
 
 pub two_above : (height : ℕ) → 2 ≤ height → (h : ℕ) × (height ≡ suc (suc h))
 two_above zero h = absurd (omega arith)
@@ -100,8 +100,8 @@ are_inners told free h left key right b rs used m l r reads also =
       rises = rising_join b key l.keys (key ∷ r.keys) m.low m.high (record { ascends = list.ascends; within = within_l })
           (record {
             ascends = from;
-            within = and_both (is_le (key_cmp key key) && is_below b.high key) (are_within above r.keys)
-                (and_both (is_le (key_cmp key key)) (is_below b.high key) (same_le key) m.high) within_r;
+            within = and_from (is_le (key_cmp key key) && is_below b.high key) (are_within above r.keys)
+                (and_from (is_le (key_cmp key key)) (is_below b.high key) (same_le key) m.high) within_r;
           });
       first_many = m.is_left.nearly l there;
       rest_many = m.is_right.nearly r other;

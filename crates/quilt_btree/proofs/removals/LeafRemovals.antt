@@ -1,5 +1,6 @@
 -- What becomes of a leaf when a record is taken out of it.
 use Rattle.std.proofs.Common.{◌≡◌, ℕ, zero, suc, ◌<◌, ◌≤◌, Bool, true, false, ◌||◌, ◌&&◌, nat_le, List, [], ◌∷◌, length, map, take, drop, Option, Some, None}
+use Rattle.std.proofs.lemmas.Bool.{leb-true, le-leb}
 use Rattle.std.proofs.Common.{IfSome, slice_index_or, slice_set, refl, sym, ◌∙◌, ap, subst, arith, get_or-set_same, take-append-drop}
 use Rattle.std.specs.List.{list_any, list_all, remove}
 use Rattle.std.proofs.lemmas.Bool.Decides.{nat_tests}
@@ -18,7 +19,6 @@ use Rattle.quilt_btree.proofs.lists.Counts.{times_here}
 use Rattle.quilt_btree.proofs.stores.Moves.{moves_written, used_account, used_not_free}
 use Rattle.quilt_btree.proofs.ways.Leaves.{gap_any, found_any, without_found}
 use Rattle.quilt_btree.proofs.lists.Rising.{all_parts, all_append}
-use Rattle.quilt_btree.proofs.subtrees.Trees.{nat_le_is}
 
 -- a store that tells goes on telling
 pub tells_on : (step : List (List ℕ) → List (List ℕ) → Type 0) (old new : Option (List (List ℕ))) (pages : List (List ℕ))
@@ -35,18 +35,15 @@ has_many told pages size page many e inside = let long : length pages ≡ size =
 -- a page with too few is the root
 pub few_root : (r : Bool) (least n : ℕ) → (r || nat_le least n) ≡ true → n < least → r ≡ true
 few_root true least n h few = refl
-few_root false least n h few = let g = nat_le_is least n h in absurd (omega arith)
+few_root false least n h few = let g = leb-true least n h in absurd (omega arith)
 
 pub not_root : (r : Bool) (least n : ℕ) → (r || nat_le least n) ≡ true → r ≡ false → least ≤ n
 not_root true least n h e = cc
-not_root false least n h e = nat_le_is least n h
-
-le_is : (m n : ℕ) → m ≤ n → nat_le m n ≡ true
-le_is m n h = grind (arith, nat_tests)
+not_root false least n h e = leb-true least n h
 
 pub many_enough : (r : Bool) (least n : ℕ) → least ≤ n → (r || nat_le least n) ≡ true
 many_enough true least n h = refl
-many_enough false least n h = le_is least n h
+many_enough false least n h = le-leb least n h
 
 pub all_removed : {X : Type 0} (p : X → Bool) (xs : List X) (i : ℕ) → list_all p xs ≡ true → list_all p (remove xs i) ≡ true
 all_removed {X = X} p xs i h =

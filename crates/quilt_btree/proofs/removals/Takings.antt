@@ -1,5 +1,6 @@
 -- A run of keys whose records are taken out one after the other.
 use Rattle.std.proofs.Common.{◌≡◌, ℕ, Bool, true, false, not, cond, ◌||◌, ◌&&◌, List, [], ◌∷◌, filter}
+use Rattle.std.proofs.lemmas.Bool.{and_parts}
 use Rattle.std.proofs.Common.{get_or, refl, sym, ◌∙◌, ap, subst, Less, Equal, Greater, Ordering}
 use Rattle.std.specs.List.{list_any, list_all}
 use Rattle.std.specs.Ordering.{is_lt, is_eq, is_le, ordering_reverse}
@@ -10,7 +11,6 @@ use Rattle.quilt_record.specs.Lists.{has_key, without}
 use Rattle.quilt_btree.specs.Runs.{without_all, has_each}
 use Rattle.quilt_btree.proofs.lists.Lists.{filter_cond}
 use Rattle.quilt_record.proofs.Orders.{key_total, key_equal, lt_le, lt_not_eq, gt_not_eq}
-use Rattle.quilt_btree.proofs.subtrees.Walks.{and_parts}
 
 -- a record with another key stays
 other_key : (j k : Key) (r : Record) → is_lt (key_cmp j k) ≡ true → has_key k r ≡ true → has_key j r ≡ false

@@ -1,5 +1,6 @@
 -- A subtree with one record or child too few among others that are whole.
 use Rattle.std.proofs.Common.{◌≡◌, ◌⊎◌, inl, inr, ℕ, zero, suc, ◌+◌, ◌<◌, ◌≤◌, Bool, true, false, ◌||◌, ◌&&◌, ◌==◌, nat_le, List, [], ◌∷◌, ◌++◌, length, Option}
+use Rattle.std.proofs.lemmas.Bool.{and_parts}
 use Rattle.std.proofs.Common.{Some, slice_index, slice_index_or, refl, sym, ◌∙◌, ap, subst, arith}
 use Rattle.std.specs.Prelude.{slice_get}
 use Rattle.std.specs.List.{list_all}
@@ -19,7 +20,6 @@ use Rattle.quilt_btree.proofs.rows.Places.{front, from_keys, high_from, at_place
 use Rattle.quilt_btree.proofs.subtrees.Descents.{keys_behind}
 use Rattle.quilt_btree.proofs.subtrees.Trees.{inner_list, ascending_first}
 use Rattle.quilt_btree.proofs.rows.Middles.{rear, gap_bounds, bounded_two, CutTwo, cut_two, two_rows}
-use Rattle.quilt_btree.proofs.subtrees.Walks.{and_parts}
 
 pub weaker : (pages : List (List ℕ)) (height : ℕ) (r : Bool) (at : ℕ × Bounds) (rs : List Record) (used : List ℕ) → Subtree pages height r at rs used
     → Subtree pages height true at rs used

@@ -1,5 +1,6 @@
 -- A child's place among the others of its page.
 use Rattle.std.proofs.Common.{◌≡◌, ℕ, suc, ◌+◌, Bool, true, false, not, ◌&&◌, List, [], ◌∷◌, ◌++◌, length, map, Some, refl, sym, ◌∙◌, ap, subst, arith}
+use Rattle.std.proofs.lemmas.Bool.{and_parts}
 use Rattle.std.specs.List.{list_all}
 use Rattle.std.specs.Ordering.{is_lt, is_le}
 use Rattle.std.proofs.lemmas.List.{append-nil}
@@ -12,7 +13,6 @@ use Rattle.quilt_btree.specs.Subtree.{Reading, Row}
 use Rattle.quilt_btree.proofs.lists.Rising.{IsRising, all_follow, all_append, all_map}
 use Rattle.quilt_btree.proofs.lists.Rows.{row_parts, row_join}
 use Rattle.quilt_btree.proofs.subtrees.Trees.{row_rises, ascending_rest, within_rest}
-use Rattle.quilt_btree.proofs.subtrees.Walks.{and_parts}
 
 -- children that each have a key behind them, with their bounds
 abbrev pub front : List ℕ → List Key → Bounds → List (ℕ × Bounds)

@@ -1,5 +1,6 @@
 -- A subtree of a store that tells its pages, and the subtree of the child to which a key leads.
 use Rattle.std.proofs.Common.{◌≡◌, ◌≢◌, ℕ, zero, suc, ◌-◌, ◌<◌, ◌≤◌, true, false, ◌&&◌, List, [], ◌∷◌, ◌++◌, length, map, take, drop, Option, Some, None}
+use Rattle.std.proofs.lemmas.Bool.{and_parts}
 use Rattle.std.proofs.Common.{Result, Ok, Err, IfOk, slice_index, slice_index_or, refl, sym, ◌∙◌, ap, subst, append_assoc, arith}
 use Rattle.std.proofs.Common.{take-append-drop, drop_of_length-le}
 use Rattle.std.specs.Prelude.{slice_get}
@@ -19,7 +20,6 @@ use Rattle.quilt_btree.specs.Subtree.{Reading, Row, Subtree}
 use Rattle.quilt_btree.specs.declared.reading.Found.{Found}
 use Rattle.quilt_btree.specs.Trees.{Spells, ReadsLeaf, ReadsInner, LeadsTo, is_past}
 use Rattle.quilt_btree.proofs.lists.Rising.{all_append, all_follow, all_map}
-use Rattle.quilt_btree.proofs.subtrees.Walks.{and_parts}
 use Rattle.quilt_btree.proofs.subtrees.Trees.{IsInnerList, inner_list, subtree_rises}
 use Rattle.quilt_btree.proofs.rows.Places.{front, from_keys, head_bounds, tail_places, Rises, one_row, high_from}
 use Rattle.quilt_btree.proofs.lists.Lists.{IsAmong, floor_between, last_append}

@@ -1,5 +1,6 @@
 -- The child to which a key leads, and what stands before and behind it.
 use Rattle.std.proofs.Common.{◌≡◌, ℕ, suc, ◌+◌, ◌-◌, ◌<◌, ◌≤◌, Bool, true, false, ◌&&◌, not, List, [], ◌∷◌, ◌++◌, length, map, take, drop, Option, Some, None}
+use Rattle.std.proofs.lemmas.Bool.{and_parts}
 use Rattle.std.proofs.Common.{slice_index, refl, sym, ◌∙◌, ap, subst, arith, take-append-drop, length-take-le, length-drop, drop-cons}
 use Rattle.std.specs.List.{list_all}
 use Rattle.std.specs.Ordering.{is_lt, is_le}
@@ -16,7 +17,6 @@ use Rattle.quilt_btree.proofs.lists.Rising.{all_follow, all_map}
 use Rattle.quilt_btree.proofs.subtrees.Trees.{IsInnerList, subtree_rises, row_rises, ascending_rest, within_rest}
 use Rattle.quilt_btree.proofs.rows.Places.{front, from_keys, head_bounds, tail_places, bounded_at, AtPlace, at_place, IsSide, Rises, front_before, tail_behind}
 use Rattle.quilt_btree.proofs.lists.Lists.{AreBelow, AreAbove, gt_not_le}
-use Rattle.quilt_btree.proofs.subtrees.Walks.{and_parts}
 
 -- the keys behind some of them ascend, and lie within the bounds there
 pub record AreBehind (ka kb : List Key) (b : Bounds) : Type 0 where

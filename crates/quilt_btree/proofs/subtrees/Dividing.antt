@@ -1,5 +1,6 @@
 -- A key that parts two children leads to a leaf whose records are all from it on.
 use Rattle.std.proofs.Common.{◌≡◌, ◌⊎◌, inl, inr, ℕ, zero, suc, ◌-◌, Bool, true, List, [], ◌∷◌, ◌++◌, length, take, drop, Option, Some, None, slice_index}
+use Rattle.std.proofs.lemmas.Bool.{and_from, and_parts}
 use Rattle.std.proofs.Common.{slice_index_or, refl, sym, ◌∙◌, ap, subst, arith}
 use Rattle.std.specs.Prelude.{slice_get}
 use Rattle.std.specs.List.{list_all}
@@ -18,7 +19,6 @@ use Rattle.quilt_btree.proofs.subtrees.Trees.{ascending_first, ascending_rest}
 use Rattle.quilt_btree.proofs.lists.Rising.{all_follow, all_parts, below_on}
 use Rattle.quilt_btree.proofs.lists.Lists.{gt_not_le}
 use Rattle.quilt_btree.proofs.ways.Leaves.{same_le}
-use Rattle.quilt_btree.proofs.subtrees.Walks.{and_parts, and_both}
 use Rattle.quilt_btree.proofs.subtrees.Descending.{AtFloor, leads_below, height_above}
 
 -- a key has one place
@@ -56,14 +56,14 @@ place_behind (l ∷ ks) zero k a h =
     let same : l ≡ k = cc in
     record {
       in_range = omega arith;
-      before = and_both (is_le (key_cmp l k)) true (subst (λ m. is_le (key_cmp l m) ≡ true) same (same_le l)) refl;
+      before = and_from (is_le (key_cmp l k)) true (subst (λ m. is_le (key_cmp l m) ≡ true) same (same_le l)) refl;
       behind = subst (λ m. list_all (λ n. is_lt (key_cmp m n)) ks ≡ true) same (ascending_first l ks a);
     }
 place_behind (l ∷ ks) (suc i) k a h =
     let more = place_behind ks i k (ascending_rest l ks a) h in
     record {
       in_range = let m = more.in_range in omega arith;
-      before = and_both (is_le (key_cmp l k)) (list_all (λ m. is_le (key_cmp m k)) (take (suc i) ks))
+      before = and_from (is_le (key_cmp l k)) (list_all (λ m. is_le (key_cmp m k)) (take (suc i) ks))
           (lt_to_le (key_cmp l k) (member (λ m. is_lt (key_cmp l m)) ks i k h (ascending_first l ks a))) more.before;
       behind = more.behind;
     }
@@ -88,7 +88,7 @@ behind_all : (ks : List Key) (i : ℕ) (d : Key) → is_ascending ks ≡ true �
     → list_all (λ l. is_lt (key_cmp d l)) (drop i ks) ≡ true
 behind_all [] zero d a h = refl
 behind_all [] (suc i) d a h = refl
-behind_all (k ∷ ks) zero d a h = and_both (is_lt (key_cmp d k)) (list_all (λ l. is_lt (key_cmp d l)) ks) h
+behind_all (k ∷ ks) zero d a h = and_from (is_lt (key_cmp d k)) (list_all (λ l. is_lt (key_cmp d l)) ks) h
     (all_follow (λ l. is_lt (key_cmp k l)) (λ l. is_lt (key_cmp d l)) (λ l g. lt_le d k l h (lt_to_le (key_cmp k l) g)) ks (ascending_first k ks a))
 behind_all (k ∷ ks) (suc i) d a h = behind_all ks i d (ascending_rest k ks a) h
 

@@ -1,5 +1,6 @@
 -- The walk of a subtree, and what it has found.
 use Rattle.std.proofs.Common.{◌≡◌, ℕ, zero, suc, Bool, true, false, ◌&&◌, ◌||◌, ◌==◌, nat_le, List, [], ◌∷◌, ◌++◌, length, map, Option, Some, None}
+use Rattle.std.proofs.lemmas.Bool.{and_from, and_parts}
 use Rattle.std.proofs.Common.{slice_index_or, refl, sym, ◌∙◌, ap, subst, append_assoc, arith}
 use Rattle.std.specs.List.{list_any}
 use Rattle.std.specs.Prelude.{if◌then◌else◌}
@@ -22,14 +23,6 @@ pub record FoundBehind (S : List Record → List ℕ → Type 0) (before : List 
   pub more : List Record
   pub is_rs : rs ≡ before ++ more
   pub found : Found S visited more now
-
-pub and_parts : (a b : Bool) → (a && b) ≡ true → (a ≡ true) × (b ≡ true)
-and_parts true b h = (refl, h)
-and_parts false b h = cc
-
-pub and_both : (a b : Bool) → a ≡ true → b ≡ true → (a && b) ≡ true
-and_both true b p q = q
-and_both false b p q = p
 
 pub then_whole : (b : Bool) (w : Walk) (p : ℕ) (rs : List Record) (now : List ℕ)
     → (if b then w else Damaged p) ≡ Whole rs now → (b ≡ true) × (w ≡ Whole rs now)
@@ -193,13 +186,13 @@ pub walk_again : (pages : List (List ℕ)) (height : ℕ) (is_root : Bool) (at :
 walk_again pages zero is_root at visited rs used s fresh = absurd s
 walk_again pages (suc zero) is_root at visited rs used s fresh =
     let new : IsFresh (at.0 ∷ []) visited = rw s.is_used at fresh in
-    if_false _ _ _ new.0 ∙ ap (leaf_walk is_root at.1 at.0 visited) s.page ∙ if_true _ _ _ (and_both _ _ s.enough s.within)
+    if_false _ _ _ new.0 ∙ ap (leaf_walk is_root at.1 at.0 visited) s.page ∙ if_true _ _ _ (and_from _ _ s.enough s.within)
     ∙ rw s.is_used refl
 walk_again pages (suc (suc height)) is_root at visited rs used s fresh =
     let new : IsFresh (s.under ++ at.0 ∷ []) visited = rw s.is_used at fresh in
     if_false _ _ _ (fresh_early s.under (at.0 ∷ []) visited new).0
     ∙ ap (inner_walk (walk pages (suc height) false) (suc (suc height)) is_root at.1 at.0 visited) s.page
-    ∙ if_true _ _ _ (and_both _ _ (and_both _ _ (number_test s.inner.height (suc (suc height)) s.is_height) s.enough) s.within)
+    ∙ if_true _ _ _ (and_from _ _ (and_from _ _ (number_test s.inner.height (suc (suc height)) s.is_height) s.enough) s.within)
     ∙ row_walked (Subtree pages (suc height) false) (walk pages (suc height) false) (λ c v ss u t f. walk_again pages (suc height) false c v ss u t f)
     (bounded s.inner.children s.inner.keys at.1) [] (at.0 ∷ visited) rs s.under s.children (fresh_late s.under (at.0 ∷ []) visited new)
     ∙ ap (λ l. Whole rs l) (sym (append_assoc s.under (at.0 ∷ []) visited) ∙ ap (λ l. l ++ visited) (sym s.is_used))

@@ -1,5 +1,6 @@
 -- What the bytes of a page say of the subtree there: the child to which a key leads, and the last one.
 use Rattle.std.proofs.Common.{◌≡◌, ◌≢◌, ◌⊎◌, ℕ, zero, suc, ◌-◌, ◌<◌, ◌≤◌, true, ◌&&◌, nat_le, nat_lt, List, [], ◌∷◌, ◌++◌, length, Option, Some, None, Result}
+use Rattle.std.proofs.lemmas.Bool.{and_parts}
 use Rattle.std.proofs.Common.{Ok, Err, IfOk, IfErr, IfSome, OnOk, slice_index, slice_index_or, refl, sym, ◌∙◌, ap, subst, append_assoc, arith}
 use Rattle.std.specs.List.{last_or}
 use Rattle.std.specs.Ordering.{is_lt}
@@ -20,7 +21,6 @@ use Rattle.quilt_btree.specs.Trees.{Spells, ReadsInner, IsTree}
 use Rattle.quilt_btree.specs.Floors.{place_of, last_pages, floor_pages, TouchesInTurn, HoldsFirst, ReadsNone}
 use Rattle.quilt_btree.specs.Searches.{IsFork, AreOf, IsLeafFor}
 use Rattle.quilt_btree.proofs.lists.Rising.{all_append}
-use Rattle.quilt_btree.proofs.subtrees.Walks.{and_parts}
 use Rattle.quilt_btree.proofs.lists.Lists.{IsAmong, value_between}
 use Rattle.quilt_btree.proofs.stores.Held.{OneFree}
 use Rattle.quilt_btree.proofs.subtrees.Descending.{height_above, leads_below, along_told, AtFloor, ends_below, last_up}

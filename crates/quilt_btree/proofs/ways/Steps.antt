@@ -1,5 +1,6 @@
 -- The way down to a leaf in the bytes of pages, with the bound below which the leaf's keys stay.
 use Rattle.std.proofs.Common.{◌≡◌, ℕ, zero, suc, ◌+◌, ◌-◌, ◌<◌, ◌≤◌, Bool, true, false, List, [], ◌∷◌, drop, length, Option, Some, None, Result, Ok, Err}
+use Rattle.std.proofs.lemmas.Bool.{and_parts}
 use Rattle.std.proofs.Common.{IfOk, IfErr, slice_index, refl, sym, ◌∙◌, ap, subst, arith}
 use Rattle.std.specs.Prelude.{slice_get}
 use Rattle.std.specs.List.{list_all}
@@ -22,7 +23,6 @@ use Rattle.quilt_btree.proofs.subtrees.Descending.{leads_below, along_told, lead
 use Rattle.quilt_btree.proofs.subtrees.Dividing.{cut_up, leaf_cut}
 use Rattle.quilt_btree.proofs.ways.Forks.{IsRead, page_here, leaf_here}
 use Rattle.quilt_btree.proofs.subtrees.Trees.{inner_list, leaf_list}
-use Rattle.quilt_btree.proofs.subtrees.Walks.{and_parts}
 
 -- the step down from an inner page
 abbrev pub StepsTo : ℕ → List ℕ → Key → Option Key → ℕ → Option Key → Type 0
