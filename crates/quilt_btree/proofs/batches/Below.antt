@@ -69,7 +69,7 @@ pub leaf_edited : {told : Option (List (List ℕ))} (now_told : Option (List (Li
     → Goes (λ old new. new ≡ slice_set old page bytes) told now_told → now ≡ free → (if is_root then 1 else 72) ≤ length new → b.high ≡ high
     → list_all (is_above b.low) (edit_keys xs) ≡ true → CanEdit told free page 1 is_root b rs used
     → DidEdit xs told now_told free now page 1 is_root b rs used
-leaf_edited {told = told} now_told {free = free} {now = now} size {page = page} bytes {is_root = is_root} {b = b} {rs = rs} {used = used} high leaf new xs inside many is d same below wrote same_free least top above can =
+leaf_edited {told = told} now_told {free = free} size {page = page} bytes {is_root = is_root} {b = b} {rs = rs} {used = used} high leaf new xs inside many is d same below wrote same_free least top above can =
     let pages = can.pages in
     let s = can.subtree in
     let written = tells_at (λ old new. new ≡ slice_set old page bytes) told now_told pages wrote can.is_told in

@@ -74,7 +74,7 @@ record IsNext (run : List Edit) (n i m : ℕ) : Type 0 where
 
 count_next : (run : List Edit) (n i : ℕ) {count m : ℕ} → i < length run → count ≡ size_after (take i run) n → HasRoomFor (take i run) n
     → HasRoom (edit_at run i) count → m ≡ size_behind (edit_at run i) count → IsNext run n i m
-count_next run n i {count = count} {m = m} lt c h r e =
+count_next run n i lt c h r e =
     let t = sym (taken run i lt) in
     record {
       count_is = e ∙ ap (size_behind (edit_at run i)) c ∙ sym (size_on (take i run) (edit_at run i) n) ∙ ap (λ l. size_after l n) t;

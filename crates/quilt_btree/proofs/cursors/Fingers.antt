@@ -25,7 +25,7 @@ use Rattle.quilt_btree.proofs.subtrees.Whole.{tree_spells}
 -- the leaf to which a key leads
 pub leaf_of_finger : {told : Option (List (List ℕ))} {t : Tree} {k : Key} {rs : List Record} {bytes : List ℕ} {high : Option Key}
     → Arrives told t.root t.height k None bytes high → 1 ≤ t.height → IsTree told t rs → IsLeafOf bytes high rs
-leaf_of_finger {told = told} {t = t} {k = k} {rs = rs} {bytes = bytes} {high = high} a some is =
+leaf_of_finger {told = told} {t = t} {rs = rs} {bytes = bytes} a some is =
     let ne : t.height ≢ 0 = omega arith in
     let s = tree_spells told t rs ne is in
     let l = a.leads rs s.0 s.1 in

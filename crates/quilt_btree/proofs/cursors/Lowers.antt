@@ -86,7 +86,7 @@ pub lower_before : {old new newer : Option (List (List ℕ))} {page height child
     → ((rs : List Record) → Spells new child (height - 1) rs → list_all (λ (r : Record). is_le (key_cmp k r.key)) rs ≡ true)
     → ((rs : List Record) → Spells newer prior (height - 1) rs → last_or None rs ≡ Some r) → {rs : List Record} → Spells old page height rs
     → IsLast k rs r
-lower_before {old = old} {new = new} {newer = newer} {page = page} {height = height} {child = child} {prior = prior} {i = i} {k = k} {inner = inner} r a some t is f g {rs = rs} s =
+lower_before {old = old} {new = new} {newer = newer} {page = page} {height = height} {i = i} {k = k} {inner = inner} r a some t is f g {rs = rs} s =
     let at = leads_below old page height rs inner i k a.some a.above s a.reads a.place in
     let h = f at.here (subst (λ c. Spells new c (height - 1) at.here) (sym a.is_child)
     (along_told old new (slice_index inner.children i) (height - 1) at.here a.told at.spells)) in
@@ -107,7 +107,7 @@ lower_before {old = old} {new = new} {newer = newer} {page = page} {height = hei
 pub goes_back : {told : Option (List (List ℕ))} {t : Tree} (r : Record) {bytes : List ℕ} {place : ℕ} (low : ℕ) {high : Option Key}
     {before after : List Record} → place ≡ suc low → slice_get (records_of bytes) low ≡ Some r → StandsAt told t bytes place high before after
     → GoesBackTo told t r bytes low high before after
-goes_back {told = told} {t = t} r {bytes = bytes} {place = place} low {high = high} {before = before} {after = after} e at s =
+goes_back r {bytes = bytes} low e at s =
     let here = records_of bytes in
     record {
       rest = s.first ++ take low here;

@@ -30,7 +30,7 @@ IsWritten bytes inner = (pages : ℕ) → are_pages pages inner.children ≡ tru
 
 pub pending_taken : {told : Option (List (List ℕ))} {free : ℕ → Bool} {page : ℕ} {is_root : Bool} {b : Bounds} {inner : Inner} {all : List Record}
     {under : List ℕ} → IsPending told free page is_root b inner all under → free page ≡ false
-pending_taken {told = told} {free = free} {page = page} {is_root = is_root} {b = b} {inner = inner} {all = all} {under = under} p = used_not_free free (under ++ page ∷ []) page p.apart (page_in page under)
+pending_taken {free = free} {page = page} {under = under} p = used_not_free free (under ++ page ∷ []) page p.apart (page_in page under)
 
 pub put_done : {told : Option (List (List ℕ))} (now_told : Option (List (List ℕ))) {free now : ℕ → Bool} (size : ℕ) {page : ℕ} (height : ℕ)
     {inner : Inner} (bytes : List ℕ) {is_root : Bool} {b : Bounds} {all : List Record} {under : List ℕ} → page < size → TellsAll told size
@@ -85,7 +85,7 @@ pub put_split : {told : Option (List (List ℕ))} (now_told : Option (List (List
     → TellsAll told size → AreParts inner left right key → inner.height ≡ height → free new ≡ true → FreesOnly new false free now
     → Goes (λ old now. now ≡ slice_set (slice_set old page left) new right) told now_told → IsPending told free page is_root b inner all under
     → DidPut told now_told free now page height is_root b (under ++ page ∷ []) all (inserted.Split key new)
-put_split {told = told} now_told {free = free} {now = now} size {page = page} {new = new} height {inner = inner} left right key {is_root = is_root} {b = b} {all = all} {under = under} inside inside_new many h tall t f wrote p =
+put_split {told = told} now_told {free = free} {now = now} size {page = page} {new = new} height {inner = inner} left right key {b = b} {all = all} {under = under} inside inside_new many h tall t f wrote p =
     let pages = p.pages in
     let S = Subtree pages (suc p.below) false in
     let news = slice_set (slice_set pages page left) new right in

@@ -182,10 +182,10 @@ has_put : (r : Record) {pages mid : List (List ℕ)} (news : List (List ℕ)) {f
     (is_root : Bool) (b : Bounds) (rs : List Record) {used more : List ℕ} (o : Inserted) → list_any (has_key r.key) rs ≡ false
     → Moves pages mid free between used more → HasPut mid news between now page height is_root b more (put r rs) o
     → HasInserted r pages news free now page height is_root b rs used o
-has_put r {pages = pages} {mid = mid} news {free = free} {between = between} now page height is_root b rs {used = used} {more = more} inserted.There none m h = absurd h
-has_put r {pages = pages} {mid = mid} news {free = free} {between = between} now page height is_root b rs {used = used} {more = more} inserted.Done none m h =
+has_put r news now page height is_root b rs inserted.There none m h = absurd h
+has_put r news now page height is_root b rs inserted.Done none m h =
     (none, becomes_then m h)
-has_put r {pages = pages} {mid = mid} news {free = free} {between = between} now page height is_root b rs {used = used} {more = more} (inserted.Split key right) none m h = (
+has_put r news now page height is_root b rs (inserted.Split key right) none m h = (
   none,
   record {
     first = h.first;
@@ -205,7 +205,7 @@ has_put r {pages = pages} {mid = mid} news {free = free} {between = between} now
 few_under : {told : Option (List (List ℕ))} {free : ℕ → Bool} {size page height : ℕ} {is_root : Bool} {b : Bounds} {k : Key} {rs : List Record}
     {used : List ℕ} (inner : Inner) → ReadsInner told page inner → CanInsert told free size page height is_root b k rs used → AreFew rs → height ≡ 3
     → length inner.children < 254
-few_under {told = told} {free = free} {size = size} {page = page} {height = height} {is_root = is_root} {b = b} {k = k} {rs = rs} {used = used} inner reads can few three =
+few_under {page = page} {is_root = is_root} {b = b} {rs = rs} {used = used} inner reads can few three =
     let e = can.can_edit in
     few_children e.pages is_root (page, b) rs used inner (subst (λ h. Subtree e.pages h is_root (page, b) rs used) three e.subtree)
     (reads e.pages e.is_told) few
@@ -345,6 +345,6 @@ sound_under e {told = told} then_told {free = free} then_free {size = size} then
 pub sound_leaf : (result : Result Inserted Stop) (told : Option (List (List ℕ))) (free : ℕ → Bool) (size page : ℕ) {height : ℕ} (k : Key) → height ≡ 1
     → IfErr result (λ e. (is_root : Bool) (b : Bounds) (rs : List Record) (used : List ℕ) → CanInsert told free size page 1 is_root b k rs used → IsSound e)
     → IfErr result (λ e. (is_root : Bool) (b : Bounds) (rs : List Record) (used : List ℕ) → CanInsert told free size page height is_root b k rs used → AreFew rs → IsSound e)
-sound_leaf (Ok o) told free size page {height = height} k one f = f
-sound_leaf (Err e) told free size page {height = height} k one f =
+sound_leaf (Ok o) told free size page k one f = f
+sound_leaf (Err e) told free size page k one f =
     λ is_root b rs used can few. f is_root b rs used (subst (λ h. CanInsert told free size page h is_root b k rs used) one can)

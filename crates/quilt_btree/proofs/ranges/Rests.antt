@@ -150,7 +150,7 @@ pub loop_goes_on : {o : Option Key} {told now : Option (List (List ℕ))} (t : T
     → ((low : Key) (rs : List Record) → IsTree told t rs → Before told t low high most start rs first → Before told t low high most from rs old)
     → IfSome o (λ k. (low : Key) (rs : List Record) → IsTree now t rs → Before now t low high most from rs old → Before now t low high most k rs new)
     → (low : Key) (rs : List Record) → IsTree told t rs → Before told t low high most start rs first → Before told t low high most next rs new
-loop_goes_on {o = None} {told = told} {now = now} t high start from {next = next} most first old new same is s f = cc
+loop_goes_on {o = None} t high start from most first old new same is s f = cc
 loop_goes_on {o = (Some k)} {told = told} {now = now} t high start from {next = next} most first old new same is s f = λ low rs tree b.
     let e : k ≡ next = cc in
     subst (λ n. Before told t low high most n rs new) e
@@ -162,7 +162,7 @@ pub loop_ends : {o : Option Key} {told now : Option (List (List ℕ))} (t : Tree
     → ((low : Key) (rs : List Record) → IsTree told t rs → Before told t low high most start rs first → Before told t low high most from rs old)
     → (o ≡ None → (low : Key) (rs : List Record) → IsTree now t rs → Before now t low high most from rs old → new ≡ range_of low high most rs)
     → (low : Key) (rs : List Record) → IsTree told t rs → Before told t low high most start rs first → new ≡ range_of low high most rs
-loop_ends {o = o} {told = told} {now = now} t high start from most first old new same is s f = λ low rs tree b.
+loop_ends {told = told} {now = now} t high start from most first old new same is s f = λ low rs tree b.
     f is low rs (along_tree told now t rs same tree) (along_before told now t low high most from rs old same (s low rs tree b))
 
 pub loop_sound : (e : Stop) (told now : Option (List (List ℕ))) (t : Tree) (high start from : Key) (most : ℕ) (first old : List Record) → now ≡ told

@@ -33,7 +33,7 @@ pub record Rebalances (told mid : Option (List (List ℕ))) (free between : ℕ 
 pub rebalances : {told mid : Option (List (List ℕ))} {free between : ℕ → Bool} (pages : List (List ℕ)) {height left right : ℕ} {b : Bounds}
     {rs : List Record} {used : List ℕ} {o : Rebalanced} → told ≡ Some pages → DidRebalance told mid free between height left right b rs used o
     → Rebalances told mid free between pages height left right b rs used o
-rebalances {told = told} {mid = mid} {free = free} {between = between} pages {height = height} {left = left} {right = right} {b = b} {rs = rs} {used = used} {o = o} e d =
+rebalances {free = free} {between = between} pages {height = height} {left = left} {right = right} {b = b} {rs = rs} {used = used} {o = o} e d =
     let same : d.pages ≡ pages = some_same d.pages pages (sym d.was ∙ e) in
     record { news = d.news; is = d.is; done = subst (λ p. HasRebalanced p d.news free between height left right b rs used o) same d.done }
   where

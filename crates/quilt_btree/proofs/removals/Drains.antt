@@ -106,7 +106,7 @@ pub at_run : {told then_told : Option (List (List ℕ))} {free then_free : ℕ �
     → LeadsToChild told then_told free then_free size then_size page height child i k inner → next ≡ option_or (slice_get inner.keys i) high
     → b.high ≡ high → CanEdit told free page height is_root b rs used
     → AtRun told then_told free then_free page height child i k inner next is_root b rs used
-at_run {told = told} {then_told = then_told} {free = free} {then_free = then_free} {size = size} {then_size = then_size} {page = page} {height = height} {child = child} {i = i} {k = k} {inner = inner} high next {is_root = is_root} {b = b} {rs = rs} {used = used} l is_next top can =
+at_run {told = told} {free = free} {page = page} {height = height} {child = child} {i = i} {k = k} {inner = inner} high next {is_root = is_root} {b = b} {rs = rs} {used = used} l is_next top can =
     let x = go_below told free page height is_root b k rs used inner i l.some l.above l.reads l.place can in
     let ka = take i inner.keys in
     let kb = drop i inner.keys in

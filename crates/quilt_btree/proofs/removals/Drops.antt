@@ -26,6 +26,6 @@ module _ (told now_told : Option (List (List ℕ))) (size page : ℕ) where
 
 pub dropped_many : (inner : Inner) {less : Inner} (j : ℕ) {n m : ℕ} → less ≡ without_child inner j → j < length inner.keys → n ≡ length inner.children
     → n ≡ length inner.keys + 1 → m ≡ length less.children → suc m ≡ length inner.children
-dropped_many inner {less = less} j {n = n} {m = m} is inside e f g =
+dropped_many inner j is inside e f g =
     let there : suc j < length inner.children = omega arith in
     ap suc (g ∙ ap (λ (i : Inner). length i.children) is) ∙ one_fewer inner.children (suc j) there

@@ -163,7 +163,7 @@ pub leaf_after : {k : Key} {told mid now_told : Option (List (List ℕ))} {free 
     {b : Bounds} {rs leaf all : List Record} {used bytes : List ℕ} → LeafCut k told mid now_told free now page size i leaf all bytes
     → (r || nat_le 72 (length all)) ≡ true → CanEdit told free page 1 is_root b rs used
     → LeafAfter k told now_told free now page is_root r b rs all used bytes
-leaf_after {k = k} {told = told} {mid = mid} {now_told = now_told} {free = free} {now = now} {page = page} {size = size} {i = i} {is_root = is_root} r {b = b} {rs = rs} {leaf = leaf} {all = all} {used = used} {bytes = bytes} c enough can =
+leaf_after {k = k} {told = told} {mid = mid} {now_told = now_told} {free = free} {page = page} {size = size} {i = i} {is_root = is_root} r {b = b} {rs = rs} {leaf = leaf} {all = all} {used = used} {bytes = bytes} c enough can =
     let same = leaf_same told free page is_root b rs leaf used can c.reads in
     let s : Subtree can.pages 1 is_root (page, b) rs used = can.subtree in
     let on = tells_on (λ old new. new ≡ slice_set old page bytes) mid now_told can.pages (c.is_mid ∙ can.is_told) c.tells in

@@ -61,7 +61,7 @@ one_less height below e = omega arith
 
 total : (p : ℕ) {used under : List ℕ} (l h f : List ℕ) (page : ℕ) → used ≡ under ++ page ∷ [] → under ≡ (l ++ h) ++ f
     → times p used ≡ times p l + times p h + times p f + times p (page ∷ [])
-total p {used = used} {under = under} l h f page e g = ap (times p) e ∙ times-append p under (page ∷ []) ∙ ap (λ n. n + times p (page ∷ [])) (ap (times p) g ∙ times-three p l h f)
+total p {under = under} l h f page e g = ap (times p) e ∙ times-append p under (page ∷ []) ∙ ap (λ n. n + times p (page ∷ [])) (ap (times p) g ∙ times-three p l h f)
 
 module _ (told : Option (List (List ℕ))) (free : ℕ → Bool) (page height : ℕ) where
   pub at_inner : (inner : Inner) (i : ℕ) (k : Key) (is_root : Bool) (b : Bounds) (rs : List Record) (used : List ℕ) → 1 ≤ height → height ≢ 1
@@ -244,13 +244,13 @@ pub record UnderfullChild (k : Key) (between : Option (List (List ℕ))) (free t
 left_then : {pages mids : List (List ℕ)} (news : List (List ℕ)) {free then : ℕ → Bool} (now : ℕ → Bool) (page height : ℕ) (is_root : Bool)
     (b : Bounds) {used more : List ℕ} (all : List Record) (o : Removed) → height ≢ 1 → Moves pages mids free then used more
     → HasLeft mids news then now page height is_root b more all o → HasLeft pages news free now page height is_root b used all o
-left_then {pages = pages} {mids = mids} news {free = free} {then = then} now page height is_root b {used = used} {more = more} all removed.Missing ne m l = l
-left_then {pages = pages} {mids = mids} news {free = free} {then = then} now page height is_root b {used = used} {more = more} all removed.Done ne m l = becomes_then
+left_then news now page height is_root b all removed.Missing ne m l = l
+left_then news now page height is_root b all removed.Done ne m l = becomes_then
     m l
-left_then {pages = pages} {mids = mids} news {free = free} {then = then} now page height is_root b {used = used} {more = more} all removed.Underfull ne m l =
+left_then news now page height is_root b all removed.Underfull ne m l =
     (l.0, becomes_then m l.1)
-left_then {pages = pages} {mids = mids} news {free = free} {then = then} now page height is_root b {used = used} {more = more} all removed.Emptied ne m l = absurd (ne l.is_leaf)
-left_then {pages = pages} {mids = mids} news {free = free} {then = then} now page height is_root b {used = used} {more = more} all (removed.Only child) ne m l =
+left_then news now page height is_root b all removed.Emptied ne m l = absurd (ne l.is_leaf)
+left_then news now page height is_root b all (removed.Only child) ne m l =
     let c = l.1 in (
       l.0,
       record {
@@ -267,7 +267,7 @@ did_leave : (told : Option (List (List ℕ))) {between now_told : Option (List (
     {b : Bounds} {used more : List ℕ} {all : List Record} {o : Removed} {pages mids : List (List ℕ)} → height ≢ 1 → told ≡ Some pages
     → between ≡ Some mids → Moves pages mids free then used more → DidLeave between now_told then now page height is_root b more all o
     → DidLeave told now_told free now page height is_root b used all o
-did_leave told {between = between} {now_told = now_told} {free = free} {then = then} {now = now} {page = page} {height = height} {is_root = is_root} {b = b} {used = used} {more = more} {all = all} {o = o} {pages = pages} {mids = mids} ne e g m d =
+did_leave told {then = then} {now = now} {page = page} {height = height} {is_root = is_root} {b = b} {more = more} {all = all} {o = o} {pages = pages} {mids = mids} ne e g m d =
     let same : d.pages ≡ mids = some_same d.pages mids (sym d.was ∙ g) in
     record {
       pages = pages;
@@ -285,11 +285,11 @@ did_leave told {between = between} {now_told = now_told} {free = free} {then = t
 removed_as : (k : Key) {told now_told : Option (List (List ℕ))} {free now : ℕ → Bool} {page height : ℕ} {is_root : Bool} {b : Bounds}
     (rs : List Record) {used : List ℕ} {o : Removed} → (o ≡ removed.Missing → ⊥) → list_any (has_key k) rs ≡ true
     → DidLeave told now_told free now page height is_root b used (without k rs) o → DidRemove k told now_told free now page height is_root b rs used o
-removed_as k {told = told} {now_told = now_told} {free = free} {now = now} {page = page} {height = height} {is_root = is_root} {b = b} rs {used = used} {o = removed.Missing} some had d = absurd (some refl)
-removed_as k {told = told} {now_told = now_told} {free = free} {now = now} {page = page} {height = height} {is_root = is_root} {b = b} rs {used = used} {o = removed.Done} some had d = (had, d)
-removed_as k {told = told} {now_told = now_told} {free = free} {now = now} {page = page} {height = height} {is_root = is_root} {b = b} rs {used = used} {o = removed.Underfull} some had d = (had, d)
-removed_as k {told = told} {now_told = now_told} {free = free} {now = now} {page = page} {height = height} {is_root = is_root} {b = b} rs {used = used} {o = removed.Emptied} some had d = (had, d)
-removed_as k {told = told} {now_told = now_told} {free = free} {now = now} {page = page} {height = height} {is_root = is_root} {b = b} rs {used = used} {o = (removed.Only child)} some had d = (had, d)
+removed_as k rs {o = removed.Missing} some had d = absurd (some refl)
+removed_as k rs {o = removed.Done} some had d = (had, d)
+removed_as k rs {o = removed.Underfull} some had d = (had, d)
+removed_as k rs {o = removed.Emptied} some had d = (had, d)
+removed_as k rs {o = (removed.Only child)} some had d = (had, d)
 
 module _ (k : Key) (told mid between : Option (List (List ℕ))) (free was then : ℕ → Bool) (page height child i : ℕ) (inner : Inner) where
   pub underfull_child : ChildEdited k told mid free was page height child i inner
@@ -388,7 +388,7 @@ pub only_child : (only : ℕ) (e : Stop) {k : Key} {told mid between : Option (L
     (i : ℕ) (inner : Inner) → ChildEdited k told mid free was page height child i inner → Removes k mid between was then child (height - 1)
     (removed.Only only) → {is_root : Bool} {b : Bounds} {rs : List Record} {used : List ℕ} → CanEdit told free page height is_root b rs used
     → IsSound e
-only_child only e {k = k} {told = told} {mid = mid} {between = between} {free = free} {was = was} {then = then} {page = page} {height = height} {child = child} i inner c f {is_root = is_root} {b = b} {rs = rs} {used = used} can =
+only_child only e {k = k} {told = told} {mid = mid} {free = free} {was = was} {page = page} {height = height} {child = child} i inner c f {is_root = is_root} {b = b} {rs = rs} {used = used} can =
     let a = at_inner told free page height inner i k is_root b rs used c.some c.above c.reads c.place can in
     let did = f false (child_bounds inner b i) a.down.at.here a.down.at.here_used
     (child_edit told mid free was page height child i inner k is_root b rs used a c.is_mid c.is_free c.is_child) in

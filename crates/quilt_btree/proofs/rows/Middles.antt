@@ -69,7 +69,7 @@ pub record CutTwo (cs : List ℕ) (ks : List Key) (j left : ℕ) (key : Key) (ri
 
 pub cut_two : (cs : List ℕ) (ks : List Key) (j : ℕ) {next left : ℕ} (key : Key) {right : ℕ} → length cs ≡ length ks + 1 → j + 1 < length cs
     → next ≡ suc j → left ≡ slice_index cs j → right ≡ slice_index cs next → slice_get ks j ≡ Some key → CutTwo cs ks j left key right
-cut_two cs ks j {next = next} {left = left} key {right = right} n lt nx l r k =
+cut_two cs ks j {left = left} key n lt nx l r k =
     let here : j < length cs = omega arith in
     let there : suc j < length cs = omega arith in
     let low : j ≤ length cs = omega arith in

@@ -166,7 +166,7 @@ parent_written pages free h page is_root b inner bytes under all inside is heigh
 pub becomes_then : {pages mid news : List (List ℕ)} {free between now : ℕ → Bool} {page height : ℕ} {is_root : Bool} {b : Bounds} {used more : List ℕ}
     {all : List Record} → Moves pages mid free between used more → Becomes mid news between now page height is_root b more all
     → Becomes pages news free now page height is_root b used all
-becomes_then {pages = pages} {mid = mid} {news = news} {free = free} {between = between} {now = now} {page = page} {height = height} {is_root = is_root} {b = b} {used = used} {more = more} {all = all} m o = record {
+becomes_then m o = record {
   uses = o.uses;
   subtree = o.subtree;
   moves = moves_then m o.moves;

@@ -124,7 +124,7 @@ module _ {S : Type 0} (g : Ghosts S) where
   -- where nothing was taken
   pub none_taken : {T : Type 0} {s t : S} {first : Result T Stop} → OnlyReads g s t first
       → count_free (g.free s) (g.size s) ≤ count_free (g.free t) (g.size s) + 0
-  none_taken {s = s} {t = t} a = let e = ap (λ f. count_free f (g.size s)) a.free in omega arith
+  none_taken {s = s} a = let e = ap (λ f. count_free f (g.size s)) a.free in omega arith
 
   -- what a removal below a page leaves, which was only read
   pub remains_below : {T : Type 0} {s t u : S} {first : Result T Stop} {result : Result Removed Stop} (k l : ℕ) → k ≤ l → OnlyReads g s t first

@@ -73,7 +73,7 @@ moves_taken pages free now used page t f = record {
 -- one edit behind the other
 pub moves_then : {pages mid news : List (List ℕ)} {free between now : ℕ → Bool} {used more uses : List ℕ} → Moves pages mid free between used more
     → Moves mid news between now more uses → Moves pages news free now used uses
-moves_then {pages = pages} {mid = mid} {news = news} {free = free} {between = between} {now = now} {used = used} {more = more} {uses = uses} a b = record {
+moves_then a b = record {
   size = b.size ∙ a.size;
   others = λ p none. b.others p (a.balance p ∙ none) ∙ a.others p none;
   balance = λ p. b.balance p ∙ a.balance p;

@@ -250,8 +250,8 @@ pub leads_up : (r : Result Found Stop) (leaf : List Record) {old new : Option (L
     → IsPlace inner.keys k i → child ≡ slice_index inner.children i → high ≡ option_or (slice_get inner.keys i) start
     → IfOk r (λ f. (rs : List Record) (s : Spells new child (height - 1) rs) → s.bounds.high ≡ high → LeadsTo k rs leaf high f.high)
     → IfOk r (λ f. (rs : List Record) (s : Spells old page height rs) → s.bounds.high ≡ start → LeadsTo k rs leaf start f.high)
-leads_up (Err e) leaf {old = old} {new = new} page height {child = child} {i = i} {k = k} inner start {high = high} t some ne reads p e1 e2 f = f
-leads_up (Ok v) leaf {old = old} {new = new} page height {child = child} {i = i} {k = k} inner start {high = high} t some ne reads p e1 e2 f = λ rs s h.
+leads_up (Err e) leaf page height inner start t some ne reads p e1 e2 f = f
+leads_up (Ok v) leaf {old = old} {new = new} page height {i = i} {k = k} inner start {high = high} t some ne reads p e1 e2 f = λ rs s h.
     let at = subst (λ o. LeadsBelow old height inner i k rs o) h (leads_below old page height rs inner i k some ne s reads p) in
     let same : at.high ≡ high = at.is_next ∙ sym e2 in
     let here : Spells new (slice_index inner.children i) (height - 1) at.here =
@@ -355,7 +355,7 @@ pub floor_before : {old new newer : Option (List (List ℕ))} {page height child
     → ((rs : List Record) → Spells new child (height - 1) rs → None ≡ floor_of k rs)
     → ((rs : List Record) → Spells newer prior (height - 1) rs → last_or None rs ≡ Some r) → {rs : List Record} → Spells old page height rs
     → Some r ≡ floor_of k rs
-floor_before {old = old} {new = new} {newer = newer} {page = page} {height = height} {child = child} {prior = prior} {i = i} {k = k} {inner = inner} r a some t is f g {rs = rs} s =
+floor_before {old = old} {new = new} {newer = newer} {page = page} {height = height} {i = i} {k = k} {inner = inner} r a some t is f g {rs = rs} s =
     let at = leads_below old page height rs inner i k a.some a.above s a.reads a.place in
     let here =
     f at.here (subst (λ c. Spells new c (height - 1) at.here) (sym a.is_child)

@@ -142,8 +142,8 @@ starts_case : (pages : List (List ℕ)) (h height : ℕ) {place i child : ℕ} (
     → (Divides pages (height - 1) child k → list_all (λ (r : Record). is_le (key_cmp k r.key)) leaf ≡ true)
     → ((j : ℕ) × (place ≡ suc j) × (slice_get inner.keys j ≡ Some k)) ⊎ Divides pages (suc h) (slice_index inner.children place) k
     → list_all (λ (r : Record). is_le (key_cmp k r.key)) leaf ≡ true
-starts_case pages h height {place = place} {i = i} {child = child} k inner here leaf e is n low inside below (inl q) = inside (low q.0 k (sym e ∙ q.1) q.2)
-starts_case pages h height {place = place} {i = i} {child = child} k inner here leaf e is n low inside below (inr d) =
+starts_case pages h height k inner here leaf e is n low inside below (inl q) = inside (low q.0 k (sym e ∙ q.1) q.2)
+starts_case pages h height {child = child} k inner here leaf e is n low inside below (inr d) =
     below (subst (λ m. Divides pages m child k) (sym n) (subst (λ c. Divides pages (suc h) c k) (ap (slice_index inner.children) e ∙ sym is) d))
 
 one_less : (height h : ℕ) → height ≡ suc (suc h) → height - 1 ≡ suc h

@@ -201,12 +201,12 @@ run_zero P e stop done s f page is =
 -- the first step of a run judges the store as it was, and what a later one says names no page over 0
 pub run_names : {e stop : Stop} {done : ℕ} (told mid : Option (List (List ℕ))) (t u : Tree) → StopsBehind e stop done
     → (done ≡ 0 → (mid ≡ told) × (u ≡ t)) → (e ≢ Damaged 0 → NamesBad mid u.height u.root e) → stop ≢ Damaged 0 → NamesBad told t.height t.root stop
-run_names {e = e} {stop = stop} {done = zero} told mid t u s start f ne =
+run_names {e = e} {done = zero} told mid t u s start f ne =
     let is = s.first refl in
     subst (λ x. NamesBad told t.height t.root x) (sym is)
     (subst (λ (x : Tree). NamesBad told x.height x.root e) (start refl).1
     (subst (λ o. NamesBad o u.height u.root e) (start refl).0 (f (λ z. ne (is ∙ z)))))
-run_names {e = e} {stop = stop} {done = (suc n)} told mid t u s start f ne = zero_names told t.height t.root stop (s.later (omega arith)) ne
+run_names {stop = stop} {done = (suc n)} told mid t u s start f ne = zero_names told t.height t.root stop (s.later (omega arith)) ne
 
 least_rises : (top before mid now : ℕ) → before ≤ mid → min (mid + 1) top ≤ now → min (before + 1) top ≤ now
 least_rises top before mid now le h = omega arith
@@ -216,7 +216,7 @@ rose before mid now le h = least_rises causes.last before mid now le h
 
 pub run_cause : {T U : Type 0} {e stop : Stop} {done : ℕ} (before : ℕ) {mid now : ℕ} → StopsBehind e stop done → before ≤ mid
     → HasStopCause {T = U} mid now (Err e) → HasStopCause {T = T} before now (Err stop)
-run_cause {e = e} {stop = stop} {done = done} before {mid = mid} {now = now} s le c = record {
+run_cause {e = e} {stop = stop} before {mid = mid} {now = now} s le c = record {
   later = let m = c.later in omega arith;
   device = λ d. rose before mid now le (c.device (onto e (s.device (from stop d))));
 }
@@ -310,9 +310,9 @@ pub beside_named : {T : Type 0} (result : Result T Stop) {told mid : Option (Lis
     (i : ℕ) {child : ℕ} {bytes : List ℕ} (inner : Inner) → IsRead told mid page height size bytes → inner_of size bytes ≡ Some inner
     → child ≡ slice_index inner.children i → (height - 1 ≡ 1 → Goes (OthersStay child) mid now) → IfErr result (NamesBeside now height inner i)
     → IfErr result (λ e. e ≢ Damaged 0 → NamesBad told height page e)
-beside_named (Ok v) {told = told} {mid = mid} now {page = page} {height = height} {size = size} i {child = child} {bytes = bytes} inner r is c others f = f
-beside_named (Err Device) {told = told} {mid = mid} now {page = page} {height = height} {size = size} i {child = child} {bytes = bytes} inner r is c others f = λ ne. tt
-beside_named (Err Memory) {told = told} {mid = mid} now {page = page} {height = height} {size = size} i {child = child} {bytes = bytes} inner r is c others f = λ ne. tt
+beside_named (Ok v) now i inner r is c others f = f
+beside_named (Err Device) now i inner r is c others f = λ ne. tt
+beside_named (Err Memory) now i inner r is c others f = λ ne. tt
 beside_named (Err (Damaged q)) {told = told} {mid = mid} now {page = page} {height = height} {size = size} i {child = child} {bytes = bytes} inner r is c others f = λ ne.
     let b = f q refl (λ z. ne (ap Damaged z)) in
     let one : height - 1 ≡ 1 = let t = b.two in omega arith in

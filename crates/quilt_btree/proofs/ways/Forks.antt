@@ -46,7 +46,7 @@ pub record IsHere (told : Option (List (List ℕ))) (page height size : ℕ) (by
 
 pub page_here : {old new : Option (List (List ℕ))} {page height size : ℕ} {bytes : List ℕ} {rs : List Record} → IsRead old new page height size bytes
     → Spells old page height rs → IsHere old page height size bytes
-page_here {old = old} {new = new} {page = page} {height = height} {size = size} {bytes = bytes} {rs = rs} r s =
+page_here {page = page} {height = height} {size = size} {bytes = bytes} {rs = rs} r s =
     let n = height_above height r.some r.above in
     let t = subst (λ n. Subtree s.pages n s.is_root (page, s.bounds) rs s.used) n.1 s.subtree in
     let same : bytes ≡ slice_index_or s.pages page [] = r.are s.pages s.is_told in
@@ -226,7 +226,7 @@ pub touched_last : (r : Result Record Stop) {old new : Option (List (List ℕ))}
     (h0 h1 h2 : Option (List ℕ)) → IsRead old new page height size bytes → IsLast size bytes child → Goes (Touches page) h0 h1
     → OnOk r ((rs : List Record) → Spells new child (height - 1) rs → TouchesInTurn (λ pages. last_pages pages (height - 1) child) new h1 h2)
     → OnOk r ((rs : List Record) → Spells old page height rs → TouchesInTurn (λ pages. last_pages pages height page) old h0 h2)
-touched_last (Err e) {old = old} {new = new} {page = page} {height = height} {size = size} {bytes = bytes} {child = child} h0 h1 h2 r is t f = f
+touched_last (Err e) h0 h1 h2 r is t f = f
 touched_last (Ok x) {old = old} {new = new} {page = page} {height = height} {size = size} {bytes = bytes} {child = child} h0 h1 h2 r is t f = λ rs s.
     let a = ended page height bytes old new size child rs r is s in
     last_touched (Ok x) h0 h1 h2 a.at t (f a.here a.spells)

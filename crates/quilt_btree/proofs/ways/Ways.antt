@@ -25,5 +25,5 @@ module _ (told : Option (List (List ℕ))) (page size : ℕ) (bytes : List ℕ) 
 
 pub is_high : {old new : Option (List (List ℕ))} {page height size : ℕ} {bytes : List ℕ} {rs : List Record} → IsRead old new page height size bytes
     → Spells old page height rs → IsHigh size bytes height
-is_high {old = old} {new = new} {page = page} {height = height} {size = size} {bytes = bytes} {rs = rs} r s = let h = page_here r s in
+is_high r s = let h = page_here r s in
     record { inner = h.inner; is = h.is; is_height = h.is_height }
