@@ -120,7 +120,8 @@ module _ (told then_told : Option (List (List ℕ))) (free then_free : ℕ → B
   -- the child was edited
   pub under_edited : (now_told : Option (List (List ℕ))) (now : ℕ → Bool) (xs : List Edit) → list_all (λ x. is_le (key_cmp k x))
       (edit_keys run) ≡ true → list_all (λ x. is_le (key_cmp k x)) (edit_keys xs) ≡ true
-      → ((b : Bounds) (rs : List Record) (used : List ℕ) → b.high ≡ next → list_all (is_above b.low) (edit_keys run) ≡ true → CanEdit then_told then_free child (height - 1) false b rs used → DidEdit xs then_told now_told then_free now child (height - 1) false b rs used)
+      → ((b : Bounds) (rs : List Record) (used : List ℕ) → b.high ≡ next → list_all (is_above b.low) (edit_keys run) ≡ true
+      → CanEdit then_told then_free child (height - 1) false b rs used → DidEdit xs then_told now_told then_free now child (height - 1) false b rs used)
       → list_all (is_above b.low) (edit_keys run) ≡ true → DidEdit xs told now_told free now page height is_root b rs used
   under_edited now_told now xs whole from f above =
       let a = at_run high next l is_next top can in
@@ -169,7 +170,8 @@ module _ (told then_told : Option (List (List ℕ))) (free then_free : ℕ → B
 
   -- what is not due under the child is not due
   pub under_fails : (e : Stop) (q : ℕ) → list_all (λ x. is_le (key_cmp k x)) (edit_keys run) ≡ true
-      → ((b : Bounds) (rs : List Record) (used : List ℕ) → b.high ≡ next → CanEdit then_told then_free child (height - 1) false b rs used → (q : ℕ) → e ≡ Damaged q → (q ≡ 0) × Fails run b.high rs)
+      → ((b : Bounds) (rs : List Record) (used : List ℕ) → b.high ≡ next → CanEdit then_told then_free child (height - 1) false b rs used → (q : ℕ) → e ≡ Damaged q
+      → (q ≡ 0) × Fails run b.high rs)
       → e ≡ Damaged q → (q ≡ 0) × Fails run b.high rs
   under_fails e q from f damaged =
       let a = at_run high next l is_next top can in
@@ -202,8 +204,10 @@ module _ (old new : Option (List (List ℕ))) (free then_free : ℕ → Bool) (s
   pub step_edited : (r : Result ℕ Stop) (now_told : Option (List (List ℕ))) (now : ℕ → Bool) → IsRead old new page height count bytes
       → IsSame old new free then_free size then_size → StepsTo count bytes k high child next → list_all (λ x. is_le (key_cmp k x))
       (edit_keys run) ≡ true
-      → IfOk r (λ n. 1 ≤ n → (b : Bounds) (rs : List Record) (used : List ℕ) → b.high ≡ next → list_all (is_above b.low) (edit_keys run) ≡ true → CanEdit new then_free child (height - 1) false b rs used → DidEdit (take n run) new now_told then_free now child (height - 1) false b rs used)
-      → IfOk r (λ n. 1 ≤ n → (b : Bounds) (rs : List Record) (used : List ℕ) → b.high ≡ high → list_all (is_above b.low) (edit_keys run) ≡ true → CanEdit old free page height is_root b rs used → DidEdit (take n run) old now_told free now page height is_root b rs used)
+      → IfOk r (λ n. 1 ≤ n → (b : Bounds) (rs : List Record) (used : List ℕ) → b.high ≡ next → list_all (is_above b.low) (edit_keys run) ≡ true
+      → CanEdit new then_free child (height - 1) false b rs used → DidEdit (take n run) new now_told then_free now child (height - 1) false b rs used)
+      → IfOk r (λ n. 1 ≤ n → (b : Bounds) (rs : List Record) (used : List ℕ) → b.high ≡ high → list_all (is_above b.low) (edit_keys run) ≡ true
+      → CanEdit old free page height is_root b rs used → DidEdit (take n run) old now_told free now page height is_root b rs used)
   step_edited (Err e) now_told now is same step from f = f
   step_edited (Ok n) now_told now is same step from f =
       λ one b rs used top above can.
@@ -215,8 +219,10 @@ module _ (old new : Option (List (List ℕ))) (free then_free : ℕ → Bool) (s
 
   pub step_fails : (r : Result ℕ Stop) → IsRead old new page height count bytes → IsSame old new free then_free size then_size
       → StepsTo count bytes k high child next → list_all (λ x. is_le (key_cmp k x)) (edit_keys run) ≡ true
-      → IfErr r (λ e. (b : Bounds) (rs : List Record) (used : List ℕ) → b.high ≡ next → CanEdit new then_free child (height - 1) false b rs used → (q : ℕ) → e ≡ Damaged q → (q ≡ 0) × Fails run b.high rs)
-      → IfErr r (λ e. (b : Bounds) (rs : List Record) (used : List ℕ) → b.high ≡ high → CanEdit old free page height is_root b rs used → (q : ℕ) → e ≡ Damaged q → (q ≡ 0) × Fails run b.high rs)
+      → IfErr r (λ e. (b : Bounds) (rs : List Record) (used : List ℕ) → b.high ≡ next → CanEdit new then_free child (height - 1) false b rs used → (q : ℕ)
+      → e ≡ Damaged q → (q ≡ 0) × Fails run b.high rs)
+      → IfErr r (λ e. (b : Bounds) (rs : List Record) (used : List ℕ) → b.high ≡ high → CanEdit old free page height is_root b rs used → (q : ℕ) → e ≡ Damaged q
+      → (q ≡ 0) × Fails run b.high rs)
   step_fails (Ok n) is same step from f = f
   step_fails (Err e) is same step from f =
       λ b rs used top can q damaged.
@@ -228,8 +234,10 @@ module _ (old new : Option (List (List ℕ))) (free then_free : ℕ → Bool) (s
 
 module _ (high : Option Key) (run : List Edit) where
   pub fails_leaf : (r : Result ℕ Stop) (told : Option (List (List ℕ))) (free : ℕ → Bool) (page height : ℕ) (is_root : Bool) → height ≡ 1
-      → IfErr r (λ e. (b : Bounds) (rs : List Record) (used : List ℕ) → b.high ≡ high → CanEdit told free page 1 is_root b rs used → (q : ℕ) → e ≡ Damaged q → (q ≡ 0) × Fails run b.high rs)
-      → IfErr r (λ e. (b : Bounds) (rs : List Record) (used : List ℕ) → b.high ≡ high → CanEdit told free page height is_root b rs used → (q : ℕ) → e ≡ Damaged q → (q ≡ 0) × Fails run b.high rs)
+      → IfErr r (λ e. (b : Bounds) (rs : List Record) (used : List ℕ) → b.high ≡ high → CanEdit told free page 1 is_root b rs used → (q : ℕ) → e ≡ Damaged q
+      → (q ≡ 0) × Fails run b.high rs)
+      → IfErr r (λ e. (b : Bounds) (rs : List Record) (used : List ℕ) → b.high ≡ high → CanEdit told free page height is_root b rs used → (q : ℕ) → e ≡ Damaged q
+      → (q ≡ 0) × Fails run b.high rs)
   fails_leaf (Ok n) told free page height is_root one f = f
   fails_leaf (Err e) told free page height is_root one f =
       λ b rs used top can. f b rs used top (subst (λ h. CanEdit told free page h is_root b rs used) one can)

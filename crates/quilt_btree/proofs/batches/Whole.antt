@@ -299,7 +299,8 @@ rest_cost_all run i = ap (λ l. cost (take i run) + cost l) (take_rest run i) �
 
 module _ (told : Option (List (List ℕ))) (free : ℕ → Bool) (size : ℕ) (t : Tree) (run : List Edit) where
   pub whole_fails : (e : Stop) (rs : List Record) → IsRemoving free size t
-      → ((b : Bounds) (rs : List Record) (used : List ℕ) → b.high ≡ None → CanEdit told free t.root t.height true b rs used → (q : ℕ) → e ≡ Damaged q → (q ≡ 0) × Fails run b.high rs)
+      → ((b : Bounds) (rs : List Record) (used : List ℕ) → b.high ≡ None → CanEdit told free t.root t.height true b rs used → (q : ℕ) → e ≡ Damaged q
+      → (q ≡ 0) × Fails run b.high rs)
       → IsWhole told free size t rs → (q : ℕ) → e ≡ Damaged q → (q ≡ 0) × (are_due run rs ≡ false)
   whole_fails e rs i f w q is =
       let a = at_root told free size t rs i w in

@@ -102,11 +102,12 @@ pub whole_again : {pages news : List (List ℕ)} {now_told : Option (List (List 
     → Moves pages news free now used uses → AreApart free used → ((p : ℕ) → 1 ≤ p → p < size → account free used p ≡ 1) → length all ≡ records
     → IsWhole now_told now size (record { root = root; height = height; records = records }) all
 unfolding tree_again
-whole_again {pages = pages} {news = news} {now_told = now_told} {free = free} {now = now} size root height records {used = used} {uses = uses} all is some s m apart balance number = record {
-  tree = tree_again news now_told now root height records uses all is some s (apart_then pages news free now used uses m apart);
-  number = number;
-  balance = λ p low high. ap (λ u. account now u p) (append-nil uses) ∙ m.balance p ∙ balance p low high;
-}
+whole_again {pages = pages} {news = news} {now_told = now_told} {free = free} {now = now} size root height records {used = used} {uses = uses} all is some s m apart
+    balance number = record {
+      tree = tree_again news now_told now root height records uses all is some s (apart_then pages news free now used uses m apart);
+      number = number;
+      balance = λ p low high. ap (λ u. account now u p) (append-nil uses) ∙ m.balance p ∙ balance p low high;
+    }
 
 module _ (told : Option (List (List ℕ))) (free : ℕ → Bool) (size : ℕ) where
   pub whole_from : (t : Tree) (rs : List Record) → IsRooted size t → 1 ≤ t.height → 16 ≤ size → FreeIn free size → IsWhole told free size t rs

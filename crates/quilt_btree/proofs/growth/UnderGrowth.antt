@@ -89,7 +89,8 @@ module _ (r : Record) (told then_told now_told : Option (List (List ℕ))) (free
     (inner : Inner) (is_root : Bool) (b : Bounds) (rs : List Record) (used : List ℕ) where
   child_did : (o : Inserted) → LeadsToChild told then_told free then_free size then_size page height child i r.key inner
       → (can : CanInsert told free size page height is_root b r.key rs used) (x : IsBelow told free page height is_root b r.key rs used inner i)
-      → ((is_root : Bool) (b : Bounds) (rs : List Record) (used : List ℕ) → CanInsert then_told then_free then_size child (height - 1) is_root b r.key rs used → DidInsert r then_told now_told then_free now child (height - 1) is_root b rs used o)
+      → ((is_root : Bool) (b : Bounds) (rs : List Record) (used : List ℕ) → CanInsert then_told then_free then_size child (height - 1) is_root b r.key rs used
+      → DidInsert r then_told now_told then_free now child (height - 1) is_root b rs used o)
       → ChildDid r x.pages now_told free now (slice_index inner.children i) (suc x.below) (child_bounds inner b i) x.at.here x.at.here_used o
   child_did o l can x f =
       let did = did_along told then_told free then_free size then_size child (height - 1) false (child_bounds inner b i) x.at.here x.at.here_used r
@@ -112,7 +113,8 @@ module _ (r : Record) (told then_told now_told : Option (List (List ℕ))) (free
 
   -- the key was there
   pub under_there : LeadsToChild told then_told free then_free size then_size page height child i r.key inner
-      → ((is_root : Bool) (b : Bounds) (rs : List Record) (used : List ℕ) → CanInsert then_told then_free then_size child (height - 1) is_root b r.key rs used → DidInsert r then_told now_told then_free now child (height - 1) is_root b rs used inserted.There)
+      → ((is_root : Bool) (b : Bounds) (rs : List Record) (used : List ℕ) → CanInsert then_told then_free then_size child (height - 1) is_root b r.key rs used
+      → DidInsert r then_told now_told then_free now child (height - 1) is_root b rs used inserted.There)
       → CanInsert told free size page height is_root b r.key rs used → DidInsert r told now_told free now page height is_root b rs used inserted.There
   under_there l f can =
       let x = insert_below told then_told free then_free size then_size page height child i r.key inner is_root b rs used l can in
@@ -121,7 +123,8 @@ module _ (r : Record) (told then_told now_told : Option (List (List ℕ))) (free
 
   -- the child took the record
   pub under_done : LeadsToChild told then_told free then_free size then_size page height child i r.key inner
-      → ((is_root : Bool) (b : Bounds) (rs : List Record) (used : List ℕ) → CanInsert then_told then_free then_size child (height - 1) is_root b r.key rs used → DidInsert r then_told now_told then_free now child (height - 1) is_root b rs used inserted.Done)
+      → ((is_root : Bool) (b : Bounds) (rs : List Record) (used : List ℕ) → CanInsert then_told then_free then_size child (height - 1) is_root b r.key rs used
+      → DidInsert r then_told now_told then_free now child (height - 1) is_root b rs used inserted.Done)
       → CanInsert told free size page height is_root b r.key rs used → DidInsert r told now_told free now page height is_root b rs used inserted.Done
   under_done l f can =
       let x = insert_below told then_told free then_free size then_size page height child i r.key inner is_root b rs used l can in
@@ -214,7 +217,8 @@ module _ (r : Record) (told then_told : Option (List (List ℕ))) (free then_fre
     (key : Key) (right : ℕ) (l : LeadsToChild told then_told free then_free size then_size page height child i r.key inner)
     (many : TellsAll told size) (in_range : (1 ≤ right) × (right < size)) where
   pub under_takes : (now_told : Option (List (List ℕ))) (now : ℕ → Bool) (is_root : Bool) (b : Bounds) (rs : List Record) (used : List ℕ)
-      → ((is_root : Bool) (b : Bounds) (rs : List Record) (used : List ℕ) → CanInsert then_told then_free then_size child (height - 1) is_root b r.key rs used → DidInsert r then_told now_told then_free now child (height - 1) is_root b rs used (inserted.Split key right))
+      → ((is_root : Bool) (b : Bounds) (rs : List Record) (used : List ℕ) → CanInsert then_told then_free then_size child (height - 1) is_root b r.key rs used
+      → DidInsert r then_told now_told then_free now child (height - 1) is_root b rs used (inserted.Split key right))
       → CanInsert told free size page height is_root b r.key rs used
       → IsToTake r told now_told free now page height is_root b rs used inner i key right
   under_takes now_told now is_root b rs used f can =
@@ -286,9 +290,12 @@ module _ (r : Record) (told then_told : Option (List (List ℕ))) (free then_fre
 
   -- the page took it
   pub took_child : (result : Result Inserted Stop) (mid_told now_told : Option (List (List ℕ))) (mid now : ℕ → Bool)
-      → ((is_root : Bool) (b : Bounds) (rs : List Record) (used : List ℕ) → CanInsert then_told then_free then_size child (height - 1) is_root b r.key rs used → DidInsert r then_told mid_told then_free mid child (height - 1) is_root b rs used (inserted.Split key right))
-      → IfOk result (λ o. (is_root : Bool) (b : Bounds) (all : List Record) (under : List ℕ) → IsPending mid_told mid page is_root b (with_child inner i key right) all under → DidPut mid_told now_told mid now page inner.height is_root b (under ++ page ∷ []) all o)
-      → IfOk result (λ o. (is_root : Bool) (b : Bounds) (rs : List Record) (used : List ℕ) → CanInsert told free size page height is_root b r.key rs used → DidInsert r told now_told free now page height is_root b rs used o)
+      → ((is_root : Bool) (b : Bounds) (rs : List Record) (used : List ℕ) → CanInsert then_told then_free then_size child (height - 1) is_root b r.key rs used
+      → DidInsert r then_told mid_told then_free mid child (height - 1) is_root b rs used (inserted.Split key right))
+      → IfOk result (λ o. (is_root : Bool) (b : Bounds) (all : List Record) (under : List ℕ)
+      → IsPending mid_told mid page is_root b (with_child inner i key right) all under → DidPut mid_told now_told mid now page inner.height is_root b (under ++ page ∷ []) all o)
+      → IfOk result (λ o. (is_root : Bool) (b : Bounds) (rs : List Record) (used : List ℕ) → CanInsert told free size page height is_root b r.key rs used
+      → DidInsert r told now_told free now page height is_root b rs used o)
   took_child (Err e) mid_told now_told mid now f g = g
   took_child (Ok o) mid_told now_told mid now f g =
       λ is_root b rs used can.
@@ -311,9 +318,13 @@ module _ (r : Record) (told then_told : Option (List (List ℕ))) (free then_fre
   -- where the page does not take it, no page is damaged
   pub sound_child : (result : Result Inserted Stop) (mid_told : Option (List (List ℕ))) (mid : ℕ → Bool) (mid_size : ℕ) → mid_size ≡ size
       → count_free free size ≤ count_free mid size + (height - 1)
-      → ((is_root : Bool) (b : Bounds) (rs : List Record) (used : List ℕ) → CanInsert then_told then_free then_size child (height - 1) is_root b r.key rs used → DidInsert r then_told mid_told then_free mid child (height - 1) is_root b rs used (inserted.Split key right))
-      → IfErr result (λ e. (is_root : Bool) (b : Bounds) (all : List Record) (under : List ℕ) → IsPending mid_told mid page is_root b (with_child inner i key right) all under → 0 < count_free mid mid_size → (inner.height ≡ 3 → length inner.children < 254) → IsSound e)
-      → IfErr result (λ e. (is_root : Bool) (b : Bounds) (rs : List Record) (used : List ℕ) → CanInsert told free size page height is_root b r.key rs used → AreFew rs → IsSound e)
+      → ((is_root : Bool) (b : Bounds) (rs : List Record) (used : List ℕ) → CanInsert then_told then_free then_size child (height - 1) is_root b r.key rs used
+      → DidInsert r then_told mid_told then_free mid child (height - 1) is_root b rs used (inserted.Split key right))
+      → IfErr result (λ e. (is_root : Bool) (b : Bounds) (all : List Record) (under : List ℕ)
+      → IsPending mid_told mid page is_root b (with_child inner i key right) all under → 0 < count_free mid mid_size → (inner.height ≡ 3
+      → length inner.children < 254) → IsSound e)
+      → IfErr result (λ e. (is_root : Bool) (b : Bounds) (rs : List Record) (used : List ℕ) → CanInsert told free size page height is_root b r.key rs used
+      → AreFew rs → IsSound e)
   sound_child (Ok o) mid_told mid mid_size same few f g = g
   sound_child (Err e) mid_told mid mid_size same few f g = λ is_root b rs used can small.
       let x =
@@ -329,7 +340,8 @@ module _ (r : Record) (told then_told : Option (List (List ℕ))) (free then_fre
 pub sound_under : (e : Stop) {told : Option (List (List ℕ))} (then_told : Option (List (List ℕ))) {free : ℕ → Bool} (then_free : ℕ → Bool) {size : ℕ}
     (then_size : ℕ) {page height : ℕ} (child i : ℕ) {k : Key} (inner : Inner) {is_root : Bool} {b : Bounds} {rs : List Record} {used : List ℕ}
     → LeadsToChild told then_told free then_free size then_size page height child i k inner
-    → ((is_root : Bool) (b : Bounds) (rs : List Record) (used : List ℕ) → CanInsert then_told then_free then_size child (height - 1) is_root b k rs used → AreFew rs → IsSound e)
+    → ((is_root : Bool) (b : Bounds) (rs : List Record) (used : List ℕ) → CanInsert then_told then_free then_size child (height - 1) is_root b k rs used → AreFew rs
+    → IsSound e)
     → CanInsert told free size page height is_root b k rs used → AreFew rs → IsSound e
 sound_under e {told = told} then_told {free = free} then_free {size = size} then_size {page = page} {height = height} child i {k = k} inner {is_root = is_root} {b = b} {rs = rs} {used = used} l f can few =
     let x = insert_below told then_told free then_free size then_size page height child i k inner is_root b rs used l can in
@@ -344,7 +356,8 @@ sound_under e {told = told} then_told {free = free} then_free {size = size} then
 -- a leaf at height 1
 pub sound_leaf : (result : Result Inserted Stop) (told : Option (List (List ℕ))) (free : ℕ → Bool) (size page : ℕ) {height : ℕ} (k : Key) → height ≡ 1
     → IfErr result (λ e. (is_root : Bool) (b : Bounds) (rs : List Record) (used : List ℕ) → CanInsert told free size page 1 is_root b k rs used → IsSound e)
-    → IfErr result (λ e. (is_root : Bool) (b : Bounds) (rs : List Record) (used : List ℕ) → CanInsert told free size page height is_root b k rs used → AreFew rs → IsSound e)
+    → IfErr result (λ e. (is_root : Bool) (b : Bounds) (rs : List Record) (used : List ℕ) → CanInsert told free size page height is_root b k rs used → AreFew rs
+    → IsSound e)
 sound_leaf (Ok o) told free size page k one f = f
 sound_leaf (Err e) told free size page k one f =
     λ is_root b rs used can few. f is_root b rs used (subst (λ h. CanInsert told free size page h is_root b k rs used) one can)

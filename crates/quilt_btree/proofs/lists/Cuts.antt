@@ -20,5 +20,6 @@ pub last_again : {X : Type 0} (ks more : List X) {first rest : List X} (k x : X)
 last_again ks more {rest = rest} k x {n = n} many h e f =
     let low : n - 1 - 1 ≡ length ks - 1 = omega arith in
     let end : length ks ≤ n - 1 = omega arith in
-    ap (λ l. l ++ x ∷ rest) (e ∙ ap (λ m. take m ks) low) ∙ ap (λ l. take (length ks - 1) ks ++ x ∷ l) (f ∙ ap (λ l. l ++ k ∷ more) (drop_of_length-le ks end))
+    ap (λ l. l ++ x ∷ rest) (e ∙ ap (λ m. take m ks) low) ∙ ap (λ l. take (length ks - 1) ks ++ x ∷ l)
+    (f ∙ ap (λ l. l ++ k ∷ more) (drop_of_length-le ks end))
     ∙ sym (append_assoc (take (length ks - 1) ks) (x ∷ []) (k ∷ more)) ∙ ap (λ l. l ++ k ∷ more) (cut_last ks x h)

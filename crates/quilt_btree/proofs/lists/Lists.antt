@@ -101,7 +101,8 @@ find_between p before here behind f g =
 pub value_between : (k : Key) (before here behind rs : List Record) → IsAmong k before here behind rs → value_of k rs ≡ value_of k here
 unfolding value_of
 value_between k before here behind rs h =
-    ap value_in (ap (find (has_key k)) h.records ∙ find_between (has_key k) before here behind (below_other k before h.lower) (above_other k behind h.higher))
+    ap value_in
+    (ap (find (has_key k)) h.records ∙ find_between (has_key k) before here behind (below_other k before h.lower) (above_other k behind h.higher))
 
 pub any_between : (k : Key) (before here behind rs : List Record) → IsAmong k before here behind rs → list_any (has_key k) rs ≡ list_any (has_key k) here
 any_between k before here behind rs h =

@@ -18,7 +18,8 @@ ascending_cons : (low k : Key) (ks : List Key) → is_lt (key_cmp low k) ≡ tru
     → is_ascending ks ≡ true → is_ascending (low ∷ ks) ≡ true
 ascending_cons low k [] h g a = refl
 ascending_cons low k (l ∷ ks) h g a =
-    and_from (is_lt (key_cmp low l)) (is_ascending (l ∷ ks)) (lt_le low k l h (and_parts (is_le (key_cmp k l)) (list_all (λ m. is_le (key_cmp k m)) ks) g).0) a
+    and_from (is_lt (key_cmp low l)) (is_ascending (l ∷ ks))
+    (lt_le low k l h (and_parts (is_le (key_cmp k l)) (list_all (λ m. is_le (key_cmp k m)) ks) g).0) a
 
 pub ascending_join : (k : Key) (ks ls : List Key) → list_all (λ l. is_lt (key_cmp l k)) ks ≡ true → list_all (λ l. is_le (key_cmp k l)) ls ≡ true
     → is_ascending ks ≡ true → is_ascending ls ≡ true → is_ascending (ks ++ ls) ≡ true

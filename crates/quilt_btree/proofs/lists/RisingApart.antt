@@ -27,7 +27,8 @@ pub all_under : (ks : List Key) (k : Key) (ls : List Key) → is_ascending (ks +
 all_under [] k ls a = refl
 all_under (m ∷ ks) k ls a =
     let over = all_parts (λ l. is_lt (key_cmp m l)) ks (k ∷ ls) (ascending_first m (ks ++ k ∷ ls) a) in
-    and_from (is_lt (key_cmp m k)) (list_all (λ l. is_lt (key_cmp l k)) ks) (and_parts (is_lt (key_cmp m k)) (list_all (λ l. is_lt (key_cmp m l)) ls) over.1).0
+    and_from (is_lt (key_cmp m k)) (list_all (λ l. is_lt (key_cmp l k)) ks)
+    (and_parts (is_lt (key_cmp m k)) (list_all (λ l. is_lt (key_cmp m l)) ls) over.1).0
     (all_under ks k ls (ascending_rest m (ks ++ k ∷ ls) a))
 
 -- what stands before a key, and what stands from it on
@@ -47,7 +48,8 @@ rises_apart b ks k ls r =
     let over : list_all (λ m. is_le (key_cmp k m)) ls ≡ true =
     all_follow (λ m. is_lt (key_cmp k m)) (λ m. is_le (key_cmp k m)) (λ m h. lt_to_le (key_cmp k m) h) ls (ascending_first k ls asc) in
     let below : list_all (is_below b.high) ls ≡ true =
-    all_follow (λ m. is_above b.low m && is_below b.high m) (is_below b.high) (λ m h. (and_parts (is_above b.low m) (is_below b.high m) h).1) ls here.1 in
+    all_follow (λ m. is_above b.low m && is_below b.high m) (is_below b.high) (λ m h. (and_parts (is_above b.low m) (is_below b.high m) h).1) ls
+    here.1 in
     let rest = all_both (λ m. is_le (key_cmp k m)) (is_below b.high) ls over below in
     record {
       before = record {

@@ -15,7 +15,8 @@ pub below_separator : (k : Key) (ks ls : List Key) → is_ascending (ks ++ k ∷
 below_separator k [] ls a = refl
 below_separator k (m ∷ ks) ls a =
     let parts = all_parts (λ l. is_lt (key_cmp m l)) ks (k ∷ ls) (ascending_first m (ks ++ k ∷ ls) a) in
-    and_from (is_lt (key_cmp m k)) (list_all (λ l. is_lt (key_cmp l k)) ks) (and_parts (is_lt (key_cmp m k)) (list_all (λ l. is_lt (key_cmp m l)) ls) parts.1).0
+    and_from (is_lt (key_cmp m k)) (list_all (λ l. is_lt (key_cmp l k)) ks)
+    (and_parts (is_lt (key_cmp m k)) (list_all (λ l. is_lt (key_cmp m l)) ls) parts.1).0
     (below_separator k ks ls (ascending_rest m (ks ++ k ∷ ls) a))
 
 pub ascending_behind : (ks ls : List Key) → is_ascending (ks ++ ls) ≡ true → is_ascending ls ≡ true

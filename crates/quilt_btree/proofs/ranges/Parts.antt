@@ -106,7 +106,8 @@ module _ (low high : Key) (first last : ℕ) where
       → ((rs : List Record) → leaf_of bytes ≡ Some rs → list_all (λ r. is_lt (key_cmp r.key low)) (take first rs) ≡ true)
       → ((rs : List Record) → leaf_of bytes ≡ Some rs → list_all (λ r. is_lt (key_cmp high r.key)) (drop last rs) ≡ true)
       → OnOk result (new ≡ take most (old ++ filter (is_from_to low high) (part first last (records_of bytes))))
-      → OnOk result ((some : List Record) × (new ≡ take most (old ++ filter (is_from_to low high) some)) × ((rs : List Record) → leaf_of bytes ≡ Some rs → filter (is_from_to low high) some ≡ filter (is_from_to low high) rs))
+      → OnOk result ((some : List Record) × (new ≡ take most (old ++ filter (is_from_to low high) some)) × ((rs : List Record) → leaf_of bytes ≡ Some rs
+      → filter (is_from_to low high) some ≡ filter (is_from_to low high) rs))
   part_added (Err e) most bytes old new below above is = is
   part_added (Ok v) most bytes old new below above is = (
     part first last (records_of bytes),

@@ -85,7 +85,8 @@ module _ (told mid : Option (List (List ℕ))) (free between : ℕ → Bool) (pa
   pub joined_left : (r : Result Removed Stop) (now_told : Option (List (List ℕ))) (now : ℕ → Bool) (next : ℕ)
       → Choice told page inner i j next left key right → RebalancesAs rebalanced.Joined told mid free between (height - 1) left key right
       → now ≡ between → IfOk r (λ o. HasDropped page inner j mid now_told o)
-      → IfOk r (λ o. (is_root : Bool) (b : Bounds) (rs : List Record) (used : List ℕ) → HasUnderfull told free page height inner i is_root b rs used → DidLeave told now_told free now page height is_root b used rs o)
+      → IfOk r (λ o. (is_root : Bool) (b : Bounds) (rs : List Record) (used : List ℕ) → HasUnderfull told free page height inner i is_root b rs used
+      → DidLeave told now_told free now page height is_root b used rs o)
   joined_left (Err e) now_told now next c rebalances f d = d
   joined_left (Ok o) now_told now next c rebalances f d = λ is_root b rs used s.
       let n = chosen told free page height inner i j next left key right is_root b rs used c s in

@@ -352,8 +352,10 @@ module _ (k : Key) (told mid between : Option (List (List ℕ))) (free was then 
   pub rebalanced_child : (r : Result Removed Stop) (now_told : Option (List (List ℕ))) (now : ℕ → Bool)
       → ChildEdited k told mid free was page height child i inner → Removes k mid between was then child (height - 1) removed.Underfull
       → IfOk r (λ o. o ≡ removed.Missing → ⊥)
-      → IfOk r (λ o. (is_root : Bool) (b : Bounds) (rs : List Record) (used : List ℕ) → HasUnderfull between then page height inner i is_root b rs used → DidLeave between now_told then now page height is_root b used rs o)
-      → IfOk r (λ o. (is_root : Bool) (b : Bounds) (rs : List Record) (used : List ℕ) → CanEdit told free page height is_root b rs used → DidRemove k told now_told free now page height is_root b rs used o)
+      → IfOk r (λ o. (is_root : Bool) (b : Bounds) (rs : List Record) (used : List ℕ) → HasUnderfull between then page height inner i is_root b rs used
+      → DidLeave between now_told then now page height is_root b used rs o)
+      → IfOk r (λ o. (is_root : Bool) (b : Bounds) (rs : List Record) (used : List ℕ) → CanEdit told free page height is_root b rs used
+      → DidRemove k told now_told free now page height is_root b rs used o)
   rebalanced_child (Err e) now_told now c f some l = l
   rebalanced_child (Ok o) now_told now c f some l = λ is_root b rs used can.
       let s = underfull_child c f is_root b rs used can in

@@ -48,7 +48,8 @@ any_without_above j k rs lt = any_filter_other (has_key k) (λ r. not (has_key j
     equal Greater h = cc
 
     earlier_key : (j k : Key) (r : Record) → is_lt (key_cmp k j) ≡ true → has_key k r ≡ true → has_key j r ≡ false
-    earlier_key j k r lt h = lt_not_eq (key_cmp r.key j) (subst (λ l. is_lt (key_cmp l j) ≡ true) (sym (key_equal r.key k (equal (key_cmp r.key k) h))) lt)
+    earlier_key j k r lt h = lt_not_eq (key_cmp r.key j)
+        (subst (λ l. is_lt (key_cmp l j) ≡ true) (sym (key_equal r.key k (equal (key_cmp r.key k) h))) lt)
 
 pub any_without_below : (k : Key) (xs : List Key) (rs : List Record) → list_all (λ m. is_lt (key_cmp m k)) xs ≡ true
     → list_any (has_key k) (without_all xs rs) ≡ list_any (has_key k) rs

@@ -313,7 +313,8 @@ pub beside_named : {T : Type 0} (result : Result T Stop) {told mid : Option (Lis
 beside_named (Ok v) now i inner r is c others f = f
 beside_named (Err Device) now i inner r is c others f = λ ne. tt
 beside_named (Err Memory) now i inner r is c others f = λ ne. tt
-beside_named (Err (Damaged q)) {told = told} {mid = mid} now {page = page} {height = height} {size = size} i {child = child} {bytes = bytes} inner r is c others f = λ ne.
+beside_named (Err (Damaged q)) {told = told} {mid = mid} now {page = page} {height = height} {size = size} i {child = child} {bytes = bytes} inner r is c others f
+    = λ ne.
     let b = f q refl (λ z. ne (ap Damaged z)) in
     let one : height - 1 ≡ 1 = let t = b.two in omega arith in
     let l = inner_list size bytes inner is in

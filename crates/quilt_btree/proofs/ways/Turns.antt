@@ -84,7 +84,8 @@ pub floor_touched_more : {old new newer : Option (List (List ℕ))} {page height
     → prior ≡ slice_index inner.children (i - 1) → ((pages : List (List ℕ)) → new ≡ Some pages → finds_floor pages k (height - 1) child ≡ false)
     → Goes (Touches page) h0 h1 → TouchesInTurn (λ pages. floor_pages pages k (height - 1) child) new h1 h2
     → TouchesInTurn (λ pages. last_pages pages (height - 1) prior) newer h2 h3 → TouchesInTurn (λ pages. floor_pages pages k height page) old h0 h3
-floor_touched_more {old = old} {new = new} {page = page} {height = height} {child = child} {prior = prior} {i = i} {k = k} {inner = inner} h0 h1 h2 h3 a place ne told was lacks t f g = λ pages is.
+floor_touched_more {old = old} {new = new} {page = page} {height = height} {child = child} {prior = prior} {i = i} {k = k} {inner = inner} h0 h1 h2 h3 a place ne
+    told was lacks t f g = λ pages is.
     let under = floor_pages pages k (height - 1) child in
     let more = last_pages pages (height - 1) prior in
     let parts : floor_pages pages k height page ≡ page ∷ (under ++ more) =
@@ -99,7 +100,8 @@ pub floor_again_more : {old new newer : Option (List (List ℕ))} {page height c
     → Goes (Touches page) h0 h1 → OneFree page h0 a b → TouchesInTurn (λ pages. floor_pages pages k (height - 1) child) new h1 h2
     → ReadsNone (λ pages. floor_pages pages k (height - 1) child) new h1 b c → ReadsNone (λ pages. last_pages pages (height - 1) prior) newer h2 c d
     → ReadsNone (λ pages. floor_pages pages k height page) old h0 a d
-floor_again_more {old = old} {new = new} {page = page} {height = height} {child = child} {prior = prior} {i = i} {k = k} {inner = inner} h0 h1 h2 a b c d at place ne told was lacks t f s g l = λ pages is.
+floor_again_more {old = old} {new = new} {page = page} {height = height} {child = child} {prior = prior} {i = i} {k = k} {inner = inner} h0 h1 h2 a b c d at place
+    ne told was lacks t f s g l = λ pages is.
     let under = floor_pages pages k (height - 1) child in
     let more = last_pages pages (height - 1) prior in
     let parts : floor_pages pages k height page ≡ page ∷ (under ++ more) =

@@ -46,7 +46,9 @@ returns-in-Ok-clause-fails g t c =
     c.in-Ok.ensures.shows.step (least_first c.args.run.now c.key.result.now c.key.ensures c.requires.order c.requires.some) c.edit_under.ensures.fails
 
 pub returns-then-height-eq1-clause-fails : goal.returns-then-height-eq1-clause-fails
-returns-then-height-eq1-clause-fails g t c = fails_leaf c.args.high.now c.args.run.now c.edit_leaf.result (g.S.PageStore.told c.args.store.now) (g.S.PageStore.free c.args.store.now) c.args.page c.args.height c.args.is_root c.if-height-eq1.true
+returns-then-height-eq1-clause-fails g t c =
+    fails_leaf c.args.high.now c.args.run.now c.edit_leaf.result (g.S.PageStore.told c.args.store.now) (g.S.PageStore.free c.args.store.now)
+    c.args.page c.args.height c.args.is_root c.if-height-eq1.true
     c.edit_leaf.ensures.fails
 
 pub returns-then-height-eq1-clause-bad : goal.returns-then-height-eq1-clause-bad

@@ -67,7 +67,9 @@ returns-in-Ok-clause-range g t c = record {
 }
 
 pub returns-in-Ok-clause-spoilt : goal.returns-in-Ok-clause-spoilt
-returns-in-Ok-clause-spoilt g t c = spoilt_below (g.S.PageStore.told c.args.store.now) (g.S.PageStore.told c.step_at.new.store) c.args.page c.args.height (g.S.PageStore.size c.args.store.now) c.in-Ok.ensures.shows.bytes c.leaf_at.result c.in-Ok.step.child
+returns-in-Ok-clause-spoilt g t c =
+    spoilt_below (g.S.PageStore.told c.args.store.now) (g.S.PageStore.told c.step_at.new.store) c.args.page c.args.height
+    (g.S.PageStore.size c.args.store.now) c.in-Ok.ensures.shows.bytes c.leaf_at.result c.in-Ok.step.child
     (read_of _ _ _ _ _ _ (record {
       some = c.requires.height;
       above = c.if-height-eq1.false;
@@ -76,7 +78,9 @@ returns-in-Ok-clause-spoilt g t c = spoilt_below (g.S.PageStore.told c.args.stor
     }) c.in-Ok.ensures.shows.are) c.in-Ok.ensures.shows.stands c.leaf_at.ensures.spoilt
 
 pub returns-in-Ok-clause-bad : goal.returns-in-Ok-clause-bad
-returns-in-Ok-clause-bad g t c = names_below (g.S.PageStore.told c.args.store.now) (g.S.PageStore.told c.step_at.new.store) c.args.page c.args.height (g.S.PageStore.size c.args.store.now) c.in-Ok.ensures.shows.bytes c.leaf_at.result c.in-Ok.step.child
+returns-in-Ok-clause-bad g t c =
+    names_below (g.S.PageStore.told c.args.store.now) (g.S.PageStore.told c.step_at.new.store) c.args.page c.args.height
+    (g.S.PageStore.size c.args.store.now) c.in-Ok.ensures.shows.bytes c.leaf_at.result c.in-Ok.step.child
     (read_of _ _ _ _ _ _ (record {
       some = c.requires.height;
       above = c.if-height-eq1.false;

@@ -15,7 +15,9 @@ pub returns-in-Err-clause-bad : goal.returns-in-Err-clause-bad
 returns-in-Err-clause-bad g t c = c.in-Err.ensures.bad c.args.height c.requires.height c.if-height-eq1.false
 
 pub returns-in-Ok-clause-leads : goal.returns-in-Ok-clause-leads
-returns-in-Ok-clause-leads g t c = led_page (g.S.PageStore.told c.args.store.now) (g.S.PageStore.told c.fork_at.new.store) c.args.page c.args.height (g.S.PageStore.size c.args.store.now) c.in-Ok.ensures.shows.bytes c.args.k.now c.in-Ok.fork.child c.in-Ok.fork.prior c.leaf_page.result
+returns-in-Ok-clause-leads g t c =
+    led_page (g.S.PageStore.told c.args.store.now) (g.S.PageStore.told c.fork_at.new.store) c.args.page c.args.height
+    (g.S.PageStore.size c.args.store.now) c.in-Ok.ensures.shows.bytes c.args.k.now c.in-Ok.fork.child c.in-Ok.fork.prior c.leaf_page.result
     (read_of _ _ _ _ _ _ (record {
       some = c.requires.height;
       above = c.if-height-eq1.false;
@@ -25,7 +27,9 @@ returns-in-Ok-clause-leads g t c = led_page (g.S.PageStore.told c.args.store.now
     c.in-Ok.ensures.shows.fork c.leaf_page.ensures.leads
 
 pub returns-in-Ok-clause-sound : goal.returns-in-Ok-clause-sound
-returns-in-Ok-clause-sound g t c = sound_on (g.S.PageStore.told c.args.store.now) (g.S.PageStore.told c.fork_at.new.store) c.args.page c.args.height (g.S.PageStore.size c.args.store.now) c.in-Ok.ensures.shows.bytes c.args.k.now c.in-Ok.fork.child c.in-Ok.fork.prior c.leaf_page.result
+returns-in-Ok-clause-sound g t c =
+    sound_on (g.S.PageStore.told c.args.store.now) (g.S.PageStore.told c.fork_at.new.store) c.args.page c.args.height
+    (g.S.PageStore.size c.args.store.now) c.in-Ok.ensures.shows.bytes c.args.k.now c.in-Ok.fork.child c.in-Ok.fork.prior c.leaf_page.result
     (read_of _ _ _ _ _ _ (record {
       some = c.requires.height;
       above = c.if-height-eq1.false;
@@ -35,7 +39,9 @@ returns-in-Ok-clause-sound g t c = sound_on (g.S.PageStore.told c.args.store.now
     c.in-Ok.ensures.shows.fork c.leaf_page.ensures.sound
 
 pub returns-in-Ok-clause-bad : goal.returns-in-Ok-clause-bad
-returns-in-Ok-clause-bad g t c = names_below (g.S.PageStore.told c.args.store.now) (g.S.PageStore.told c.fork_at.new.store) c.args.page c.args.height (g.S.PageStore.size c.args.store.now) c.in-Ok.ensures.shows.bytes c.leaf_page.result c.in-Ok.fork.child
+returns-in-Ok-clause-bad g t c =
+    names_below (g.S.PageStore.told c.args.store.now) (g.S.PageStore.told c.fork_at.new.store) c.args.page c.args.height
+    (g.S.PageStore.size c.args.store.now) c.in-Ok.ensures.shows.bytes c.leaf_page.result c.in-Ok.fork.child
     (read_of _ _ _ _ _ _ (record {
       some = c.requires.height;
       above = c.if-height-eq1.false;

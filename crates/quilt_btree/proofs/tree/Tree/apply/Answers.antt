@@ -32,7 +32,9 @@ loop-done-preserved g c = record {
 }
 
 pub apply_some-requires-clause-order : goal.apply_some-requires-clause-order
-apply_some-requires-clause-order g c = rest_ascends c.edits-run.result.now c.loop-done.done (subst (λ l. is_ascending (edit_keys l) ≡ true) (sym c.edits-run.ensures.edits) c.edits-run.ensures.order)
+apply_some-requires-clause-order g c =
+    rest_ascends c.edits-run.result.now c.loop-done.done
+    (subst (λ l. is_ascending (edit_keys l) ≡ true) (sym c.edits-run.ensures.edits) c.edits-run.ensures.order)
 
 pub apply_some-requires-clause-room : goal.apply_some-requires-clause-room
 apply_some-requires-clause-room g c =
@@ -67,7 +69,9 @@ returns-in-Err-clause-left g c = record {
       c.loop-done.invariant.faults c.in-Err.ensures.left.cause;
   size = c.in-Err.ensures.left.size ∙ c.loop-done.invariant.size;
   later = g.met.S.PageStore.goes_on _ _ _ c.loop-done.invariant.later c.in-Err.ensures.left.later;
-  changed = rw (← c.edits-run.ensures.edits) (let m = c.loop-done.invariant.changed in let n = c.in-Err.ensures.left.less in let e = rest_cost_all c.edits-run.result.now c.loop-done.done in
+  changed =
+      rw (← c.edits-run.ensures.edits)
+      (let m = c.loop-done.invariant.changed in let n = c.in-Err.ensures.left.less in let e = rest_cost_all c.edits-run.result.now c.loop-done.done in
       let k = cost_is c.edits-run.result.now in omega arith);
   reads = tt;
 }
@@ -77,17 +81,25 @@ returns-clause-left g c = record {
   cause = record { later = c.loop-done.invariant.faults; device = search rules };
   size = c.loop-done.invariant.size;
   later = c.loop-done.invariant.later;
-  changed = rw (← c.edits-run.ensures.edits) (let m = c.loop-done.invariant.changed in let e = cost_take c.loop-done.done c.edits-run.result.now in let k = cost_is c.edits-run.result.now in omega arith);
-  reads = rw (← c.edits-run.ensures.edits) (reads_more (looks (take c.loop-done.done c.edits-run.result.now)) (10 * length (removed c.edits-run.result.now) + 6 * length (added c.edits-run.result.now)) _ _
+  changed =
+      rw (← c.edits-run.ensures.edits)
+      (let m = c.loop-done.invariant.changed in let e = cost_take c.loop-done.done c.edits-run.result.now in let k = cost_is c.edits-run.result.now in omega arith);
+  reads =
+      rw (← c.edits-run.ensures.edits)
+      (reads_more (looks (take c.loop-done.done c.edits-run.result.now)) (10 * length (removed c.edits-run.result.now) + 6 * length (added c.edits-run.result.now)) _ _
       (let e = looks_take c.loop-done.done c.edits-run.result.now in let k = looks_are c.edits-run.result.now in omega arith) c.loop-done.invariant.reads);
 }
 
 pub returns-clause-edited : goal.returns-clause-edited
-returns-clause-edited g c = rw (← c.edits-run.ensures.edits) ((made_all (g.S.PageStore.told c.args.store.now) (g.S.PageStore.free c.args.store.now) (g.S.PageStore.size c.args.store.now) c.args.self.now c.edits-run.result.now (g.S.PageStore.told c.loop-done.store) (g.S.PageStore.free c.loop-done.store) c.loop-done.done c.loop-done.self
+returns-clause-edited g c =
+    rw (← c.edits-run.ensures.edits)
+    ((made_all (g.S.PageStore.told c.args.store.now) (g.S.PageStore.free c.args.store.now) (g.S.PageStore.size c.args.store.now) c.args.self.now c.edits-run.result.now (g.S.PageStore.told c.loop-done.store) (g.S.PageStore.free c.loop-done.store) c.loop-done.done c.loop-done.self
     c.loop-done-test.false c.loop-done.invariant.made).whole)
 
 pub returns-clause-count : goal.returns-clause-count
-returns-clause-count g c = rw (← c.edits-run.ensures.edits) ((made_all (g.S.PageStore.told c.args.store.now) (g.S.PageStore.free c.args.store.now) (g.S.PageStore.size c.args.store.now) c.args.self.now c.edits-run.result.now (g.S.PageStore.told c.loop-done.store) (g.S.PageStore.free c.loop-done.store) c.loop-done.done c.loop-done.self
+returns-clause-count g c =
+    rw (← c.edits-run.ensures.edits)
+    ((made_all (g.S.PageStore.told c.args.store.now) (g.S.PageStore.free c.args.store.now) (g.S.PageStore.size c.args.store.now) c.args.self.now c.edits-run.result.now (g.S.PageStore.told c.loop-done.store) (g.S.PageStore.free c.loop-done.store) c.loop-done.done c.loop-done.self
     c.loop-done-test.false c.loop-done.invariant.made).count)
 
 pub returns-clause-list : goal.returns-clause-list

@@ -285,7 +285,9 @@ returns-in-Ok-give_back-clause-sound g c =
     ))
 
 pub returns-in-Err-clause-goes : goal.returns-in-Err-clause-goes
-returns-in-Err-clause-goes g c = λ rs w n. sound_out (g.S.PageStore.told c.args.store.now) (g.S.PageStore.free c.args.store.now) c.args.self.now c.in-Err.e rs c.if-self-eq0.false c.in-Err.ensures.sound w
+returns-in-Err-clause-goes g c =
+    λ rs w n. sound_out (g.S.PageStore.told c.args.store.now) (g.S.PageStore.free c.args.store.now) c.args.self.now c.in-Err.e rs c.if-self-eq0.false
+    c.in-Err.ensures.sound w
 
 pub returns-in-Ok-Done-clause-goes : goal.returns-in-Ok-Done-clause-goes
 returns-in-Ok-Done-clause-goes g c =
