@@ -1,5 +1,6 @@
 -- Tests of the keys of a page, and the children of one with their bounds.
 use Rattle.std.proofs.Common.{◌≡◌, ℕ, zero, suc, ◌+◌, ◌-◌, ◌<◌, ◌≤◌, Bool, true, false, ◌&&◌, nat_le, nat_lt, List, [], ◌∷◌, ◌++◌, map, length, take, drop}
+use Rattle.std.proofs.lemmas.Bool.{and_parts, leb-true}
 use Rattle.std.proofs.Common.{get_or, Option, Some, None, refl, sym, ◌∙◌, ap, subst, arith, slice_index, slice_index_or, ltb-true, cond, eqb, eq-eqb, ⊎_elim}
 use Rattle.std.proofs.Common.{Result, Ok, Err, OnOk, OnErr, IfErr}
 use Rattle.std.specs.Prelude.{◌==◌}
@@ -15,8 +16,7 @@ use Rattle.quilt_node.specs.Nodes.{are_pages}
 use Rattle.quilt_node.specs.Pages.{leaf_of, inner_of}
 use Rattle.quilt_node.specs.Tree.{Bounds, Walk, Whole, Damaged, bounded, behind, each_child, leaf_walk, inner_walk, walk}
 use Rattle.quilt_world.specs.Tale.{Goes}
-use Rattle.quilt_btree.proofs.subtrees.Walks.{and_parts, if_true, if_false}
-use Rattle.quilt_btree.proofs.subtrees.Trees.{nat_le_is}
+use Rattle.quilt_btree.proofs.subtrees.Walks.{if_true, if_false}
 use Rattle.quilt_types.specs.declared.stop.Stop.{Stop}
 use Rattle.quilt_types.specs.declared.stop.Stop.TheVariants.{Device, Memory, Damaged as Says}
 use Rattle.quilt_audit.specs.Surveys.{OnDamaged}
@@ -161,7 +161,7 @@ pub child_in_range : (size : ℕ) (children : List ℕ) (i c : ℕ) → are_page
 child_in_range size children i c all lt is =
     let t = list_all-at (λ n. nat_le 1 n && nat_lt n size) children c all (i, lt, member) in
     let both = and_parts (nat_le 1 c) (nat_lt c size) t in
-    (nat_le_is 1 c both.0, ltb-true c size both.1)
+    (leb-true 1 c both.0, ltb-true c size both.1)
   where
     member : get_or children i c ≡ c
     member = get_or_default children i c 0 lt ∙ sym is

@@ -1,4 +1,5 @@
 pub mod Below
+pub mod Costs
 pub mod Leaves
 pub mod Lists
 pub mod Made

@@ -1,5 +1,6 @@
 -- What calls do to the pages of a store.
 pub mod Held
+pub mod Leaves
 pub mod Moves
 pub mod Pairs
 pub mod Reads

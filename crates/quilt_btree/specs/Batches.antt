@@ -1,5 +1,5 @@
 -- What a batch of edits makes of the records of a tree.
-use Rattle.std.specs.Prelude.{◌≡◌, ℕ, ◌+◌, ◌-◌, ◌<◌, ◌≤◌, Bool, true, false, not, ◌&&◌, List, [], ◌∷◌, length, map, take, Option, Some}
+use Rattle.std.specs.Prelude.{IfErr, IfOk, OnOk, Result, ◌≡◌, ℕ, ◌+◌, ◌-◌, ◌<◌, ◌≤◌, Bool, true, false, not, ◌&&◌, List, [], ◌∷◌, length, map, take, Option, Some}
 use Rattle.std.specs.List.{list_any, list_all}
 use Rattle.quilt_record.specs.declared.key.Key.{Key}
 use Rattle.quilt_record.specs.declared.record.Record.{Record}
@@ -9,6 +9,12 @@ use Rattle.quilt_node.specs.Tree.{Bounds, is_below}
 use Rattle.quilt_btree.specs.declared.edit.Edit.{Edit}
 use Rattle.quilt_btree.specs.declared.edit.Edit.TheVariants as edit
 use Rattle.quilt_btree.specs.Edits.{Becomes}
+use Rattle.quilt_types.specs.declared.stop.Stop.{Stop}
+use Rattle.quilt_store.specs.declared.store.PageStore.{Ghosts}
+use Rattle.quilt_store.specs.Stops.{HasStopCause}
+use Rattle.quilt_world.specs.Tale.{Goes}
+use Rattle.quilt_btree.specs.Trees.{IsRooted}
+use Rattle.quilt_btree.specs.declared.tree.Tree.{Tree}
 
 -- the key that the edit concerns
 abbrev pub key_of : Edit → Key
@@ -133,3 +139,24 @@ added [] = []
 added (edit.Remove k ∷ run) = added run
 added (edit.Put r ∷ run) = r ∷ added run
 added (edit.Replace r ∷ run) = r ∷ added run
+
+-- the answer is how many of the first edits of a run were made, and where it is none nothing was written
+pub record TakesFirst {S : Type 0} (g : Ghosts S) (run : List Edit) (old new : S) (result : Result ℕ Stop) : Type 0 where
+  pub number : IfOk result (λ n. n ≤ length run)
+  pub stays : IfOk result (λ n. n ≡ 0 → (g.told new ≡ g.told old) × (g.free new ≡ g.free old))
+
+-- the answer is how many of the first edits of a run were made, one at least, and the tree's numbers are those behind them
+pub record CountsFirst (size : ℕ) (run : List Edit) (t u : Tree) (result : Result ℕ Stop) : Type 0 where
+  pub number : IfOk result (λ n. (1 ≤ n) × (n ≤ length run))
+  pub rooted : OnOk result (IsRooted size u)
+  pub count : IfOk result (λ n. u.records + fewer (take n run) ≡ t.records + more (take n run))
+
+-- What the first edits of a run leave of a store: as many pages, later, and `Device` only where the count of faults rose. They change at most as many pages as
+-- they may cost, less what is spared, and read as many, less what is spared, where they answer.
+pub record EditsFirst {S : Type 0} (g : Ghosts S) (spared unread : ℕ) (run : List Edit) (old new : S) (result : Result ℕ Stop) : Type 0 where
+  pub cause : HasStopCause (g.faults old) (g.faults new) result
+  pub size : g.size new ≡ g.size old
+  pub later : g.later old new
+  pub changed : IfOk result (λ n. g.changed new + spared ≤ g.changed old + cost (take n run))
+  pub less : IfErr result (λ e. g.changed new + spared ≤ g.changed old + cost run)
+  pub reads : IfOk result (λ n. Goes (λ before now. now + unread ≤ before + looks (take n run)) (g.reads old) (g.reads new))

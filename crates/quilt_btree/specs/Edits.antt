@@ -1,5 +1,5 @@
 -- What an edit of a tree does to its list and to its pages.
-use Rattle.std.specs.Prelude.{◌≡◌, ℕ, zero, suc, ◌+◌, ◌<◌, ◌≤◌, ◌==◌, cond, Bool, true, false, List, [], ◌∷◌, ◌++◌, Option, Some, length, slice_index_or}
+use Rattle.std.specs.Prelude.{◌≡◌, ℕ, zero, suc, ◌+◌, ◌<◌, ◌≤◌, ◌==◌, cond, if◌then◌else◌, not, IfOk, Result, Bool, true, false, List, [], ◌∷◌, ◌++◌, Option, Some, length, slice_index_or}
 use Rattle.std.specs.List.{list_any}
 use Rattle.quilt_record.specs.declared.key.Key.{Key}
 use Rattle.quilt_record.specs.declared.record.Record.{Record}
@@ -14,6 +14,8 @@ use Rattle.quilt_btree.specs.declared.outcomes.Removed.TheVariants as removed
 use Rattle.quilt_record.specs.Lists.{has_key, put, without}
 use Rattle.quilt_btree.specs.Subtree.{Subtree}
 use Rattle.quilt_btree.specs.Trees.{IsTree}
+use Rattle.quilt_types.specs.declared.stop.Stop.{Stop}
+use Rattle.quilt_store.specs.declared.store.PageStore.{Ghosts}
 
 -- how often a page stands in a list
 abbrev pub times : ℕ → List ℕ → ℕ
@@ -157,3 +159,22 @@ pub record IsWhole (told : Option (List (List ℕ))) (free : ℕ → Bool) (size
   pub tree : IsTree told t rs
   pub number : length rs ≡ t.records
   pub balance : (p : ℕ) → 1 ≤ p → p < size → account free tree.visited p ≡ 1
+
+-- What an insertion makes of a tree and answers: over the whole tree, over every tree, and where none of the tree's pages is free and more pages are free
+-- than it is high; and how many records the tree then has.
+pub record InsertsInto {S : Type 0} (g : Ghosts S) (r : Record) (t u : Tree) (old new : S) (result : Result Bool Stop) : Type 0 where
+  pub inserted : IfOk result (λ is_new. (rs : List Record) → IsWhole (g.told old) (g.free old) (g.size old) t rs
+      → (is_new ≡ not (list_any (has_key r.key) rs))
+      × IsWhole (g.told new) (g.free new) (g.size old) u (if is_new then put r rs else rs))
+  pub answer : IfOk result (λ is_new. (rs : List Record) → IsTree (g.told old) t rs → is_new ≡ not (list_any (has_key r.key) rs))
+  pub changes : IfOk result (λ is_new. (rs : List Record) → HasItsPages (g.told old) (g.free old) t rs → t.height < count_free (g.free old) (g.size old)
+      → HasItsPages (g.told new) (g.free new) u (if is_new then put r rs else rs))
+  pub count : IfOk result (λ is_new. is_new ≡ true → u.records ≡ t.records + 1)
+
+-- what a removal makes of a tree and answers: over the whole tree, over every tree, and where none of the tree's pages is free
+pub record RemovesFrom {S : Type 0} (g : Ghosts S) (k : Key) (t u : Tree) (old new : S) (result : Result Bool Stop) : Type 0 where
+  pub removed : IfOk result (λ is_out. (rs : List Record) → IsWhole (g.told old) (g.free old) (g.size old) t rs
+      → (is_out ≡ list_any (has_key k) rs) × IsWhole (g.told new) (g.free new) (g.size old) u (without k rs))
+  pub answer : IfOk result (λ is_out. (rs : List Record) → IsTree (g.told old) t rs → is_out ≡ list_any (has_key k) rs)
+  pub changes : IfOk result (λ is_out. (rs : List Record) → HasItsPages (g.told old) (g.free old) t rs
+      → HasItsPages (g.told new) (g.free new) u (without k rs))

@@ -1,5 +1,5 @@
 -- The pages that a floor reads, and what a call that reads some pages does to those that a store holds.
-use Rattle.std.specs.Prelude.{◌≡◌, ℕ, zero, suc, ◌-◌, ◌≤◌, Bool, true, false, ◌||◌, ◌==◌, nat_lt, List, [], ◌∷◌, ◌++◌, length, Option, Some, None, IfSome}
+use Rattle.std.specs.Prelude.{◌≡◌, ℕ, zero, suc, ◌+◌, ◌*◌, ◌-◌, ◌≤◌, IfOk, Result, Bool, true, false, ◌||◌, ◌==◌, nat_lt, List, [], ◌∷◌, ◌++◌, length, Option, Some, None, IfSome}
 use Rattle.std.specs.Prelude.{if◌then◌else◌, slice_index, slice_index_or, count_by}
 use Rattle.std.specs.List.{list_all, list_any}
 use Rattle.std.specs.Option.{is_some}
@@ -10,7 +10,9 @@ use Rattle.quilt_record.specs.Records.{key_cmp}
 use Rattle.quilt_node.specs.Pages.{Inner, leaf_of, inner_of}
 use Rattle.quilt_store.specs.Store.{Touches, first_eight}
 use Rattle.quilt_world.specs.Tale.{Goes}
+use Rattle.quilt_types.specs.declared.stop.Stop.{Stop}
 use Rattle.quilt_btree.specs.Lists.{floor_of}
+use Rattle.quilt_btree.specs.Trees.{Spells}
 
 -- the pages below an inner page that lead to its last record
 abbrev pub last_below : (ℕ → List ℕ) → Option Inner → List ℕ
@@ -88,3 +90,14 @@ abbrev pub ReadsNone : (List (List ℕ) → List ℕ) → Option (List (List ℕ
 ReadsNone reads told held old new =
     (pages : List (List ℕ)) → told ≡ Some pages
     → IfSome held (λ first. AreAmongFirst (reads pages) first → Goes (λ before now. now ≤ before) old new)
+
+-- the floor in a subtree was found, where there is one
+pub record FindsFloor (told : Option (List (List ℕ))) (page height : ℕ) (k : Key) (result : Result (Option Record) Stop) : Type 0 where
+  pub floor : IfOk result (λ r. (rs : List Record) → Spells told page height rs → r ≡ floor_of k rs)
+  pub found : IfOk result (λ r. (rs : List Record) → Spells told page height rs → (pages : List (List ℕ)) → told ≡ Some pages
+      → finds_floor pages k height page ≡ is_some r)
+
+-- how many pages a floor under a page reads: two at each height but the lowest, and one at each where there is none
+pub record ReadsForFloor (height : ℕ) (old now : Option ℕ) (result : Result (Option Record) Stop) : Type 0 where
+  pub reads : Goes (λ old new. new + 1 ≤ old + 2 * height) old now
+  pub straight : IfOk result (λ r. r ≡ None → Goes (λ old new. new ≤ old + height) old now)

@@ -1,9 +1,13 @@
 -- What the steps of an insertion need and make.
-use Rattle.std.specs.Prelude.{◌≡◌, ℕ, suc, ◌<◌, ◌≤◌, Bool, true, false, ◌||◌, nat_le, List, [], ◌∷◌, ◌++◌, Option, Some, length}
+use Rattle.std.specs.Prelude.{◌≡◌, ◌≢◌, ℕ, suc, ◌+◌, ◌<◌, ◌≤◌, IfOk, OnOk, Result, Bool, true, false, ◌||◌, nat_le, List, [], ◌∷◌, ◌++◌, Option, Some, length}
 use Rattle.quilt_record.specs.declared.record.Record.{Record}
 use Rattle.quilt_node.specs.Pages.{Inner, is_ascending}
 use Rattle.quilt_node.specs.Nodes.{are_pages}
 use Rattle.quilt_node.specs.Tree.{Bounds, bounded, are_within}
+use Rattle.quilt_types.specs.declared.stop.Stop.{Stop}
+use Rattle.quilt_store.specs.declared.store.PageStore.{Ghosts}
+use Rattle.quilt_store.specs.Store.{count_free}
+use Rattle.quilt_btree.specs.Costs.{IsUntouched}
 use Rattle.quilt_btree.specs.Subtree.{Row, Subtree}
 use Rattle.quilt_btree.specs.Edits.{account, Becomes, Separated}
 use Rattle.quilt_btree.specs.declared.outcomes.Inserted.{Inserted}
@@ -48,3 +52,16 @@ pub record DidPut (told now_told : Option (List (List ℕ))) (free now : ℕ →
   pub was : told ≡ Some pages
   pub is : now_told ≡ Some news
   pub done : HasPut pages news free now page height is_root b used all o
+
+-- What an insertion into a subtree with so many levels leaves for the page above: a new page to the right is one from 1 on, at most one page for each
+-- level was taken, and where the key was there nothing was written.
+pub record LeavesInserted {S : Type 0} (g : Ghosts S) (levels : ℕ) (old new : S) (result : Result Inserted Stop) : Type 0 where
+  pub right : IfOk result (λ o. HasRight (g.size old) o)
+  pub room : OnOk result (count_free (g.free old) (g.size old) ≤ count_free (g.free new) (g.size old) + levels)
+  pub same : IfOk result (λ o. o ≡ inserted.There → IsUntouched g old new)
+
+-- what one page that was put somewhat into leaves for the page above: a new page to the right is one from 1 on, and it is the only one that was taken
+pub record LeavesPut {S : Type 0} (g : Ghosts S) (before now : S) (result : Result Inserted Stop) : Type 0 where
+  pub right : IfOk result (λ o. HasRight (g.size before) o)
+  pub room : OnOk result (count_free (g.free before) (g.size before) ≤ count_free (g.free now) (g.size before) + 1)
+  pub new : IfOk result (λ o. o ≢ inserted.There)

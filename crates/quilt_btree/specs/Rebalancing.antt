@@ -1,5 +1,5 @@
 -- What rebalances a page with one record or child too few.
-use Rattle.std.specs.Prelude.{◌≡◌, ◌≢◌, ℕ, suc, ◌≤◌, ◌==◌, Bool, true, false, ◌||◌, nat_le, List, [], ◌∷◌, ◌++◌, Option, Some, length, slice_index}
+use Rattle.std.specs.Prelude.{◌≡◌, ◌≢◌, ℕ, suc, ◌+◌, ◌≤◌, ◌==◌, IfOk, Result, Bool, true, false, ◌||◌, nat_le, List, [], ◌∷◌, ◌++◌, Option, Some, length, slice_index}
 use Rattle.std.specs.Prelude.{slice_index_or, slice_set}
 use Rattle.quilt_record.specs.declared.key.Key.{Key}
 use Rattle.quilt_record.specs.declared.record.Record.{Record}
@@ -10,7 +10,10 @@ use Rattle.quilt_btree.specs.declared.outcomes.Rebalanced.{Rebalanced}
 use Rattle.quilt_btree.specs.declared.outcomes.Rebalanced.TheVariants as rebalanced
 use Rattle.quilt_btree.specs.declared.outcomes.Removed.{Removed}
 use Rattle.quilt_btree.specs.declared.outcomes.Removed.TheVariants as removed
-use Rattle.quilt_btree.specs.Edits.{account, Becomes, Separated, IsNearlyFull}
+use Rattle.quilt_types.specs.declared.stop.Stop.{Stop}
+use Rattle.quilt_store.specs.declared.store.PageStore.{Ghosts}
+use Rattle.quilt_btree.specs.Costs.{IsUntouched}
+use Rattle.quilt_btree.specs.Edits.{account, Becomes, Separated, IsNearlyFull, HasPageIn}
 use Rattle.quilt_btree.specs.Subtree.{Row, Subtree}
 
 -- a subtree whose page may have one record or child too few
@@ -93,3 +96,16 @@ HasDropped page inner j told now_told (removed.Only child) =
 pub record HasGiven (page : ℕ) (pages news : List (List ℕ)) : Type 0 where
   pub size : length news ≡ length pages
   pub others : (q : ℕ) → q ≢ page → slice_index_or news q [] ≡ slice_index_or pages q []
+
+-- What a removal from a subtree leaves for the page above: where there was no such record nothing was written, a child that is left alone is a page
+-- from 1 on, and only where the page above stays as it is may as many pages have changed as are allowed.
+pub record LeavesRemoved {S : Type 0} (g : Ghosts S) (changes : ℕ) (old new : S) (result : Result Removed Stop) : Type 0 where
+  pub same : IfOk result (λ o. o ≡ removed.Missing → IsUntouched g old new)
+  pub child : IfOk result (λ o. HasPageIn (g.size old) o)
+  pub less : IfOk result (λ o. o ≢ removed.Done → g.changed new + 1 ≤ g.changed old + changes)
+
+-- what a child that was rebalanced leaves for the page above: it was edited, and the rest is as behind a removal
+pub record LeavesRebalanced {S : Type 0} (g : Ghosts S) (changes : ℕ) (old new : S) (result : Result Removed Stop) : Type 0 where
+  pub some : IfOk result (λ o. o ≡ removed.Missing → ⊥)
+  pub child : IfOk result (λ o. HasPageIn (g.size old) o)
+  pub less : IfOk result (λ o. o ≢ removed.Done → g.changed new + 1 ≤ g.changed old + changes)

@@ -8,18 +8,16 @@ ghost use Rattle.quilt_node.specs.Nodes.{IsGap, are_pages};
 ghost use Rattle.quilt_node.specs.Edits.{with_child};
 ghost use Rattle.quilt_node.specs.Tree.{Bounds};
 ghost use Rattle.quilt_store.specs.Store.{count_free};
-ghost use Rattle.quilt_world.specs.Tale.{Goes};
 ghost use Rattle.quilt_types.specs.declared.stop.Stop.TheVariants.{Damaged};
 ghost use Rattle.quilt_btree.specs.Damage.{NamesBad};
 ghost use Rattle.quilt_record.specs.Lists.{has_key};
 ghost use Rattle.quilt_btree.specs.Outcomes.{was_there};
-ghost use Rattle.quilt_store.specs.Stops.{HasStopCause, IsSound};
+ghost use Rattle.quilt_store.specs.Stops.{IsSound};
 ghost use Rattle.quilt_btree.specs.Costs.{EditsWithin};
 ghost use Rattle.quilt_btree.specs.Stops.{NamesPage};
 ghost use Rattle.quilt_btree.specs.Trees.{Spells};
 ghost use Rattle.quilt_btree.specs.Edits.{CanInsert, DidInsert};
-ghost use Rattle.quilt_btree.specs.Inserts.{HasRight, IsPending, DidPut, AreFew};
-ghost use Rattle.quilt_btree.specs.declared.outcomes.Inserted.TheVariants.{There};
+ghost use Rattle.quilt_btree.specs.Inserts.{IsPending, DidPut, AreFew, LeavesInserted, LeavesPut};
 
 use crate::outcomes::Inserted;
 use crate::pages::{inner_at_fault, inner_high, read_leaf};
@@ -42,18 +40,10 @@ pub fn insert_leaf<S: PageStore>(store: &mut S, page: u32, r: &Record) -> Result
         → CanInsert (S.told store.old) (S.free store.old) (S.size store.old) page 1 is_root b r.now.key rs used → IsSound e) }
     ensures finds { IfOk result (λ o. (height : ℕ) (rs : List Record) → height ≡ 1 → Spells (S.told store.old) page height rs
         → was_there o ≡ list_any (has_key r.now.key) rs) }
-    ensures right { IfOk result (λ o. HasRight (S.size store.old) o) }
-    ensures room { OnOk result (count_free (S.free store.old) (S.size store.old) ≤ count_free (S.free store.new) (S.size store.old) + 1) }
-    ensures told { IfOk result (λ o. o ≡ There → S.told store.new ≡ S.told store.old) }
-    ensures free { IfOk result (λ o. o ≡ There → S.free store.new ≡ S.free store.old) }
-    ensures unchanged { IfOk result (λ o. o ≡ There → S.changed store.new ≤ S.changed store.old) }
+    ensures leaves { LeavesInserted S.PageStore 1 store.old store.new result }
     ensures names { IfErr result (NamesPage (S.size store.old)) }
     ensures bad { IfErr result (λ e. e ≢ Damaged 0 → NamesBad (S.told store.old) 1 page e) }
-    ensures cause { HasStopCause (S.faults store.old) (S.faults store.new) result }
-    ensures size { S.size store.new ≡ S.size store.old }
-    ensures later { S.later store.old store.new }
-    ensures changed { S.changed store.new ≤ S.changed store.old + 2 }
-    ensures reads { Goes (λ old new. new ≤ old + 1) (S.reads store.old) (S.reads store.new) }
+    ensures left { EditsWithin S.PageStore 2 1 store.old store.new result }
 {
     let mut leaf = match read_leaf(store, page, page) {
         Err(e) => return Err(e),
@@ -80,9 +70,7 @@ pub fn put_record<S: PageStore>(
         → DidInsert r.now (S.told store.old) (S.told store.new) (S.free store.old) (S.free store.new) page 1 is_root b rs used o) }
     ensures sound { IfErr result (λ e. (is_root : Bool) (b : Bounds) (rs : List Record) (used : List ℕ)
         → CanInsert (S.told store.old) (S.free store.old) (S.size store.old) page 1 is_root b r.now.key rs used → IsSound e) }
-    ensures right { IfOk result (λ o. HasRight (S.size store.old) o) }
-    ensures room { OnOk result (count_free (S.free store.old) (S.size store.old) ≤ count_free (S.free store.new) (S.size store.old) + 1) }
-    ensures new { IfOk result (λ o. o ≢ There) }
+    ensures leaves { LeavesPut S.PageStore store.old store.new result }
     ensures names { IfErr result (NamesPage 1) }
     ensures left { EditsWithin S.PageStore 2 0 store.old store.new result }
 {
@@ -129,6 +117,41 @@ fn fits(inner: &InnerPage, i: usize, k: &Key) -> bool
     is_over(inner, i, k) && is_under(inner, i, k)
 }
 
+/// Puts key `i` and child `i + 1` into a full inner page, which is split, and writes both halves. It stands by itself so that the page on the right is
+/// cleared only here.
+fn split_child<S: PageStore>(
+    store: &mut S,
+    page: u32,
+    inner: &mut InnerPage,
+    i: usize,
+    key: &Key,
+    child: u32,
+) -> Result<Inserted, Stop>
+    requires page { (1 ≤ page) × (page < S.size store.old) }
+    requires children { are_pages (S.size store.old) inner.old.children ≡ true }
+    requires place { (i < length inner.old.children) × (length inner.old.children ≡ 254) }
+    requires child { 1 ≤ child }
+    requires order { is_ascending (insert inner.old.keys i key.now) ≡ true }
+    ensures put { IfOk result (λ o. (is_root : Bool) (b : Bounds) (all : List Record) (under : List ℕ)
+        → IsPending (S.told store.old) (S.free store.old) page is_root b (with_child inner.old i key.now child) all under
+        → DidPut (S.told store.old) (S.told store.new) (S.free store.old) (S.free store.new) page inner.old.height is_root b (under ++ page ∷ []) all o) }
+    ensures sound { IfErr result (λ e. (is_root : Bool) (b : Bounds) (all : List Record) (under : List ℕ)
+        → IsPending (S.told store.old) (S.free store.old) page is_root b (with_child inner.old i key.now child) all under
+        → 0 < count_free (S.free store.old) (S.size store.old) → IsSound e) }
+    ensures leaves { LeavesPut S.PageStore store.old store.new result }
+    ensures names { IfErr result (NamesPage 1) }
+    ensures left { EditsWithin S.PageStore 2 0 store.old store.new result }
+{
+    let (separator, right) = inner.insert_split(i, key, child);
+    match write_split(store, page, inner.bytes(), right.bytes()) {
+        Err(e) => Err(e),
+        Ok(new) => Ok(Inserted::Split {
+            key: separator,
+            right: new,
+        }),
+    }
+}
+
 /// Puts key `i` and child `i + 1` into an inner page, and writes it to its page. One at height 3, where the root stands, is not
 /// split: page 0 is said to be damaged then, before anything is written.
 pub fn put_child<S: PageStore>(
@@ -149,9 +172,7 @@ pub fn put_child<S: PageStore>(
     ensures sound { IfErr result (λ e. (is_root : Bool) (b : Bounds) (all : List Record) (under : List ℕ)
         → IsPending (S.told store.old) (S.free store.old) page is_root b (with_child inner.old i key.now child) all under
         → 0 < count_free (S.free store.old) (S.size store.old) → (inner.old.height ≡ 3 → length inner.old.children < 254) → IsSound e) }
-    ensures right { IfOk result (λ o. HasRight (S.size store.old) o) }
-    ensures room { OnOk result (count_free (S.free store.old) (S.size store.old) ≤ count_free (S.free store.new) (S.size store.old) + 1) }
-    ensures new { IfOk result (λ o. o ≢ There) }
+    ensures leaves { LeavesPut S.PageStore store.old store.new result }
     ensures names { IfErr result (NamesPage 1) }
     ensures left { EditsWithin S.PageStore 2 0 store.old store.new result }
     ensures less { inner.old.height ≡ 3 → S.changed store.new ≤ S.changed store.old + 1 }
@@ -169,14 +190,7 @@ pub fn put_child<S: PageStore>(
     if inner.height() == 3 {
         return Err(Stop::Damaged { page: 0 });
     }
-    let (separator, right) = inner.insert_split(i, key, child);
-    match write_split(store, page, inner.bytes(), right.bytes()) {
-        Err(e) => Err(e),
-        Ok(new) => Ok(Inserted::Split {
-            key: separator,
-            right: new,
-        }),
-    }
+    split_child(store, page, inner, i, key, child)
 }
 
 /// Puts a record into the subtree at a page.
@@ -194,19 +208,11 @@ pub fn insert_under<S: PageStore>(
     ensures sound { IfErr result (λ e. (is_root : Bool) (b : Bounds) (rs : List Record) (used : List ℕ)
         → CanInsert (S.told store.old) (S.free store.old) (S.size store.old) page height is_root b r.now.key rs used → AreFew rs → IsSound e) }
     ensures finds { IfOk result (λ o. (rs : List Record) → Spells (S.told store.old) page height rs → was_there o ≡ list_any (has_key r.now.key) rs) }
-    ensures right { IfOk result (λ o. HasRight (S.size store.old) o) }
-    ensures room { OnOk result (count_free (S.free store.old) (S.size store.old) ≤ count_free (S.free store.new) (S.size store.old) + height) }
-    ensures told { IfOk result (λ o. o ≡ There → S.told store.new ≡ S.told store.old) }
-    ensures free { IfOk result (λ o. o ≡ There → S.free store.new ≡ S.free store.old) }
-    ensures unchanged { IfOk result (λ o. o ≡ There → S.changed store.new ≤ S.changed store.old) }
+    ensures leaves { LeavesInserted S.PageStore height store.old store.new result }
     ensures names { IfErr result (NamesPage (S.size store.old)) }
     ensures bad { IfErr result (λ e. e ≢ Damaged 0 → NamesBad (S.told store.old) height page e) }
-    ensures cause { HasStopCause (S.faults store.old) (S.faults store.new) result }
-    ensures size { S.size store.new ≡ S.size store.old }
-    ensures later { S.later store.old store.new }
-    ensures changed { S.changed store.new ≤ S.changed store.old + 2 * height }
+    ensures left { EditsWithin S.PageStore (2 * height) height store.old store.new result }
     ensures less { 3 ≤ height → S.changed store.new + 1 ≤ S.changed store.old + 2 * height }
-    ensures reads { Goes (λ old new. new ≤ old + height) (S.reads store.old) (S.reads store.new) }
 {
     if height == 1 {
         return insert_leaf(store, page, r);

@@ -1,14 +1,13 @@
-ghost use Rattle.std.specs.Prelude.{◌≡◌, ◌≢◌, ℕ, ◌+◌, ◌<◌, ◌≤◌, true, IfOk, IfErr, OnOk, List, take, length};
+ghost use Rattle.std.specs.Prelude.{◌≡◌, ◌≢◌, ℕ, ◌<◌, ◌≤◌, true, IfOk, IfErr, List, take, length};
 ghost use Rattle.std.specs.List.{list_all};
 ghost use Rattle.quilt_record.specs.declared.record.Record.{Record};
 ghost use Rattle.quilt_types.specs.declared.stop.Stop.TheVariants.{Damaged};
 ghost use Rattle.quilt_node.specs.Pages.{is_ascending};
 ghost use Rattle.quilt_node.specs.Tree.{Bounds, is_above};
-ghost use Rattle.quilt_btree.specs.Batches.{edit_keys, Fails, DidEdit};
+ghost use Rattle.quilt_btree.specs.Batches.{edit_keys, Fails, DidEdit, TakesFirst};
 ghost use Rattle.quilt_btree.specs.Edits.{CanEdit};
 ghost use Rattle.quilt_btree.specs.Damage.{NamesBad};
-ghost use Rattle.quilt_store.specs.Stops.{HasStopCause};
-ghost use Rattle.quilt_world.specs.Tale.{Goes};
+ghost use Rattle.quilt_btree.specs.Costs.{EditsWithinOnOk};
 ghost use Rattle.quilt_btree.specs.Stops.{NamesPage};
 
 use crate::edit::{Edit, edit_some, least_records};
@@ -39,11 +38,7 @@ fn edit_leaf<S: PageStore>(
         → CanEdit (S.told store.old) (S.free store.old) page 1 is_root b rs used → (q : ℕ) → e ≡ Damaged q → (q ≡ 0) × Fails run.now b.high rs) }
     ensures names { IfErr result (NamesPage (S.size store.old)) }
     ensures bad { IfErr result (λ e. e ≢ Damaged 0 → NamesBad (S.told store.old) 1 page e) }
-    ensures cause { HasStopCause (S.faults store.old) (S.faults store.new) result }
-    ensures size { S.size store.new ≡ S.size store.old }
-    ensures later { S.later store.old store.new }
-    ensures changed { S.changed store.new ≤ S.changed store.old + 1 }
-    ensures reads { OnOk result (Goes (λ old new. new ≤ old + 1) (S.reads store.old) (S.reads store.new)) }
+    ensures left { EditsWithinOnOk S.PageStore 1 1 store.old store.new result }
 {
     if store.is_free(page) {
         return Err(Stop::Damaged { page: 0 });
@@ -77,20 +72,15 @@ pub fn edit_under<S: PageStore>(
     requires height { 1 ≤ height }
     requires some { 1 ≤ length run.now }
     requires order { is_ascending (edit_keys run.now) ≡ true }
-    ensures number { IfOk result (λ n. n ≤ length run.now) }
+    ensures takes { TakesFirst S.PageStore run.now store.old store.new result }
     ensures edited { IfOk result (λ n. 1 ≤ n → (b : Bounds) (rs : List Record) (used : List ℕ) → b.high ≡ high.now
         → list_all (is_above b.low) (edit_keys run.now) ≡ true → CanEdit (S.told store.old) (S.free store.old) page height is_root b rs used
         → DidEdit (take n run.now) (S.told store.old) (S.told store.new) (S.free store.old) (S.free store.new) page height is_root b rs used) }
-    ensures stays { IfOk result (λ n. n ≡ 0 → (S.told store.new ≡ S.told store.old) × (S.free store.new ≡ S.free store.old)) }
     ensures fails { IfErr result (λ e. (b : Bounds) (rs : List Record) (used : List ℕ) → b.high ≡ high.now
         → CanEdit (S.told store.old) (S.free store.old) page height is_root b rs used → (q : ℕ) → e ≡ Damaged q → (q ≡ 0) × Fails run.now b.high rs) }
     ensures names { IfErr result (NamesPage (S.size store.old)) }
     ensures bad { IfErr result (λ e. e ≢ Damaged 0 → NamesBad (S.told store.old) height page e) }
-    ensures cause { HasStopCause (S.faults store.old) (S.faults store.new) result }
-    ensures size { S.size store.new ≡ S.size store.old }
-    ensures later { S.later store.old store.new }
-    ensures changed { S.changed store.new ≤ S.changed store.old + 1 }
-    ensures reads { OnOk result (Goes (λ old new. new ≤ old + height) (S.reads store.old) (S.reads store.new)) }
+    ensures left { EditsWithinOnOk S.PageStore 1 height store.old store.new result }
 {
     if height == 1 {
         return edit_leaf(store, page, is_root, high, run);

@@ -8,6 +8,7 @@ ghost use Rattle.quilt_store.specs.Calls.{OnlyReads};
 ghost use Rattle.quilt_store.specs.Store.{Touches};
 ghost use Rattle.quilt_world.specs.Tale.{Goes};
 ghost use Rattle.quilt_btree.specs.Damage.{NamesBad};
+ghost use Rattle.quilt_btree.specs.Looks.{LooksAt};
 ghost use Rattle.quilt_btree.specs.Searches.{IsHigh};
 ghost use Rattle.quilt_store.specs.Stops.{IsSound};
 ghost use Rattle.quilt_btree.specs.Stops.{store_stop, unnamed, NamesPage};
@@ -100,11 +101,7 @@ pub fn read_inner<S: PageStore>(store: &mut S, page: u32, height: u8) -> Result<
     ensures children { IfOk result (λ inner. are_pages (S.size store.old) inner.children ≡ true) }
     ensures sound { IfErr result (λ e. (rs : List Record) → Spells (S.told store.old) page height rs → IsSound e) }
     ensures names { IfErr result (NamesPage 1) }
-    ensures left { OnlyReads S.PageStore store.old store.new result }
-    ensures held { OnOk result (Goes (Touches page) (S.held store.old) (S.held store.new)) }
-    ensures reads { Goes (λ old new. new ≤ old + 1) (S.reads store.old) (S.reads store.new) }
-    ensures held_is_free { IfSome (S.held store.old) (λ pages. IsTrue (list_any (λ p. p == page) pages)
-        → Goes (λ old new. new ≤ old) (S.reads store.old) (S.reads store.new)) }
+    ensures looks { LooksAt S.PageStore page store.old store.new result }
 {
     let mut bytes = [0; 4096];
     match store.read(page, &mut bytes) {

@@ -5,8 +5,8 @@ ghost use Rattle.quilt_record.specs.declared.record.Record.{Record};
 ghost use Rattle.quilt_node.specs.Pages.{is_ascending};
 ghost use Rattle.quilt_node.specs.Nodes.{keys_of};
 ghost use Rattle.quilt_node.specs.Tree.{Bounds};
-ghost use Rattle.quilt_world.specs.Tale.{Goes};
-ghost use Rattle.quilt_store.specs.Stops.{HasStopCause, IsSound};
+ghost use Rattle.quilt_store.specs.Stops.{IsSound};
+ghost use Rattle.quilt_btree.specs.Costs.{EditsWithin};
 ghost use Rattle.quilt_btree.specs.Stops.{NamesPage};
 ghost use Rattle.quilt_btree.specs.Damage.{NamesSpare};
 ghost use Rattle.quilt_btree.specs.Rebalancing.{CanRebalance, DidRebalance};
@@ -123,12 +123,8 @@ fn rebalance_leaves<S: PageStore>(
         → CanRebalance (S.told store.old) (S.free store.old) height left key.now right b rs used → IsSound e) }
     ensures names { IfErr result (NamesPage (S.size store.old)) }
     ensures bad { IfErr result (λ e. (height : ℕ) → height ≡ 1 → NamesSpare (S.told store.old) height spare e) }
-    ensures cause { HasStopCause (S.faults store.old) (S.faults store.new) result }
-    ensures size { S.size store.new ≡ S.size store.old }
-    ensures later { S.later store.old store.new }
-    ensures changed { S.changed store.new ≤ S.changed store.old + 2 }
+    ensures left { EditsWithin S.PageStore 2 2 store.old store.new result }
     ensures joined { IfOk result (λ o. o ≡ Joined → S.changed store.new ≤ S.changed store.old + 1) }
-    ensures reads { Goes (λ old new. new ≤ old + 2) (S.reads store.old) (S.reads store.new) }
 {
     let mut first = read_leaf(store, left, named_of(left, spare))?;
     let mut rest = read_leaf(store, right, named_of(right, spare))?;
@@ -168,12 +164,8 @@ fn rebalance_inners<S: PageStore>(
     ensures sound { IfErr result (λ e. (b : Bounds) (rs : List Record) (used : List ℕ)
         → CanRebalance (S.told store.old) (S.free store.old) height left key.now right b rs used → IsSound e) }
     ensures names { IfErr result (NamesPage 1) }
-    ensures cause { HasStopCause (S.faults store.old) (S.faults store.new) result }
-    ensures size { S.size store.new ≡ S.size store.old }
-    ensures later { S.later store.old store.new }
-    ensures changed { S.changed store.new ≤ S.changed store.old + 2 }
+    ensures left { EditsWithin S.PageStore 2 2 store.old store.new result }
     ensures joined { IfOk result (λ o. o ≡ Joined → S.changed store.new ≤ S.changed store.old + 1) }
-    ensures reads { Goes (λ old new. new ≤ old + 2) (S.reads store.old) (S.reads store.new) }
 {
     let mut first = read_inner(store, left, height)?;
     let mut rest = read_inner(store, right, height)?;
@@ -214,12 +206,8 @@ pub fn rebalance_pages<S: PageStore>(
         → CanRebalance (S.told store.old) (S.free store.old) height left key.now right b rs used → IsSound e) }
     ensures names { IfErr result (NamesPage (S.size store.old)) }
     ensures bad { IfErr result (NamesSpare (S.told store.old) height spare) }
-    ensures cause { HasStopCause (S.faults store.old) (S.faults store.new) result }
-    ensures size { S.size store.new ≡ S.size store.old }
-    ensures later { S.later store.old store.new }
-    ensures changed { S.changed store.new ≤ S.changed store.old + 2 }
+    ensures left { EditsWithin S.PageStore 2 2 store.old store.new result }
     ensures joined { IfOk result (λ o. o ≡ Joined → S.changed store.new ≤ S.changed store.old + 1) }
-    ensures reads { Goes (λ old new. new ≤ old + 2) (S.reads store.old) (S.reads store.new) }
 {
     if height == 1 {
         rebalance_leaves(store, left, key, right, spare)

@@ -1,20 +1,20 @@
-ghost use Rattle.std.specs.Prelude.{◌≡◌, ◌≢◌, ◌⊎◌, ℕ, suc, ◌+◌, ◌*◌, ◌<◌, ◌≤◌, Bool, true, false, IfOk, IfErr, OnOk, List, length, slice_set};
+ghost use Rattle.std.specs.Prelude.{◌≡◌, ◌≢◌, ◌⊎◌, ℕ, suc, ◌+◌, ◌-◌, ◌*◌, ◌<◌, ◌≤◌, Bool, true, false, IfOk, IfErr, OnOk, List, length, slice_set};
 ghost use Rattle.std.specs.List.{list_any};
 ghost use Rattle.quilt_record.specs.declared.record.Record.{Record};
 ghost use Rattle.quilt_node.specs.Pages.{is_ascending};
 ghost use Rattle.quilt_node.specs.Nodes.{are_pages};
 ghost use Rattle.quilt_node.specs.Edits.{with_key};
 ghost use Rattle.quilt_node.specs.Tree.{Bounds};
-ghost use Rattle.quilt_btree.specs.declared.outcomes.Removed.TheVariants.{Missing, Emptied, Done};
+ghost use Rattle.quilt_btree.specs.declared.outcomes.Removed.TheVariants.{Missing};
 ghost use Rattle.quilt_btree.specs.Edits.{CanEdit, DidLeave, DidRemove, HasPageIn};
 ghost use Rattle.quilt_record.specs.Lists.{has_key};
 ghost use Rattle.quilt_world.specs.Tale.{Goes};
 ghost use Rattle.quilt_types.specs.declared.stop.Stop.TheVariants.{Damaged};
 ghost use Rattle.quilt_btree.specs.Damage.{NamesBad, NamesBeside, OthersStay};
-ghost use Rattle.quilt_btree.specs.Rebalancing.{HasUnderfull, HasDropped, Writes};
+ghost use Rattle.quilt_btree.specs.Rebalancing.{HasUnderfull, HasDropped, Writes, LeavesRebalanced, LeavesRemoved};
 ghost use Rattle.quilt_btree.specs.Outcomes.{was_found};
-ghost use Rattle.quilt_store.specs.Stops.{HasStopCause, IsSound};
-ghost use Rattle.quilt_btree.specs.Costs.{EditsWithin};
+ghost use Rattle.quilt_store.specs.Stops.{IsSound};
+ghost use Rattle.quilt_btree.specs.Costs.{EditsWithin, IsUntouched};
 ghost use Rattle.quilt_btree.specs.Stops.{NamesPage};
 ghost use Rattle.quilt_btree.specs.Trees.{Spells};
 
@@ -39,17 +39,12 @@ fn remove_in_leaf<S: PageStore>(store: &mut S, page: u32, k: &Key) -> Result<Rem
         → CanEdit (S.told store.old) (S.free store.old) page height is_root b rs used → IsSound e) }
     ensures finds { IfOk result (λ o. (height : ℕ) (rs : List Record) → height ≡ 1 → Spells (S.told store.old) page height rs
         → was_found o ≡ list_any (has_key k.now) rs) }
-    ensures same { IfOk result (λ o. o ≡ Missing → (S.told store.new ≡ S.told store.old) × (S.free store.new ≡ S.free store.old)) }
-    ensures unchanged { IfOk result (λ o. o ≡ Missing → S.changed store.new ≤ S.changed store.old) }
+    ensures same { IfOk result (λ o. o ≡ Missing → IsUntouched S.PageStore store.old store.new) }
     ensures child { IfOk result (λ o. HasPageIn (S.size store.old) o) }
     ensures others { OnOk result (Goes (OthersStay page) (S.told store.old) (S.told store.new)) }
     ensures names { IfErr result (NamesPage (S.size store.old)) }
     ensures bad { IfErr result (λ e. e ≢ Damaged 0 → NamesBad (S.told store.old) 1 page e) }
-    ensures cause { HasStopCause (S.faults store.old) (S.faults store.new) result }
-    ensures size { S.size store.new ≡ S.size store.old }
-    ensures later { S.later store.old store.new }
-    ensures changed { S.changed store.new ≤ S.changed store.old + 1 }
-    ensures reads { Goes (λ old new. new ≤ old + 1) (S.reads store.old) (S.reads store.new) }
+    ensures left { EditsWithin S.PageStore 1 1 store.old store.new result }
 {
     let mut leaf = read_leaf(store, page, page)?;
     match leaf.find(k) {
@@ -165,21 +160,15 @@ fn rebalance_child<S: PageStore>(
     requires height { 2 ≤ height }
     requires children { are_pages (S.size store.old) inner.old.children ≡ true }
     requires place { i < length inner.old.children }
-    ensures left { IfOk result (λ o. (is_root : Bool) (b : Bounds) (rs : List Record) (used : List ℕ)
+    ensures leaves { IfOk result (λ o. (is_root : Bool) (b : Bounds) (rs : List Record) (used : List ℕ)
         → HasUnderfull (S.told store.old) (S.free store.old) page height inner.old i is_root b rs used
         → DidLeave (S.told store.old) (S.told store.new) (S.free store.old) (S.free store.new) page height is_root b used rs o) }
     ensures sound { IfErr result (λ e. (is_root : Bool) (b : Bounds) (rs : List Record) (used : List ℕ)
         → HasUnderfull (S.told store.old) (S.free store.old) page height inner.old i is_root b rs used → IsSound e) }
-    ensures some { IfOk result (λ o. o ≡ Missing → ⊥) }
-    ensures child { IfOk result (λ o. HasPageIn (S.size store.old) o) }
+    ensures remains { LeavesRebalanced S.PageStore 3 store.old store.new result }
     ensures names { IfErr result (NamesPage (S.size store.old)) }
     ensures bad { IfErr result (NamesBeside (S.told store.old) height inner.old i) }
-    ensures cause { HasStopCause (S.faults store.old) (S.faults store.new) result }
-    ensures size { S.size store.new ≡ S.size store.old }
-    ensures later { S.later store.old store.new }
-    ensures changed { S.changed store.new ≤ S.changed store.old + 3 }
-    ensures less { IfOk result (λ o. o ≢ Done → S.changed store.new ≤ S.changed store.old + 2) }
-    ensures reads { Goes (λ old new. new ≤ old + 2) (S.reads store.old) (S.reads store.new) }
+    ensures left { EditsWithin S.PageStore 3 2 store.old store.new result }
 {
     let j = pair_at(i, inner.len());
     let left = inner.child(j);
@@ -211,18 +200,11 @@ pub fn remove_under<S: PageStore>(
     ensures sound { IfErr result (λ e. (is_root : Bool) (b : Bounds) (rs : List Record) (used : List ℕ)
         → CanEdit (S.told store.old) (S.free store.old) page height is_root b rs used → IsSound e) }
     ensures finds { IfOk result (λ o. (rs : List Record) → Spells (S.told store.old) page height rs → was_found o ≡ list_any (has_key k.now) rs) }
-    ensures same { IfOk result (λ o. o ≡ Missing → (S.told store.new ≡ S.told store.old) × (S.free store.new ≡ S.free store.old)) }
-    ensures unchanged { IfOk result (λ o. o ≡ Missing → S.changed store.new ≤ S.changed store.old) }
-    ensures child { IfOk result (λ o. HasPageIn (S.size store.old) o) }
+    ensures remains { LeavesRemoved S.PageStore (2 * height) store.old store.new result }
     ensures others { OnOk result (height ≡ 1 → Goes (OthersStay page) (S.told store.old) (S.told store.new)) }
     ensures names { IfErr result (NamesPage (S.size store.old)) }
     ensures bad { IfErr result (λ e. e ≢ Damaged 0 → NamesBad (S.told store.old) height page e) }
-    ensures cause { HasStopCause (S.faults store.old) (S.faults store.new) result }
-    ensures size { S.size store.new ≡ S.size store.old }
-    ensures later { S.later store.old store.new }
-    ensures changed { S.changed store.new ≤ S.changed store.old + 2 * height }
-    ensures less { IfOk result (λ o. o ≢ Done → S.changed store.new + 1 ≤ S.changed store.old + 2 * height) }
-    ensures reads { Goes (λ old new. new + 2 ≤ old + 3 * height) (S.reads store.old) (S.reads store.new) }
+    ensures left { EditsWithin S.PageStore (2 * height) (3 * height - 2) store.old store.new result }
 {
     if height == 1 {
         return remove_in_leaf(store, page, k);

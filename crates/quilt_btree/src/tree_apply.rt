@@ -1,13 +1,12 @@
-ghost use Rattle.std.specs.Prelude.{◌≡◌, ◌≢◌, ℕ, ◌+◌, ◌*◌, ◌<◌, ◌≤◌, true, false, IfOk, IfErr, IfSome, None, OnOk, List, length, take};
+ghost use Rattle.std.specs.Prelude.{◌≡◌, ◌≢◌, ℕ, ◌+◌, ◌-◌, ◌*◌, ◌<◌, ◌≤◌, true, false, IfOk, IfErr, IfSome, None, OnOk, List, length, take};
 ghost use Rattle.quilt_record.specs.declared.record.Record.{Record};
 ghost use Rattle.quilt_types.specs.Facts.{quota};
-ghost use Rattle.quilt_world.specs.Tale.{Goes};
 ghost use Rattle.quilt_types.specs.declared.stop.Stop.TheVariants.{Damaged};
 ghost use Rattle.quilt_node.specs.Pages.{is_ascending};
-ghost use Rattle.quilt_btree.specs.Batches.{edit_keys, is_due, edited, are_due, edit_all, more_of, fewer_of, cost_of, looks_of, more, fewer, cost, looks, removed, added};
+ghost use Rattle.quilt_btree.specs.Batches.{edit_keys, is_due, edited, are_due, edit_all, more_of, fewer_of, cost_of, looks_of, more, fewer, removed, added, CountsFirst, EditsFirst};
 ghost use Rattle.quilt_btree.specs.Runs.{put_all, without_all};
 ghost use Rattle.quilt_btree.specs.Damage.{NamesBad};
-ghost use Rattle.quilt_store.specs.Stops.{HasStopCause};
+ghost use Rattle.quilt_btree.specs.Costs.{EditsWithinOnOk};
 ghost use Rattle.quilt_btree.specs.Stops.{NamesPage};
 
 use crate::batch::Batch;
@@ -40,12 +39,8 @@ impl Tree {
             → (page : ℕ) → e ≡ Damaged page → (page ≡ 0) × (are_due batch.now rs ≡ false)) }
         ensures names { IfErr result (NamesPage (S.size store.old)) }
         ensures bad { IfErr result (λ e. e ≢ Damaged 0 → NamesBad (S.told store.old) self.old.height self.old.root e) }
-        ensures cause { HasStopCause (S.faults store.old) (S.faults store.new) result }
-        ensures size { S.size store.new ≡ S.size store.old }
-        ensures later { S.later store.old store.new }
-        ensures changed { S.changed store.new ≤ S.changed store.old + 7 * length (removed batch.now) + 6 * length (added batch.now) }
-        ensures reads { OnOk result (Goes (λ old new. new ≤ old + (10 * length (removed batch.now) + 6 * length (added batch.now))) (S.reads store.old)
-            (S.reads store.new)) }
+        ensures left { EditsWithinOnOk S.PageStore (7 * length (removed batch.now) + 6 * length (added batch.now))
+            (10 * length (removed batch.now) + 6 * length (added batch.now)) store.old store.new result }
     {
         let run = batch.edits();
         let mut done = 0;
@@ -64,22 +59,15 @@ impl Tree {
         requires room { self.old.records + more run.now ≤ quota (S.size store.old) }
         requires some { 1 ≤ length run.now }
         requires order { is_ascending (edit_keys run.now) ≡ true }
-        ensures number { IfOk result (λ n. (1 ≤ n) × (n ≤ length run.now)) }
-        ensures rooted { OnOk result (IsRooted (S.size store.old) self.new) }
+        ensures counts { CountsFirst (S.size store.old) run.now self.old self.new result }
         ensures edited { IfOk result (λ n. (rs : List Record) → IsWhole (S.told store.old) (S.free store.old) (S.size store.old) self.old rs
             → (are_due (take n run.now) rs ≡ true)
             × IsWhole (S.told store.new) (S.free store.new) (S.size store.old) self.new (edit_all (take n run.now) rs)) }
-        ensures count { IfOk result (λ n. self.new.records + fewer (take n run.now) ≡ self.old.records + more (take n run.now)) }
         ensures fails { IfErr result (λ e. (rs : List Record) → IsWhole (S.told store.old) (S.free store.old) (S.size store.old) self.old rs
             → (page : ℕ) → e ≡ Damaged page → (page ≡ 0) × (are_due run.now rs ≡ false)) }
         ensures names { IfErr result (NamesPage (S.size store.old)) }
         ensures bad { IfErr result (λ e. e ≢ Damaged 0 → NamesBad (S.told store.old) self.old.height self.old.root e) }
-        ensures cause { HasStopCause (S.faults store.old) (S.faults store.new) result }
-        ensures size { S.size store.new ≡ S.size store.old }
-        ensures later { S.later store.old store.new }
-        ensures changed { IfOk result (λ n. S.changed store.new ≤ S.changed store.old + cost (take n run.now)) }
-        ensures less { IfErr result (λ e. S.changed store.new ≤ S.changed store.old + cost run.now) }
-        ensures reads { IfOk result (λ n. Goes (λ old new. new ≤ old + looks (take n run.now)) (S.reads store.old) (S.reads store.new)) }
+        ensures left { EditsFirst S.PageStore 0 0 run.now store.old store.new result }
     {
         if self.height == 0 {
             return self.apply_first(store, run);
@@ -105,22 +93,15 @@ impl Tree {
         requires rooted { IsRooted (S.size store.old) self.old }
         requires room { self.old.records + more run.now ≤ quota (S.size store.old) }
         requires some { 1 ≤ length run.now }
-        ensures number { IfOk result (λ n. (1 ≤ n) × (n ≤ length run.now)) }
-        ensures rooted { OnOk result (IsRooted (S.size store.old) self.new) }
+        ensures counts { CountsFirst (S.size store.old) run.now self.old self.new result }
         ensures edited { IfOk result (λ n. (rs : List Record) → IsWhole (S.told store.old) (S.free store.old) (S.size store.old) self.old rs
             → (are_due (take n run.now) rs ≡ true)
             × IsWhole (S.told store.new) (S.free store.new) (S.size store.old) self.new (edit_all (take n run.now) rs)) }
-        ensures count { IfOk result (λ n. self.new.records + fewer (take n run.now) ≡ self.old.records + more (take n run.now)) }
         ensures fails { IfErr result (λ e. (rs : List Record) → IsWhole (S.told store.old) (S.free store.old) (S.size store.old) self.old rs
             → (page : ℕ) → e ≡ Damaged page → (page ≡ 0) × (are_due run.now rs ≡ false)) }
         ensures names { IfErr result (NamesPage (S.size store.old)) }
         ensures bad { IfErr result (λ e. e ≢ Damaged 0 → NamesBad (S.told store.old) self.old.height self.old.root e) }
-        ensures cause { HasStopCause (S.faults store.old) (S.faults store.new) result }
-        ensures size { S.size store.new ≡ S.size store.old }
-        ensures later { S.later store.old store.new }
-        ensures changed { IfOk result (λ n. S.changed store.new + 1 ≤ S.changed store.old + cost (take n run.now)) }
-        ensures less { IfErr result (λ e. S.changed store.new + 1 ≤ S.changed store.old + cost run.now) }
-        ensures reads { IfOk result (λ n. Goes (λ old new. new + 3 ≤ old + looks (take n run.now)) (S.reads store.old) (S.reads store.new)) }
+        ensures left { EditsFirst S.PageStore 1 3 run.now store.old store.new result }
     {
         match self.apply_one(store, &run[0]) {
             Err(e) => Err(e),
@@ -141,11 +122,7 @@ impl Tree {
             → (page : ℕ) → e ≡ Damaged page → (page ≡ 0) × (is_due edit.now rs ≡ false)) }
         ensures names { IfErr result (NamesPage (S.size store.old)) }
         ensures bad { IfErr result (λ e. e ≢ Damaged 0 → NamesBad (S.told store.old) self.old.height self.old.root e) }
-        ensures cause { HasStopCause (S.faults store.old) (S.faults store.new) result }
-        ensures size { S.size store.new ≡ S.size store.old }
-        ensures later { S.later store.old store.new }
-        ensures changed { S.changed store.new + 1 ≤ S.changed store.old + cost_of edit.now }
-        ensures reads { OnOk result (Goes (λ old new. new + 3 ≤ old + looks_of edit.now) (S.reads store.old) (S.reads store.new)) }
+        ensures left { EditsWithinOnOk S.PageStore (cost_of edit.now - 1) (looks_of edit.now - 3) store.old store.new result }
     {
         match edit {
             Edit::Remove { key } => match self.remove(store, key) {

@@ -1,11 +1,11 @@
 ghost use Rattle.std.specs.Prelude.{◌≡◌, ◌≢◌, ℕ, ◌+◌, ◌-◌, ◌<◌, ◌≤◌, Bool, true, false, IfOk, IfErr, OnOk, IsErrOf, List, length};
 ghost use Rattle.std.specs.List.{list_any};
 ghost use Rattle.quilt_record.specs.declared.record.Record.{Record};
-ghost use Rattle.quilt_world.specs.Tale.{Goes};
 ghost use Rattle.quilt_types.specs.declared.stop.Stop.TheVariants.{Device, Damaged};
 ghost use Rattle.quilt_record.specs.Lists.{has_key, without};
 ghost use Rattle.quilt_btree.specs.Damage.{NamesBad};
-ghost use Rattle.quilt_store.specs.Stops.{HasStopCause, IsSound};
+ghost use Rattle.quilt_store.specs.Stops.{IsSound};
+ghost use Rattle.quilt_btree.specs.Costs.{EditsWithin, IsUntouched};
 ghost use Rattle.quilt_btree.specs.Stops.{NamesPage};
 
 use crate::outcomes::Removed;
@@ -17,8 +17,8 @@ use quilt_store::PageStore;
 use quilt_types::Stop;
 
 impl Tree {
-    ghost use Rattle.quilt_btree.specs.Trees.{IsRooted, IsTree};
-    ghost use Rattle.quilt_btree.specs.Edits.{IsWhole, HasItsPages};
+    ghost use Rattle.quilt_btree.specs.Trees.{IsRooted};
+    ghost use Rattle.quilt_btree.specs.Edits.{IsWhole, HasItsPages, RemovesFrom};
 
     /// Takes the record of a key out: false exactly where there is none, and nothing changes. It changes at most 6 pages,
     /// and reads at most 7. Over a store that tells nothing, page 0 is said to be damaged where a page that is to be written
@@ -29,25 +29,15 @@ impl Tree {
     pub fn remove<S: PageStore>(&mut self, store: &mut S, k: &Key) -> Result<bool, Stop>
         requires rooted { IsRooted (S.size store.old) self.old }
         ensures rooted { OnOk result (IsRooted (S.size store.old) self.new) }
-        ensures removed { IfOk result (λ is_out. (rs : List Record) → IsWhole (S.told store.old) (S.free store.old) (S.size store.old) self.old rs
-            → (is_out ≡ list_any (has_key k.now) rs) × IsWhole (S.told store.new) (S.free store.new) (S.size store.old) self.new (without k.now rs)) }
-        ensures answer { IfOk result (λ is_out. (rs : List Record) → IsTree (S.told store.old) self.old rs → is_out ≡ list_any (has_key k.now) rs) }
-        ensures changes { IfOk result (λ is_out. (rs : List Record) → HasItsPages (S.told store.old) (S.free store.old) self.old rs
-            → HasItsPages (S.told store.new) (S.free store.new) self.new (without k.now rs)) }
-        ensures same { IfOk result (λ is_out. is_out ≡ false → (self.new ≡ self.old) × (S.told store.new ≡ S.told store.old)
-            × (S.free store.new ≡ S.free store.old)) }
-        ensures unchanged { IfOk result (λ is_out. is_out ≡ false → S.changed store.new ≤ S.changed store.old) }
+        ensures removes { RemovesFrom S.PageStore k.now self.old self.new store.old store.new result }
+        ensures same { IfOk result (λ is_out. is_out ≡ false → (self.new ≡ self.old) × IsUntouched S.PageStore store.old store.new) }
         ensures count { IfOk result (λ is_out. is_out ≡ true → self.new.records + 1 ≡ self.old.records) }
         ensures sound { IfErr result (λ e. (rs : List Record) → IsWhole (S.told store.old) (S.free store.old) (S.size store.old) self.old rs → IsSound e) }
         ensures goes { IfErr result (λ e. (rs : List Record) → HasItsPages (S.told store.old) (S.free store.old) self.old rs
             → length rs ≡ self.old.records → IsSound e) }
         ensures names { IfErr result (NamesPage (S.size store.old)) }
         ensures bad { IfErr result (λ e. e ≢ Damaged 0 → NamesBad (S.told store.old) self.old.height self.old.root e) }
-        ensures cause { HasStopCause (S.faults store.old) (S.faults store.new) result }
-        ensures size { S.size store.new ≡ S.size store.old }
-        ensures later { S.later store.old store.new }
-        ensures changed { S.changed store.new ≤ S.changed store.old + 6 }
-        ensures reads { Goes (λ old new. new ≤ old + 7) (S.reads store.old) (S.reads store.new) }
+        ensures left { EditsWithin S.PageStore 6 7 store.old store.new result }
     {
         if self.height == 0 {
             return Ok(false);

@@ -1,9 +1,11 @@
 -- How many of the pages are free.
 use Rattle.std.proofs.Common.{◌≡◌, ℕ, zero, suc, ◌+◌, ◌-◌, ◌<◌, ◌≤◌, Bool, true, false, cond, List, [], ◌∷◌, ◌++◌, Some, None, IsSome, length, get_or, set}
-use Rattle.std.proofs.Common.{refl, sym, ◌∙◌, ap, subst, append_assoc, length-append, length-set, arith, nat_lt, replicate, zero-add, one-add, ◌⊎◌, inl, inr}
-use Rattle.std.specs.Prelude.{filter, position}
+use Rattle.std.proofs.Common.{refl, sym, ◌∙◌, ap, subst, append_assoc, length-append, length-set, get_or-set_other, arith, nat_lt, replicate, zero-add, one-add, ◌⊎◌, inl, inr}
+use Rattle.std.specs.Prelude.{drop, filter, position}
 use Rattle.std.specs.List.{range_with_len, position_or_len}
 use Rattle.std.proofs.Math.Seq.{get_or-append_seam}
+use Rattle.std.proofs.lemmas.List.{get_or-drop, length-drop}
+use Rattle.std.proofs.lemmas.List.Quantifiers.{position-Some}
 use Rattle.std.proofs.lemmas.Bool.Decides.{nat_tests}
 use Rattle.std.proofs.lemmas.Bool.{cases_lt}
 use Rattle.std.specs.Option.{is_some}
@@ -68,13 +70,52 @@ first_below (false ∷ free) h =
 lt_test : (m n : ℕ) → m < n → nat_lt m n ≡ true
 lt_test m n h = grind (arith, nat_tests)
 
--- a page that is free is found
-pub found : (free : List Bool) (size : ℕ) → AreFromOne free size → length free ≡ size → 1 ≤ size → 0 < count_free (is_free free) size
-    → IsSome (position (λ b. b) free)
-found free size f e some h =
+-- no page before a place is free
+abbrev pub NoneBelow : List Bool → ℕ → Type 0
+NoneBelow free n = (page : ℕ) → page < n → is_free free page ≡ false
+
+count_from : (free : List Bool) (n : ℕ) → NoneBelow free n → count (drop n free) ≡ count free
+count_from free zero f = refl
+count_from [] (suc n) f = refl
+count_from (b ∷ free) (suc n) f =
+    let none : cond {A = ℕ} b 1 0 ≡ 0 = ap (λ c. cond {A = ℕ} c 1 0) (f 0 (omega arith)) in
+    let rest = count_from free n (λ page h. f (suc page) (omega arith)) in
+    omega (arith, count_cons b free)
+
+-- a page that is free is found from there on
+pub found : (free : List Bool) (size n : ℕ) → AreFromOne free size → NoneBelow free n → length free ≡ size → 1 ≤ size
+    → 0 < count_free (is_free free) size → IsSome (position (λ b. b) (drop n free))
+found free size n f low e some h =
     let many : 0 < count free = subst (λ n. 0 < n) (count_of_free free size f e some) h in
-    let at = position_or_len (λ b. b) free in
-    ap (λ b. is_some (cond b (Some at) None)) (lt_test at (length free) (first_below free many))
+    let left : 0 < count (drop n free) = subst (λ m. 0 < m) (sym (count_from free n low)) many in
+    let at = position_or_len (λ b. b) (drop n free) in
+    ap (λ b. is_some (cond b (Some at) None)) (lt_test at (length (drop n free)) (first_below (drop n free) left))
+
+-- the page is free, and none before it is
+pub record IsLowest (free : List Bool) (page : ℕ) : Type 0 where
+  pub in_range : page < length free
+  pub is : is_free free page ≡ true
+  pub below : NoneBelow free page
+
+-- the first that is free from there on
+pub lowest_at : (free : List Bool) (n i : ℕ) → NoneBelow free n → position (λ b. b) (drop n free) ≡ Some i → IsLowest free (n + i)
+lowest_at free n i low is =
+    let p = position-Some (λ b. b) (drop n free) i false is in
+    record {
+      in_range = let lt = p.0 in omega (arith, length-drop n free);
+      is = sym (get_or-drop n free i false) ∙ p.1;
+      below = λ page h. elim (cases_lt page n) [ inl lt ↦ low page lt | inr ge ↦ ahead page h ge ];
+    }
+  where
+    ahead : (page : ℕ) → page < n + i → n ≤ page → is_free free page ≡ false
+    ahead page h ge =
+        let p = position-Some (λ b. b) (drop n free) i false is in
+        let at : n + (page - n) ≡ page = omega arith in
+        subst (λ q. is_free free q ≡ false) at (sym (get_or-drop n free (page - n) false) ∙ p.2 (page - n) (omega arith))
+
+-- what is written behind a place, or at it, leaves the pages before it
+pub none_below : (free : List Bool) (n i m : ℕ) (b : Bool) → NoneBelow free n → m ≤ n → m ≤ i → NoneBelow (set free i b) m
+none_below free n i m b low le here page h = get_or-set_other free i page b false (omega arith) ∙ low page (omega arith)
 
 still_free : (free : List Bool) (i page : ℕ) → is_free (set free i false) page ≡ true → is_free free page ≡ true
 still_free [] i page h = h

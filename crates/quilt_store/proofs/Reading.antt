@@ -1,11 +1,11 @@
 -- What calls leave of a store, one behind the other.
-use Rattle.std.proofs.Common.{◌∙◌, ◌≡◌, ◌≤◌, ℕ, refl, ap, Result, Ok, Err, IfErr, arith}
+use Rattle.std.proofs.Common.{◌∙◌, ◌≤◌, ℕ, refl, ap, Result, Ok, Err, arith}
 use Rattle.std.specs.Prelude.{IsErrOf}
 use Rattle.quilt_types.specs.declared.stop.Stop.{Stop}
 use Rattle.quilt_types.specs.declared.stop.Stop.TheVariants.{Device}
-use Rattle.quilt_world.specs.Causes.{Rose, next_count}
+use Rattle.quilt_world.specs.Causes.{Rose}
 use Rattle.quilt_store.specs.declared.store.PageStore.{Ghosts}
-use Rattle.quilt_store.specs.Calls.{OnlyReads, IsOnlyRead, Edits}
+use Rattle.quilt_store.specs.Calls.{OnlyReads, IsOnlyRead}
 
 -- a count that rose behind another moment rose
 pub rose_since : {before between now : ℕ} → before ≤ between → Rose between now → Rose before now

@@ -1,5 +1,5 @@
 -- What the calls of the layers above leave of a store, and why they stop. The store's views are taken as one value.
-use Rattle.std.specs.Prelude.{◌≡◌, ℕ, ◌≤◌, Result, Ok, IfErr}
+use Rattle.std.specs.Prelude.{◌≡◌, ◌≤◌, Result, Ok, IfErr}
 use Rattle.quilt_types.specs.declared.stop.Stop.{Stop}
 use Rattle.quilt_types.specs.declared.stop.Stop.TheVariants.{Device}
 use Rattle.quilt_world.specs.Causes.{Rose}

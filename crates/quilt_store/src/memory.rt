@@ -1,21 +1,25 @@
 ghost use Rattle.std.specs.Prelude.{◌≡◌, ◌+◌, ◌<◌, ◌≤◌, ℕ, true, false, length, replicate, Some, None, IfOk, IsOk, slice_index_or, slice_set, [], filter};
-ghost use Rattle.std.specs.Prelude.{position, refl};
+ghost use Rattle.std.specs.Prelude.{drop, position, refl};
 ghost use Rattle.quilt_store.specs.Memory.{is_free};
 
 use crate::{PageStore, StoreErr};
 use std::alloc::{AllocError, Global};
 
-/// A store that keeps all its pages in memory. Its calls never fail.
+/// A store that keeps all its pages in memory. Its calls never fail. It takes the first page that is free, and no page
+/// before `lowest` is.
 #[derive(Drop)]
 pub struct MemStore {
     pages: Vec<[u8; 4096]>,
     free: Vec<bool>,
     count: u32,
+    lowest: usize,
     ghost least: { 16 ≤ length pages.items },
     ghost most: { length pages.items ≤ 30000 },
     ghost tests: { length free.items ≡ length pages.items },
     ghost from_one: { (page : ℕ) → is_free free.items page ≡ true → (1 ≤ page) × (page < length pages.items) },
     ghost counted: { count ≡ length (filter (λ b. b) free.items) },
+    ghost reaches: { lowest ≤ length free.items },
+    ghost below: { (page : ℕ) → page < lowest → is_free free.items page ≡ false },
 }
 
 impl MemStore {
@@ -39,15 +43,24 @@ impl MemStore {
             pages: all,
             free,
             count: pages - 1,
+            lowest: 0,
         })
     }
 }
 
-/// The first free page.
+/// The first free page of some.
 fn first_free(free: &[bool]) -> Option<usize>
     ensures { result ≡ position (λ b. b) free.now }
 {
     free.iter().position(|is_free| *is_free)
+}
+
+/// The first free page from a page on, counted from there.
+fn first_from(free: &[bool], from: usize) -> Option<usize>
+    requires { from ≤ length free.now }
+    ensures { result ≡ position (λ b. b) (drop from free.now) }
+{
+    first_free(&free[from..])
 }
 
 impl PageStore for MemStore {
@@ -109,15 +122,18 @@ impl PageStore for MemStore {
     }
 
     fn take_page(&mut self) -> u32 {
-        let page = first_free(&self.free).unwrap();
+        let ahead = first_from(&self.free, self.lowest).unwrap();
+        let page = self.lowest + ahead;
         self.free[page] = false;
         self.count -= 1;
+        self.lowest = page;
         page as u32
     }
 
     fn give_page(&mut self, page: u32) {
         self.free[page as usize] = true;
         self.count += 1;
+        self.lowest = self.lowest.min(page as usize);
     }
 
     ghost in_range = { λ s. (s.least, s.most) };

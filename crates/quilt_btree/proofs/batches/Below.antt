@@ -1,5 +1,6 @@
 -- A subtree that is edited in one leaf.
 use Rattle.std.proofs.Common.{◌≡◌, ℕ, zero, suc, ◌+◌, ◌-◌, ◌<◌, ◌≤◌, Bool, true, false, ◌&&◌, List, [], ◌∷◌, ◌++◌, length, take, drop}
+use Rattle.std.proofs.lemmas.Bool.{and_from, and_parts}
 use Rattle.std.proofs.Common.{Option, Some, Result, Ok, Err, IfOk, IfErr, slice_index, slice_set, refl, sym, ◌∙◌, ap, subst, arith, get_or-set_same}
 use Rattle.std.specs.Prelude.{slice_get, if◌then◌else◌}
 use Rattle.std.specs.List.{list_all}
@@ -36,7 +37,6 @@ use Rattle.quilt_btree.proofs.stores.Writes.{tells_at, TellsAll, all_told}
 use Rattle.quilt_btree.proofs.subtrees.Along.{IsSame}
 use Rattle.quilt_btree.proofs.subtrees.Descents.{child_bounds}
 use Rattle.quilt_btree.proofs.subtrees.Trees.{all_both}
-use Rattle.quilt_btree.proofs.subtrees.Walks.{and_parts, and_both}
 use Rattle.quilt_btree.proofs.ways.Forks.{IsRead, page_here}
 use Rattle.quilt_btree.proofs.ways.Steps.{StepsTo}
 
@@ -63,14 +63,13 @@ pub all_first : (p : Key → Bool) (n : ℕ) (run : List Edit) → list_all p (e
 all_first p n run h = ap (list_all p) (keys_take n run) ∙ all_take p (edit_keys run) n h
 
 -- the leaf was written once
-pub leaf_edited : (told now_told : Option (List (List ℕ))) (free now : ℕ → Bool) (size page : ℕ) (bytes : List ℕ) (is_root : Bool) (b : Bounds)
-    (rs : List Record) (used : List ℕ) (high : Option Key) (leaf new : List Record) (xs : List Edit)
-    → page < size → TellsAll told size → leaf_of bytes ≡ Some new → IsEdited leaf new xs → leaf ≡ rs
-    → list_all (is_below high) (edit_keys xs) ≡ true
-    → Goes (λ old new. new ≡ slice_set old page bytes) told now_told → now ≡ free → (if is_root then 1 else 72) ≤ length new
-    → b.high ≡ high → list_all (is_above b.low) (edit_keys xs) ≡ true → CanEdit told free page 1 is_root b rs used
+pub leaf_edited : {told : Option (List (List ℕ))} (now_told : Option (List (List ℕ))) {free now : ℕ → Bool} (size : ℕ) {page : ℕ} (bytes : List ℕ)
+    {is_root : Bool} {b : Bounds} {rs : List Record} {used : List ℕ} (high : Option Key) (leaf new : List Record) (xs : List Edit) → page < size
+    → TellsAll told size → leaf_of bytes ≡ Some new → IsEdited leaf new xs → leaf ≡ rs → list_all (is_below high) (edit_keys xs) ≡ true
+    → Goes (λ old new. new ≡ slice_set old page bytes) told now_told → now ≡ free → (if is_root then 1 else 72) ≤ length new → b.high ≡ high
+    → list_all (is_above b.low) (edit_keys xs) ≡ true → CanEdit told free page 1 is_root b rs used
     → DidEdit xs told now_told free now page 1 is_root b rs used
-leaf_edited told now_told free now size page bytes is_root b rs used high leaf new xs inside many is d same below wrote same_free least top above can =
+leaf_edited {told = told} now_told {free = free} size {page = page} bytes {is_root = is_root} {b = b} {rs = rs} {used = used} high leaf new xs inside many is d same below wrote same_free least top above can =
     let pages = can.pages in
     let s = can.subtree in
     let written = tells_at (λ old new. new ≡ slice_set old page bytes) told now_told pages wrote can.is_told in
@@ -108,94 +107,90 @@ all_above_child inner b i k [] p h g = refl
 all_above_child inner b i k (x ∷ xs) p h g =
     let s = and_parts (is_above b.low x) (list_all (is_above b.low) xs) h in
     let t = and_parts (is_le (key_cmp k x)) (list_all (λ x. is_le (key_cmp k x)) xs) g in
-    and_both (is_above (child_bounds inner b i).low x) (list_all (is_above (child_bounds inner b i).low) xs)
+    and_from (is_above (child_bounds inner b i).low x) (list_all (is_above (child_bounds inner b i).low) xs)
     (subst (λ o. is_above o x ≡ true) (sym (child_low (drop i inner.keys) (from_keys (take i inner.keys) b)))
     (above_from (take i inner.keys) b x
     (all_follow (λ l. is_le (key_cmp l k)) (λ l. is_le (key_cmp l x)) (λ l e. le_le l k x e t.0) (take i inner.keys) p.before) s.0))
     (all_above_child inner b i k xs p s.1 t.1)
 
--- the child was edited
-pub under_edited : (told then_told now_told : Option (List (List ℕ))) (free then_free now : ℕ → Bool) (size then_size page height child i : ℕ)
-    (k : Key) (inner : Inner) (high next : Option Key) (run xs : List Edit) (is_root : Bool) (b : Bounds) (rs : List Record) (used : List ℕ)
-    → LeadsToChild told then_told free then_free size then_size page height child i k inner → next ≡ option_or (slice_get inner.keys i) high
-    → list_all (λ x. is_le (key_cmp k x)) (edit_keys run) ≡ true → list_all (λ x. is_le (key_cmp k x)) (edit_keys xs) ≡ true
-    → ((b : Bounds) (rs : List Record) (used : List ℕ) → b.high ≡ next → list_all (is_above b.low) (edit_keys run) ≡ true
-    → CanEdit then_told then_free child (height - 1) false b rs used
-    → DidEdit xs then_told now_told then_free now child (height - 1) false b rs used)
-    → b.high ≡ high → list_all (is_above b.low) (edit_keys run) ≡ true → CanEdit told free page height is_root b rs used
-    → DidEdit xs told now_told free now page height is_root b rs used
-under_edited told then_told now_told free then_free now size then_size page height child i k inner high next run xs is_root b rs used l is_next whole
-    from f top above can =
-    let a = at_run told then_told free then_free size then_size page height child i k inner high next is_root b rs used l is_next top can in
-    let x = a.x in
-    let ka = take i inner.keys in
-    let kb = drop i inner.keys in
-    let cb = child_bounds inner b i in
-    let tall = one_less height x.below x.is_height in
-    let did = f cb x.at.here x.at.here_used a.top (all_above_child inner b i k (edit_keys run) l.place above whole) a.can in
-    let was = did.was in
-    let mine : then_told ≡ Some x.pages = l.same.same_pages ∙ x.is_told in
-    let same : did.pages ≡ x.pages = cc in
-    let c = slice_index inner.children i in
-    let all = edit_all xs x.at.here in
-    let grown : Becomes x.pages did.news free now c (suc x.below) false cb x.at.here_used all =
-    subst (λ (g : ℕ → Bool). Becomes x.pages did.news g now c (suc x.below) false cb x.at.here_used all) l.same.same_free
-    (subst (λ p. Becomes p did.news then_free now c (suc x.below) false cb x.at.here_used all) same
-    (subst (λ q. Becomes did.pages did.news then_free now q (suc x.below) false cb x.at.here_used all) l.is_child
-    (subst (λ n. Becomes did.pages did.news then_free now child n false cb x.at.here_used all) tall did.becomes))) in
-    let under : list_all (is_below next) (edit_keys xs) ≡ true = subst (λ o. list_all (is_below o) (edit_keys xs) ≡ true) a.top did.under in
-    let among : AreAmong x.at.first x.at.last (edit_keys xs) = record {
-      lower = all_lower k x.at.first (edit_keys xs) x.among.lower from;
-      higher = all_higher next x.at.last (edit_keys xs) a.past under;
-    } in
-    let before = front (take i inner.children) ka b in
-    let behind = tail_places (drop (suc i) inner.children) kb (from_keys ka b) in
-    let middle : List (ℕ × Bounds) = (c, cb) ∷ [] in
-    let moved = middle_moved x.pages did.news free now x.below page before middle behind middle rs x.under all grown.uses x.apart x.at
-    (row_one (Subtree did.news (suc x.below) false) (c, cb) all grown.uses grown.subtree) grown.moves in
-    let becomes = parent_stays x.pages did.news free now x.below page is_root b inner x.under
-    (x.at.first ++ (all ++ x.at.last)) x.page_is x.inner_height x.enough x.within
-    (subst (λ (cs : List (ℕ × Bounds)). RowMoved x.pages did.news free now x.below page cs (x.at.first ++ (all ++ x.at.last)) x.under)
-    (sym (cut_at_child inner b i x.in_range x.list.keys)) moved) in
-    record {
-      pages = x.pages;
-      news = did.news;
-      was = x.is_told;
-      is = did.is;
-      due = are_due_between x.at.first x.at.here x.at.last rs xs x.among.records among ∙ did.due;
-      under = all_follow (is_below next) (is_below b.high) a.nearer_high (edit_keys xs) under;
-      becomes = subst (λ n. Becomes x.pages did.news free now page n is_root b used (edit_all xs rs)) (sym x.is_height)
-          (subst (λ u. Becomes x.pages did.news free now page (suc (suc x.below)) is_root b u (edit_all xs rs)) (sym x.is_used)
-          (subst (λ m. Becomes x.pages did.news free now page (suc (suc x.below)) is_root b (x.under ++ page ∷ []) m)
-          (sym (edit_all_between x.at.first x.at.here x.at.last rs xs x.among.records among)) becomes));
-    }
-
--- what is not due under the child is not due
-pub under_fails : (told then_told : Option (List (List ℕ))) (free then_free : ℕ → Bool) (size then_size page height child i : ℕ) (k : Key)
-    (inner : Inner) (high next : Option Key) (run : List Edit) (is_root : Bool) (b : Bounds) (rs : List Record) (used : List ℕ) (e : Stop) (q : ℕ)
-    → LeadsToChild told then_told free then_free size then_size page height child i k inner → next ≡ option_or (slice_get inner.keys i) high
-    → list_all (λ x. is_le (key_cmp k x)) (edit_keys run) ≡ true
-    → ((b : Bounds) (rs : List Record) (used : List ℕ) → b.high ≡ next → CanEdit then_told then_free child (height - 1) false b rs used → (q : ℕ)
-    → e ≡ Damaged q → (q ≡ 0) × Fails run b.high rs)
-    → b.high ≡ high → CanEdit told free page height is_root b rs used → e ≡ Damaged q → (q ≡ 0) × Fails run b.high rs
-under_fails told then_told free then_free size then_size page height child i k inner high next run is_root b rs used e q l is_next from f top can damaged =
-    let a = at_run told then_told free then_free size then_size page height child i k inner high next is_root b rs used l is_next top can in
-    let x = a.x in
-    let h = f (child_bounds inner b i) x.at.here x.at.here_used a.top a.can q damaged in
-    let none = h.1 in
-    let xs = take none.number run in
-    let under : list_all (is_below next) (edit_keys xs) ≡ true = subst (λ o. list_all (is_below o) (edit_keys xs) ≡ true) a.top none.under in
-    let among : AreAmong x.at.first x.at.last (edit_keys xs) = record {
-      lower = all_lower k x.at.first (edit_keys xs) x.among.lower (all_first (λ x. is_le (key_cmp k x)) none.number run from);
-      higher = all_higher next x.at.last (edit_keys xs) a.past under;
-    } in (
-      h.0,
+module _ (told then_told : Option (List (List ℕ))) (free then_free : ℕ → Bool) (size then_size page height child i : ℕ) (k : Key) (inner : Inner)
+    (high next : Option Key) (run : List Edit) (is_root : Bool) (b : Bounds) (rs : List Record) (used : List ℕ)
+    (l : LeadsToChild told then_told free then_free size then_size page height child i k inner)
+    (is_next : next ≡ option_or (slice_get inner.keys i) high) (top : b.high ≡ high) (can : CanEdit told free page height is_root b rs used) where
+  -- the child was edited
+  pub under_edited : (now_told : Option (List (List ℕ))) (now : ℕ → Bool) (xs : List Edit) → list_all (λ x. is_le (key_cmp k x))
+      (edit_keys run) ≡ true → list_all (λ x. is_le (key_cmp k x)) (edit_keys xs) ≡ true
+      → ((b : Bounds) (rs : List Record) (used : List ℕ) → b.high ≡ next → list_all (is_above b.low) (edit_keys run) ≡ true
+      → CanEdit then_told then_free child (height - 1) false b rs used → DidEdit xs then_told now_told then_free now child (height - 1) false b rs used)
+      → list_all (is_above b.low) (edit_keys run) ≡ true → DidEdit xs told now_told free now page height is_root b rs used
+  under_edited now_told now xs whole from f above =
+      let a = at_run high next l is_next top can in
+      let x = a.x in
+      let ka = take i inner.keys in
+      let kb = drop i inner.keys in
+      let cb = child_bounds inner b i in
+      let tall = one_less height x.below x.is_height in
+      let did = f cb x.at.here x.at.here_used a.top (all_above_child inner b i k (edit_keys run) l.place above whole) a.can in
+      let was = did.was in
+      let mine : then_told ≡ Some x.pages = l.same.same_pages ∙ x.is_told in
+      let same : did.pages ≡ x.pages = cc in
+      let c = slice_index inner.children i in
+      let all = edit_all xs x.at.here in
+      let grown : Becomes x.pages did.news free now c (suc x.below) false cb x.at.here_used all =
+      subst (λ (g : ℕ → Bool). Becomes x.pages did.news g now c (suc x.below) false cb x.at.here_used all) l.same.same_free
+      (subst (λ p. Becomes p did.news then_free now c (suc x.below) false cb x.at.here_used all) same
+      (subst (λ q. Becomes did.pages did.news then_free now q (suc x.below) false cb x.at.here_used all) l.is_child
+      (subst (λ n. Becomes did.pages did.news then_free now child n false cb x.at.here_used all) tall did.becomes))) in
+      let under : list_all (is_below next) (edit_keys xs) ≡ true = subst (λ o. list_all (is_below o) (edit_keys xs) ≡ true) a.top did.under in
+      let among : AreAmong x.at.first x.at.last (edit_keys xs) = record {
+        lower = all_lower k x.at.first (edit_keys xs) x.among.lower from;
+        higher = all_higher next x.at.last (edit_keys xs) a.past under;
+      } in
+      let before = front (take i inner.children) ka b in
+      let behind = tail_places (drop (suc i) inner.children) kb (from_keys ka b) in
+      let middle : List (ℕ × Bounds) = (c, cb) ∷ [] in
+      let moved = middle_moved x.pages did.news free now x.below page before middle behind middle rs x.under all grown.uses x.apart x.at
+      (row_one (Subtree did.news (suc x.below) false) (c, cb) all grown.uses grown.subtree) grown.moves in
+      let becomes = parent_stays x.pages did.news free now x.below page is_root b inner x.under
+      (x.at.first ++ (all ++ x.at.last)) x.page_is x.inner_height x.enough x.within
+      (subst (λ (cs : List (ℕ × Bounds)). RowMoved x.pages did.news free now x.below page cs (x.at.first ++ (all ++ x.at.last)) x.under)
+      (sym (cut_at_child inner b i x.in_range x.list.keys)) moved) in
       record {
-        number = none.number;
-        missing = are_due_between x.at.first x.at.here x.at.last rs xs x.among.records among ∙ none.missing;
+        pages = x.pages;
+        news = did.news;
+        was = x.is_told;
+        is = did.is;
+        due = are_due_between x.at.first x.at.here x.at.last rs xs x.among.records among ∙ did.due;
         under = all_follow (is_below next) (is_below b.high) a.nearer_high (edit_keys xs) under;
-      },
-    )
+        becomes = subst (λ n. Becomes x.pages did.news free now page n is_root b used (edit_all xs rs)) (sym x.is_height)
+            (subst (λ u. Becomes x.pages did.news free now page (suc (suc x.below)) is_root b u (edit_all xs rs)) (sym x.is_used)
+            (subst (λ m. Becomes x.pages did.news free now page (suc (suc x.below)) is_root b (x.under ++ page ∷ []) m)
+            (sym (edit_all_between x.at.first x.at.here x.at.last rs xs x.among.records among)) becomes));
+      }
+
+  -- what is not due under the child is not due
+  pub under_fails : (e : Stop) (q : ℕ) → list_all (λ x. is_le (key_cmp k x)) (edit_keys run) ≡ true
+      → ((b : Bounds) (rs : List Record) (used : List ℕ) → b.high ≡ next → CanEdit then_told then_free child (height - 1) false b rs used → (q : ℕ) → e ≡ Damaged q
+      → (q ≡ 0) × Fails run b.high rs)
+      → e ≡ Damaged q → (q ≡ 0) × Fails run b.high rs
+  under_fails e q from f damaged =
+      let a = at_run high next l is_next top can in
+      let x = a.x in
+      let h = f (child_bounds inner b i) x.at.here x.at.here_used a.top a.can q damaged in
+      let none = h.1 in
+      let xs = take none.number run in
+      let under : list_all (is_below next) (edit_keys xs) ≡ true = subst (λ o. list_all (is_below o) (edit_keys xs) ≡ true) a.top none.under in
+      let among : AreAmong x.at.first x.at.last (edit_keys xs) = record {
+        lower = all_lower k x.at.first (edit_keys xs) x.among.lower (all_first (λ x. is_le (key_cmp k x)) none.number run from);
+        higher = all_higher next x.at.last (edit_keys xs) a.past under;
+      } in (
+        h.0,
+        record {
+          number = none.number;
+          missing = are_due_between x.at.first x.at.here x.at.last rs xs x.among.records among ∙ none.missing;
+          under = all_follow (is_below next) (is_below b.high) a.nearer_high (edit_keys xs) under;
+        },
+      )
 
 pub least_first : (run : List Edit) (k : Key) → k ≡ key_of (edit_at run 0) → is_ascending (edit_keys run) ≡ true → 1 ≤ length run
     → list_all (λ x. is_le (key_cmp k x)) (edit_keys run) ≡ true
@@ -203,58 +198,55 @@ least_first [] k e a some = absurd (omega arith)
 least_first (x ∷ run) k e a some =
     subst (λ m. list_all (λ x. is_le (key_cmp m x)) (edit_keys (x ∷ run)) ≡ true) (sym e) (first_least (edit_keys (x ∷ run)) a (omega arith))
 
--- a step down
-pub step_edited : (r : Result ℕ Stop) (old new now_told : Option (List (List ℕ))) (free then_free now : ℕ → Bool)
-    (size then_size page height count : ℕ) (bytes : List ℕ) (child : ℕ) (k : Key) (high next : Option Key) (run : List Edit) (is_root : Bool)
-    → IsRead old new page height count bytes → IsSame old new free then_free size then_size → StepsTo count bytes k high child next
-    → list_all (λ x. is_le (key_cmp k x)) (edit_keys run) ≡ true
-    → IfOk r (λ n. 1 ≤ n → (b : Bounds) (rs : List Record) (used : List ℕ) → b.high ≡ next → list_all (is_above b.low) (edit_keys run) ≡ true
-    → CanEdit new then_free child (height - 1) false b rs used
-    → DidEdit (take n run) new now_told then_free now child (height - 1) false b rs used)
-    → IfOk r (λ n. 1 ≤ n → (b : Bounds) (rs : List Record) (used : List ℕ) → b.high ≡ high → list_all (is_above b.low) (edit_keys run) ≡ true
-    → CanEdit old free page height is_root b rs used
-    → DidEdit (take n run) old now_told free now page height is_root b rs used)
-step_edited (Err e) old new now_told free then_free now size then_size page height count bytes child k high next run is_root is same step from f = f
-step_edited (Ok n) old new now_told free then_free now size then_size page height count bytes child k high next run is_root is same step from f =
-    λ one b rs used top above can.
-    let h = page_here old new page height count bytes rs is (edit_spells old free page height is_root b rs used can) in
-    let st = step h.inner h.is in
-    under_edited old new now_told free then_free now size then_size page height child st.place k h.inner high next run (take n run) is_root b rs used
-    (record { same = same; some = is.some; above = is.above; reads = h.reads; place = st.is_place; is_child = st.child_is })
-    st.next_is from (all_first (λ x. is_le (key_cmp k x)) n run from) (f one) top above can
+module _ (old new : Option (List (List ℕ))) (free then_free : ℕ → Bool) (size then_size page height count : ℕ) (bytes : List ℕ) (child : ℕ) (k : Key)
+    (high next : Option Key) (run : List Edit) (is_root : Bool) where
+  -- a step down
+  pub step_edited : (r : Result ℕ Stop) (now_told : Option (List (List ℕ))) (now : ℕ → Bool) → IsRead old new page height count bytes
+      → IsSame old new free then_free size then_size → StepsTo count bytes k high child next → list_all (λ x. is_le (key_cmp k x))
+      (edit_keys run) ≡ true
+      → IfOk r (λ n. 1 ≤ n → (b : Bounds) (rs : List Record) (used : List ℕ) → b.high ≡ next → list_all (is_above b.low) (edit_keys run) ≡ true
+      → CanEdit new then_free child (height - 1) false b rs used → DidEdit (take n run) new now_told then_free now child (height - 1) false b rs used)
+      → IfOk r (λ n. 1 ≤ n → (b : Bounds) (rs : List Record) (used : List ℕ) → b.high ≡ high → list_all (is_above b.low) (edit_keys run) ≡ true
+      → CanEdit old free page height is_root b rs used → DidEdit (take n run) old now_told free now page height is_root b rs used)
+  step_edited (Err e) now_told now is same step from f = f
+  step_edited (Ok n) now_told now is same step from f =
+      λ one b rs used top above can.
+      let h = page_here is (edit_spells old free page height is_root b rs used can) in
+      let st = step h.inner h.is in
+      under_edited old new free then_free size then_size page height child st.place k h.inner high next run is_root b rs used
+      (record { same = same; some = is.some; above = is.above; reads = h.reads; place = st.is_place; is_child = st.child_is }) st.next_is top can
+      now_told now (take n run) from (all_first (λ x. is_le (key_cmp k x)) n run from) (f one) above
 
-pub step_fails : (r : Result ℕ Stop) (old new : Option (List (List ℕ))) (free then_free : ℕ → Bool) (size then_size page height count : ℕ)
-    (bytes : List ℕ) (child : ℕ) (k : Key) (high next : Option Key) (run : List Edit) (is_root : Bool)
-    → IsRead old new page height count bytes → IsSame old new free then_free size then_size → StepsTo count bytes k high child next
-    → list_all (λ x. is_le (key_cmp k x)) (edit_keys run) ≡ true
-    → IfErr r (λ e. (b : Bounds) (rs : List Record) (used : List ℕ) → b.high ≡ next → CanEdit new then_free child (height - 1) false b rs used
-    → (q : ℕ) → e ≡ Damaged q → (q ≡ 0) × Fails run b.high rs)
-    → IfErr r (λ e. (b : Bounds) (rs : List Record) (used : List ℕ) → b.high ≡ high → CanEdit old free page height is_root b rs used → (q : ℕ)
-    → e ≡ Damaged q → (q ≡ 0) × Fails run b.high rs)
-step_fails (Ok n) old new free then_free size then_size page height count bytes child k high next run is_root is same step from f = f
-step_fails (Err e) old new free then_free size then_size page height count bytes child k high next run is_root is same step from f =
-    λ b rs used top can q damaged.
-    let h = page_here old new page height count bytes rs is (edit_spells old free page height is_root b rs used can) in
-    let st = step h.inner h.is in
-    under_fails old new free then_free size then_size page height child st.place k h.inner high next run is_root b rs used e q
-    (record { same = same; some = is.some; above = is.above; reads = h.reads; place = st.is_place; is_child = st.child_is })
-    st.next_is from f top can damaged
+  pub step_fails : (r : Result ℕ Stop) → IsRead old new page height count bytes → IsSame old new free then_free size then_size
+      → StepsTo count bytes k high child next → list_all (λ x. is_le (key_cmp k x)) (edit_keys run) ≡ true
+      → IfErr r (λ e. (b : Bounds) (rs : List Record) (used : List ℕ) → b.high ≡ next → CanEdit new then_free child (height - 1) false b rs used → (q : ℕ)
+      → e ≡ Damaged q → (q ≡ 0) × Fails run b.high rs)
+      → IfErr r (λ e. (b : Bounds) (rs : List Record) (used : List ℕ) → b.high ≡ high → CanEdit old free page height is_root b rs used → (q : ℕ) → e ≡ Damaged q
+      → (q ≡ 0) × Fails run b.high rs)
+  step_fails (Ok n) is same step from f = f
+  step_fails (Err e) is same step from f =
+      λ b rs used top can q damaged.
+      let h = page_here is (edit_spells old free page height is_root b rs used can) in
+      let st = step h.inner h.is in
+      under_fails old new free then_free size then_size page height child st.place k h.inner high next run is_root b rs used
+      (record { same = same; some = is.some; above = is.above; reads = h.reads; place = st.is_place; is_child = st.child_is }) st.next_is top can e q
+      from f damaged
 
-pub fails_leaf : (r : Result ℕ Stop) (told : Option (List (List ℕ))) (free : ℕ → Bool) (page height : ℕ) (high : Option Key) (run : List Edit)
-    (is_root : Bool) → height ≡ 1
-    → IfErr r (λ e. (b : Bounds) (rs : List Record) (used : List ℕ) → b.high ≡ high → CanEdit told free page 1 is_root b rs used → (q : ℕ)
-    → e ≡ Damaged q → (q ≡ 0) × Fails run b.high rs)
-    → IfErr r (λ e. (b : Bounds) (rs : List Record) (used : List ℕ) → b.high ≡ high → CanEdit told free page height is_root b rs used → (q : ℕ)
-    → e ≡ Damaged q → (q ≡ 0) × Fails run b.high rs)
-fails_leaf (Ok n) told free page height high run is_root one f = f
-fails_leaf (Err e) told free page height high run is_root one f =
-    λ b rs used top can. f b rs used top (subst (λ h. CanEdit told free page h is_root b rs used) one can)
+module _ (high : Option Key) (run : List Edit) where
+  pub fails_leaf : (r : Result ℕ Stop) (told : Option (List (List ℕ))) (free : ℕ → Bool) (page height : ℕ) (is_root : Bool) → height ≡ 1
+      → IfErr r (λ e. (b : Bounds) (rs : List Record) (used : List ℕ) → b.high ≡ high → CanEdit told free page 1 is_root b rs used → (q : ℕ) → e ≡ Damaged q
+      → (q ≡ 0) × Fails run b.high rs)
+      → IfErr r (λ e. (b : Bounds) (rs : List Record) (used : List ℕ) → b.high ≡ high → CanEdit told free page height is_root b rs used → (q : ℕ) → e ≡ Damaged q
+      → (q ≡ 0) × Fails run b.high rs)
+  fails_leaf (Ok n) told free page height is_root one f = f
+  fails_leaf (Err e) told free page height is_root one f =
+      λ b rs used top can. f b rs used top (subst (λ h. CanEdit told free page h is_root b rs used) one can)
 
--- the edits that the leaf does not take
-pub fails_here : (high top : Option Key) (run : List Edit) (leaf rs : List Record) (n : ℕ) → top ≡ high → leaf ≡ rs
-    → are_due (take n run) leaf ≡ false → list_all (is_below high) (edit_keys (take n run)) ≡ true → Fails run top rs
-fails_here high top run leaf rs n e same missing under = record {
-  number = n;
-  missing = subst (λ (l : List Record). are_due (take n run) l ≡ false) same missing;
-  under = subst (λ o. list_all (is_below o) (edit_keys (take n run)) ≡ true) (sym e) under;
-}
+  -- the edits that the leaf does not take
+  pub fails_here : (top : Option Key) (leaf rs : List Record) (n : ℕ) → top ≡ high → leaf ≡ rs → are_due (take n run) leaf ≡ false
+      → list_all (is_below high) (edit_keys (take n run)) ≡ true → Fails run top rs
+  fails_here top leaf rs n e same missing under = record {
+    number = n;
+    missing = subst (λ (l : List Record). are_due (take n run) l ≡ false) same missing;
+    under = subst (λ o. list_all (is_below o) (edit_keys (take n run)) ≡ true) (sym e) under;
+  }

@@ -1,5 +1,6 @@
 -- Edits that are made one after the other, in a leaf and in a list.
 use Rattle.std.proofs.Common.{◌≡◌, ℕ, zero, suc, ◌+◌, ◌<◌, Bool, true, false, not, ◌&&◌, List, [], ◌∷◌, ◌++◌, length, take, drop, get_or}
+use Rattle.std.proofs.lemmas.Bool.{and_from, and_parts}
 use Rattle.std.proofs.Common.{Option, refl, sym, ◌∙◌, ap, subst, arith, add-one, take-append-drop}
 use Rattle.std.specs.List.{list_all, insert, remove}
 use Rattle.std.specs.Ordering.{is_lt}
@@ -15,7 +16,6 @@ use Rattle.quilt_btree.specs.declared.edit.Edit.TheVariants as edit
 use Rattle.quilt_btree.specs.Batches.{key_of, edit_keys, is_due, edited, edit_all, are_due}
 use Rattle.quilt_btree.proofs.lists.Lists.{IsAmong, put_between, without_between, any_between}
 use Rattle.quilt_btree.proofs.removals.Drains.{AreAmong, head_among, rest_among}
-use Rattle.quilt_btree.proofs.subtrees.Walks.{and_parts, and_both}
 use Rattle.quilt_btree.proofs.ways.Leaves.{put_gap, without_found}
 
 -- the gap where a record was
@@ -82,32 +82,34 @@ pub record IsEdited (leaf now : List Record) (run : List Edit) : Type 0 where
   pub is : now ≡ edit_all run leaf
   pub due : are_due run leaf ≡ true
 
-pub edited_next : (leaf now new : List Record) (run : List Edit) (i : ℕ) → i < length run → IsEdited leaf now (take i run)
-    → is_due (edit_at run i) now ≡ true → new ≡ edited (edit_at run i) now → IsEdited leaf new (take (i + 1) run)
-edited_next leaf now new run i lt d due is =
-    let xs = take i run in
-    let e = edit_at run i in
-    subst (IsEdited leaf new) (sym (taken run i lt)) (record {
-      is = is ∙ ap (edited e) d.is ∙ sym (edit_all-append xs (e ∷ []) leaf);
-      due = are_due-append xs (e ∷ []) leaf ∙ and_both (are_due xs leaf) (is_due e (edit_all xs leaf) && true) d.due
-          (and_both (is_due e (edit_all xs leaf)) true (subst (λ l. is_due e l ≡ true) d.is due) refl);
-    })
+module _ (leaf now : List Record) where
+  pub edited_next : (new : List Record) (run : List Edit) (i : ℕ) → i < length run → IsEdited leaf now (take i run)
+      → is_due (edit_at run i) now ≡ true → new ≡ edited (edit_at run i) now → IsEdited leaf new (take (i + 1) run)
+  edited_next new run i lt d due is =
+      let xs = take i run in
+      let e = edit_at run i in
+      subst (IsEdited leaf new) (sym (taken run i lt)) (record {
+        is = is ∙ ap (edited e) d.is ∙ sym (edit_all-append xs (e ∷ []) leaf);
+        due = are_due-append xs (e ∷ []) leaf ∙ and_from (are_due xs leaf) (is_due e (edit_all xs leaf) && true) d.due
+            (and_from (is_due e (edit_all xs leaf)) true (subst (λ l. is_due e l ≡ true) d.is due) refl);
+      })
 
-pub edited_fails : (leaf now : List Record) (run : List Edit) (i : ℕ) → i < length run → IsEdited leaf now (take i run)
-    → is_due (edit_at run i) now ≡ false → are_due run leaf ≡ false
-edited_fails leaf now run i lt d not_due =
-    let xs = take i run in
-    let ys = drop (i + 1) run in
-    let e = edit_at run i in
-    ap (λ l. are_due l leaf) (sym (take-append-drop (i + 1) run) ∙ ap (λ l. l ++ ys) (taken run i lt))
-    ∙ are_due-append (xs ++ e ∷ []) ys leaf ∙ ap (λ b. b && are_due ys (edit_all (xs ++ e ∷ []) leaf))
-    (are_due-append xs (e ∷ []) leaf ∙ late (are_due xs leaf) (is_due e (edit_all xs leaf)) (subst (λ l. is_due e l ≡ false) d.is not_due))
-  where
-    late : (a b : Bool) → b ≡ false → (a && (b && true)) ≡ false
-    late a b h = grind arith
+  pub edited_fails : (run : List Edit) (i : ℕ) → i < length run → IsEdited leaf now (take i run) → is_due (edit_at run i) now ≡ false
+      → are_due run leaf ≡ false
+  edited_fails run i lt d not_due =
+      let xs = take i run in
+      let ys = drop (i + 1) run in
+      let e = edit_at run i in
+      ap (λ l. are_due l leaf) (sym (take-append-drop (i + 1) run) ∙ ap (λ l. l ++ ys) (taken run i lt))
+      ∙ are_due-append (xs ++ e ∷ []) ys leaf ∙ ap (λ b. b && are_due ys (edit_all (xs ++ e ∷ []) leaf))
+      (are_due-append xs (e ∷ []) leaf ∙ late (are_due xs leaf) (is_due e (edit_all xs leaf)) (subst (λ l. is_due e l ≡ false) d.is not_due))
+    where
+      late : (a b : Bool) → b ≡ false → (a && (b && true)) ≡ false
+      late a b h = grind arith
 
 -- edits among other records
-edited_between : (x : Edit) (first here last rs : List Record) → IsAmong (key_of x) first here last rs → edited x rs ≡ first ++ (edited x here ++ last)
+edited_between : (x : Edit) (first here last rs : List Record) → IsAmong (key_of x) first here last rs
+    → edited x rs ≡ first ++ (edited x here ++ last)
 edited_between (edit.Remove k) first here last rs a = without_between k first here last rs a
 edited_between (edit.Put r) first here last rs a = put_between r first here last rs a
 edited_between (edit.Replace r) first here last rs a =
@@ -139,8 +141,8 @@ are_due_between first here last rs (x ∷ xs) e a =
     both a b c d h g = cc
 
 all_on : (p : Key → Bool) (xs : List Key) (x : Key) → list_all p xs ≡ true → p x ≡ true → list_all p (xs ++ x ∷ []) ≡ true
-all_on p [] x h g = and_both (p x) true g refl
-all_on p (y ∷ xs) x h g = let t = and_parts (p y) (list_all p xs) h in and_both (p y) (list_all p (xs ++ x ∷ [])) t.0 (all_on p xs x t.1 g)
+all_on p [] x h g = and_from (p x) true g refl
+all_on p (y ∷ xs) x h g = let t = and_parts (p y) (list_all p xs) h in and_from (p y) (list_all p (xs ++ x ∷ [])) t.0 (all_on p xs x t.1 g)
 
 pub seen_next : (high : Option Key) (run : List Edit) (i : ℕ) → i < length run → list_all (is_below high) (edit_keys (take i run)) ≡ true
     → is_below high (key_of (edit_at run i)) ≡ true → list_all (is_below high) (edit_keys (take (i + 1) run)) ≡ true

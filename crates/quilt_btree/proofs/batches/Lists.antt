@@ -1,5 +1,6 @@
 -- A run of edits as keys that go and records that come.
 use Rattle.std.proofs.Common.{◌≡◌, Bool, true, false, not, List, [], ◌∷◌, filter, refl, sym, ◌∙◌, ap}
+use Rattle.std.proofs.lemmas.Bool.{and_from, and_parts}
 use Rattle.std.specs.Prelude.{if◌then◌else◌}
 use Rattle.std.specs.List.{list_all}
 use Rattle.std.specs.Ordering.{is_lt}
@@ -20,14 +21,13 @@ use Rattle.quilt_btree.proofs.lists.Rising.{all_follow, all_map}
 use Rattle.quilt_btree.proofs.lists.Withouts.{without_none}
 use Rattle.quilt_btree.proofs.removals.Drains.{asc_without, kept_without}
 use Rattle.quilt_btree.proofs.subtrees.Trees.{ascending_first, ascending_rest}
-use Rattle.quilt_btree.proofs.subtrees.Walks.{and_parts, and_both}
 use Rattle.quilt_record.proofs.Orders.{lt_le, lt_to_le}
 
 -- a record goes and another comes, in either order
 above_head : (r s : Record) (rs : List Record) → is_lt (key_cmp r.key s.key) ≡ true → is_ascending (keys_of (s ∷ rs)) ≡ true
     → list_all (λ m. is_lt (key_cmp r.key m)) (keys_of (s ∷ rs)) ≡ true
 above_head r s rs lt a =
-    and_both (is_lt (key_cmp r.key s.key)) (list_all (λ m. is_lt (key_cmp r.key m)) (keys_of rs)) lt
+    and_from (is_lt (key_cmp r.key s.key)) (list_all (λ m. is_lt (key_cmp r.key m)) (keys_of rs)) lt
     (all_follow (λ m. is_lt (key_cmp s.key m)) (λ m. is_lt (key_cmp r.key m)) (λ m h. lt_le r.key s.key m lt (lt_to_le (key_cmp s.key m) h)) (keys_of rs)
     (ascending_first s.key (keys_of rs) a))
 
@@ -77,10 +77,10 @@ swap_all (k ∷ ks) r rs h a =
 pub gone_keys : (p : Key → Bool) (run : List Edit) → list_all p (edit_keys run) ≡ true → list_all p (removed run) ≡ true
 gone_keys p [] h = refl
 gone_keys p (edit.Remove k ∷ run) h =
-    let t = and_parts (p k) (list_all p (edit_keys run)) h in and_both (p k) (list_all p (removed run)) t.0 (gone_keys p run t.1)
+    let t = and_parts (p k) (list_all p (edit_keys run)) h in and_from (p k) (list_all p (removed run)) t.0 (gone_keys p run t.1)
 gone_keys p (edit.Put r ∷ run) h = gone_keys p run (and_parts (p r.key) (list_all p (edit_keys run)) h).1
 gone_keys p (edit.Replace r ∷ run) h =
-    let t = and_parts (p r.key) (list_all p (edit_keys run)) h in and_both (p r.key) (list_all p (removed run)) t.0 (gone_keys p run t.1)
+    let t = and_parts (p r.key) (list_all p (edit_keys run)) h in and_from (p r.key) (list_all p (removed run)) t.0 (gone_keys p run t.1)
 
 -- the list behind a batch is the old one without the keys that go, and with the records that come
 pub edits_are : (run : List Edit) (rs : List Record) → is_ascending (edit_keys run) ≡ true → is_ascending (keys_of rs) ≡ true → are_due run rs ≡ true

@@ -31,41 +31,43 @@ leaf_taken told free page is_root b rs used can =
     first : (t : ℕ) → t ≡ 1 + 0 → 1 ≤ t
     first t e = omega arith
 
--- the leaf that the page lends
-lent_leaf : (told : Option (List (List ℕ))) (free : ℕ → Bool) (page : ℕ) (is_root : Bool) (b : Bounds) (rs : List Record) (used : List ℕ) (old : List ℕ)
-    → IfSome told (λ pages. old ≡ slice_index_or pages page []) → CanEdit told free page 1 is_root b rs used → leaf_of old ≡ Some rs
-lent_leaf told free page is_root b rs used old shown can =
-    let s : Subtree can.pages 1 is_root (page, b) rs used = can.subtree in
-    ap leaf_of (are_of told page old shown can.pages can.is_told) ∙ s.page
+module _ (told : Option (List (List ℕ))) (free : ℕ → Bool) (page : ℕ) (is_root : Bool) (b : Bounds) (rs : List Record) (used old : List ℕ)
+    (shown : IfSome told (λ pages. old ≡ slice_index_or pages page [])) where
+  -- the leaf that the page lends
+  lent_leaf : CanEdit told free page 1 is_root b rs used → leaf_of old ≡ Some rs
+  lent_leaf can =
+      let s : Subtree can.pages 1 is_root (page, b) rs used = can.subtree in
+      ap leaf_of (are_of told page old shown can.pages can.is_told) ∙ s.page
 
-pub no_leaf : (told : Option (List (List ℕ))) (free : ℕ → Bool) (page : ℕ) (is_root : Bool) (b : Bounds) (rs : List Record) (used : List ℕ) (old : List ℕ)
-    → IfSome told (λ pages. old ≡ slice_index_or pages page []) → is_some (leaf_of old) ≡ false → CanEdit told free page 1 is_root b rs used → ⊥
-no_leaf told free page is_root b rs used old shown none can =
-    differ (ap is_some (sym (lent_leaf told free page is_root b rs used old shown can)) ∙ none)
-  where
-    differ : true ≡ false → ⊥
-    differ h = cc
+  pub no_leaf : is_some (leaf_of old) ≡ false → CanEdit told free page 1 is_root b rs used → ⊥
+  no_leaf none can =
+      differ (ap is_some (sym (lent_leaf can)) ∙ none)
+    where
+      differ : true ≡ false → ⊥
+      differ h = cc
 
 -- the first edits of the run were made where the leaf lies
-pub leaf_made : (told now_told : Option (List (List ℕ))) (free now : ℕ → Bool) (size page least : ℕ) (is_root : Bool) (b : Bounds) (rs : List Record)
-    (used : List ℕ) (high : Option Key) (run : List Edit) (n : ℕ) (old bytes : List ℕ) → page < size → TellsAll told size
-    → IfSome told (λ pages. old ≡ slice_index_or pages page []) → ((rs : List Record) → leaf_of old ≡ Some rs → EditsLeaf least run n rs bytes) → 1 ≤ n
-    → Goes (λ before after. after ≡ slice_set before page bytes) told now_told → least ≡ (if is_root then 1 else 72)
-    → list_all (is_below high) (edit_keys (take n run)) ≡ true → now ≡ free → b.high ≡ high → list_all (is_above b.low) (edit_keys run) ≡ true
+pub leaf_made : {told : Option (List (List ℕ))} (now_told : Option (List (List ℕ))) {free now : ℕ → Bool} (size : ℕ) {page least : ℕ} {is_root : Bool}
+    {b : Bounds} {rs : List Record} {used : List ℕ} (high : Option Key) (run : List Edit) (n : ℕ) (old bytes : List ℕ) → page < size
+    → TellsAll told size → IfSome told (λ pages. old ≡ slice_index_or pages page [])
+    → ((rs : List Record) → leaf_of old ≡ Some rs → EditsLeaf least run n rs bytes) → 1 ≤ n
+    → Goes (λ before after. after ≡ slice_set before page bytes) told now_told → least ≡ (if is_root then 1 else 72) → list_all (is_below high)
+    (edit_keys (take n run)) ≡ true → now ≡ free → b.high ≡ high → list_all (is_above b.low) (edit_keys run) ≡ true
     → CanEdit told free page 1 is_root b rs used → DidEdit (take n run) told now_told free now page 1 is_root b rs used
-leaf_made told now_told free now size page least is_root b rs used high run n old bytes inside many shown edits one wrote lower below same_free top above
+leaf_made {told = told} now_told {free = free} {now = now} size {page = page} {least = least} {is_root = is_root} {b = b} {rs = rs} {used = used} high run n old bytes inside many shown edits one wrote lower below same_free top above
     can =
     let m = edits rs (lent_leaf told free page is_root b rs used old shown can) in
-    leaf_edited told now_told free now size page bytes is_root b rs used high rs (edit_all (take n run) rs) (take n run) inside many m.is
+    leaf_edited now_told size bytes high rs (edit_all (take n run) rs) (take n run) inside many m.is
     (record { is = refl; due = m.due }) refl below wrote same_free
     (subst (λ k. k ≤ length (edit_all (take n run) rs)) lower (m.enough one))
     top (all_first (is_above b.low) n run above) can
 
 -- an edit of the leaf is not due
-pub leaf_fails : (told : Option (List (List ℕ))) (free : ℕ → Bool) (page : ℕ) (is_root : Bool) (b : Bounds) (rs : List Record)
-    (used : List ℕ) (high : Option Key) (run : List Edit) (old : List ℕ) → IfSome told (λ pages. old ≡ slice_index_or pages page [])
-    → ((rs : List Record) → leaf_of old ≡ Some rs → Fails run high rs) → b.high ≡ high → CanEdit told free page 1 is_root b rs used → Fails run b.high rs
-leaf_fails told free page is_root b rs used high run old shown fails top can =
+pub leaf_fails : {told : Option (List (List ℕ))} {free : ℕ → Bool} {page : ℕ} {is_root : Bool} {b : Bounds} {rs : List Record} {used : List ℕ}
+    (high : Option Key) (run : List Edit) (old : List ℕ) → IfSome told (λ pages. old ≡ slice_index_or pages page [])
+    → ((rs : List Record) → leaf_of old ≡ Some rs → Fails run high rs) → b.high ≡ high → CanEdit told free page 1 is_root b rs used
+    → Fails run b.high rs
+leaf_fails {told = told} {free = free} {page = page} {is_root = is_root} {b = b} {rs = rs} {used = used} high run old shown fails top can =
     subst (λ o. Fails run o rs) (sym top) (fails rs (lent_leaf told free page is_root b rs used old shown can))
 
 -- bytes that are written back as they were change nothing

@@ -1,5 +1,6 @@
 -- How many records a leaf has behind each edit of a run.
 use Rattle.std.proofs.Common.{◌≡◌, ℕ, zero, suc, ◌+◌, ◌-◌, ◌<◌, ◌≤◌, true, List, [], ◌∷◌, ◌++◌, length, take, set}
+use Rattle.std.proofs.lemmas.Bool.{and_parts}
 use Rattle.std.proofs.Common.{Option, Some, refl, sym, ◌∙◌, ap, subst, arith}
 use Rattle.std.specs.List.{list_all, insert, remove}
 use Rattle.quilt_record.specs.declared.key.Key.{Key}
@@ -13,7 +14,6 @@ use Rattle.quilt_btree.specs.Batches.{key_of, edit_keys, is_due, edited, edit_al
 use Rattle.quilt_btree.proofs.batches.Leaves.{edit_at, taken, seen_next, IsEdited, edited_next, put_over_many}
 use Rattle.quilt_btree.proofs.batches.Whole.{asc_edited, length_edited}
 use Rattle.quilt_btree.proofs.subtrees.Trees.{leaf_list}
-use Rattle.quilt_btree.proofs.subtrees.Walks.{and_parts}
 
 -- one edit more
 pub size_on : (xs : List Edit) (e : Edit) (n : ℕ) → size_after (xs ++ e ∷ []) n ≡ size_behind e (size_after xs n)
@@ -72,47 +72,46 @@ record IsNext (run : List Edit) (n i m : ℕ) : Type 0 where
   pub count_is : m ≡ size_after (take (i + 1) run) n
   pub room : HasRoomFor (take (i + 1) run) n
 
-count_next : (run : List Edit) (n i count m : ℕ) → i < length run → count ≡ size_after (take i run) n → HasRoomFor (take i run) n
+count_next : (run : List Edit) (n i : ℕ) {count m : ℕ} → i < length run → count ≡ size_after (take i run) n → HasRoomFor (take i run) n
     → HasRoom (edit_at run i) count → m ≡ size_behind (edit_at run i) count → IsNext run n i m
-count_next run n i count m lt c h r e =
+count_next run n i lt c h r e =
     let t = sym (taken run i lt) in
     record {
       count_is = e ∙ ap (size_behind (edit_at run i)) c ∙ sym (size_on (take i run) (edit_at run i) n) ∙ ap (λ l. size_after l n) t;
       room = subst (λ l. HasRoomFor l n) t (room_on (take i run) (edit_at run i) n h (subst (HasRoom (edit_at run i)) c r));
     }
 
-pub planned_best : (high : Option Key) (run : List Edit) (n least i best count m : ℕ) → i < length run → IsPlanned high run n least i best count
-    → is_below high (key_of (edit_at run i)) ≡ true → HasRoom (edit_at run i) count → m ≡ size_behind (edit_at run i) count → m ≤ 144 → least ≤ m
-    → IsPlanned high run n least (i + 1) (i + 1) m
-planned_best high run n least i best count m lt p below r e h le =
-    let s = seen_next high run i lt p.seen below in
-    let x = count_next run n i count m lt p.count_is p.so_far r e in
-    record {
-      nearer = omega arith;
-      most = h;
-      seen = s;
-      under = s;
-      count_is = x.count_is;
-      so_far = x.room;
-      room = x.room;
-      enough = λ one. subst (λ k. least ≤ k) x.count_is le;
-    }
+module _ (high : Option Key) (run : List Edit) (n least i best count m : ℕ) (lt : i < length run) (p : IsPlanned high run n least i best count)
+    (below : is_below high (key_of (edit_at run i)) ≡ true) (r : HasRoom (edit_at run i) count) (e : m ≡ size_behind (edit_at run i) count)
+    (h : m ≤ 144) where
+  pub planned_best : least ≤ m → IsPlanned high run n least (i + 1) (i + 1) m
+  planned_best le =
+      let s = seen_next high run i lt p.seen below in
+      let x = count_next run n i lt p.count_is p.so_far r e in
+      record {
+        nearer = omega arith;
+        most = h;
+        seen = s;
+        under = s;
+        count_is = x.count_is;
+        so_far = x.room;
+        room = x.room;
+        enough = λ one. subst (λ k. least ≤ k) x.count_is le;
+      }
 
-pub planned_same : (high : Option Key) (run : List Edit) (n least i best count m : ℕ) → i < length run → IsPlanned high run n least i best count
-    → is_below high (key_of (edit_at run i)) ≡ true → HasRoom (edit_at run i) count → m ≡ size_behind (edit_at run i) count → m ≤ 144
-    → IsPlanned high run n least (i + 1) best m
-planned_same high run n least i best count m lt p below r e h =
-    let x = count_next run n i count m lt p.count_is p.so_far r e in
-    record {
-      nearer = let k = p.nearer in omega (arith, k);
-      most = h;
-      seen = seen_next high run i lt p.seen below;
-      under = p.under;
-      count_is = x.count_is;
-      so_far = x.room;
-      room = p.room;
-      enough = p.enough;
-    }
+  pub planned_same : IsPlanned high run n least (i + 1) best m
+  planned_same =
+      let x = count_next run n i lt p.count_is p.so_far r e in
+      record {
+        nearer = let k = p.nearer in omega (arith, k);
+        most = h;
+        seen = seen_next high run i lt p.seen below;
+        under = p.under;
+        count_is = x.count_is;
+        so_far = x.room;
+        room = p.room;
+        enough = p.enough;
+      }
 
 -- a record takes the place of one with its key
 set_insert : (rs : List Record) (i : ℕ) (r : Record) → i < length rs → set rs i r ≡ insert (remove rs i) i r
@@ -133,29 +132,30 @@ pub record IsMade (bytes : List ℕ) (leaf : List Record) (run : List Edit) (i :
 pub made_none : (bytes : List ℕ) (leaf : List Record) (run : List Edit) → leaf_of bytes ≡ Some leaf → IsMade bytes leaf run 0
 made_none bytes leaf run is = record { now = leaf; is_leaf = is; edited = record { is = refl; due = refl }; many = refl }
 
-pub made_next : (first bytes new : List ℕ) (leaf : List Record) (run : List Edit) (i : ℕ) → leaf_of first ≡ Some leaf → i < length run
-    → (m : IsMade bytes leaf run i) → is_due (edit_at run i) m.now ≡ true → leaf_of new ≡ Some (edited (edit_at run i) m.now)
-    → IsMade new leaf run (i + 1)
-made_next first bytes new leaf run i was lt m due is =
-    let e = edited_next leaf m.now (edited (edit_at run i) m.now) run i lt m.edited due refl in
-    record {
-      now = edited (edit_at run i) m.now;
-      is_leaf = is;
-      edited = e;
-      many = ap length e.is ∙ size_all (take (i + 1) run) leaf (leaf_list first leaf was).ascends e.due;
-    }
-
 -- there is room for the next edit
 pub room_next : (bytes : List ℕ) (leaf : List Record) (run : List Edit) (i : ℕ) → i < length run → HasRoomFor run (length leaf)
     → (m : IsMade bytes leaf run i) → HasRoom (edit_at run i) (length m.now)
 room_next bytes leaf run i lt h m = subst (HasRoom (edit_at run i)) (sym m.many) (room_at run i (length leaf) lt h)
 
--- what the planned edits make of a leaf
-pub leaf_planned : (bytes new : List ℕ) (rs : List Record) (run : List Edit) (n many least : ℕ) → leaf_of bytes ≡ Some rs → many ≡ length rs
-    → (1 ≤ n → least ≤ size_after (take n run) many) → (leaf_of new ≡ Some (edit_all (take n run) rs)) × (are_due (take n run) rs ≡ true)
-    → EditsLeaf least run n rs new
-leaf_planned bytes new rs run n many least was is enough made = record {
-  is = made.0;
-  due = made.1;
-  enough = λ one. subst (λ k. least ≤ k) (ap (size_after (take n run)) is ∙ sym (size_all (take n run) rs (leaf_list bytes rs was).ascends made.1)) (enough one);
-}
+module _ (bytes new : List ℕ) (run : List Edit) where
+  pub made_next : (first : List ℕ) (leaf : List Record) (i : ℕ) → leaf_of first ≡ Some leaf → i < length run → (m : IsMade bytes leaf run i)
+      → is_due (edit_at run i) m.now ≡ true → leaf_of new ≡ Some (edited (edit_at run i) m.now) → IsMade new leaf run (i + 1)
+  made_next first leaf i was lt m due is =
+      let e = edited_next leaf m.now (edited (edit_at run i) m.now) run i lt m.edited due refl in
+      record {
+        now = edited (edit_at run i) m.now;
+        is_leaf = is;
+        edited = e;
+        many = ap length e.is ∙ size_all (take (i + 1) run) leaf (leaf_list first leaf was).ascends e.due;
+      }
+
+  -- what the planned edits make of a leaf
+  pub leaf_planned : (rs : List Record) (n many least : ℕ) → leaf_of bytes ≡ Some rs → many ≡ length rs
+      → (1 ≤ n → least ≤ size_after (take n run) many) → (leaf_of new ≡ Some (edit_all (take n run) rs)) × (are_due (take n run) rs ≡ true)
+      → EditsLeaf least run n rs new
+  leaf_planned rs n many least was is enough made = record {
+    is = made.0;
+    due = made.1;
+    enough = λ one. subst (λ k. least ≤ k) (ap (size_after (take n run)) is ∙ sym (size_all (take n run) rs (leaf_list bytes rs was).ascends made.1))
+        (enough one);
+  }

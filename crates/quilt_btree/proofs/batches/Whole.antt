@@ -1,5 +1,6 @@
 -- A whole tree behind edits.
 use Rattle.std.proofs.Common.{◌≡◌, ◌≢◌, ℕ, zero, suc, ◌+◌, ◌-◌, ◌<◌, ◌≤◌, Bool, true, false, not, ◌&&◌, ◌||◌, filter, List, [], ◌∷◌, ◌++◌, length, take, drop}
+use Rattle.std.proofs.lemmas.Bool.{and_from, and_parts, or_parts}
 use Rattle.std.proofs.Common.{Option, None, Result, Ok, Err, IfOk, IfErr, refl, sym, ◌∙◌, ap, subst, arith, take-append-drop, length-drop}
 use Rattle.std.proofs.Common.{◌*◌}
 use Rattle.std.proofs.Common.{Ordering, Less, Equal, Greater}
@@ -36,7 +37,6 @@ use Rattle.quilt_btree.proofs.removals.Drains.{asc_without}
 use Rattle.quilt_btree.proofs.removals.TreeRemovals.{IsRemoving, at_root}
 use Rattle.quilt_btree.proofs.subtrees.Holdings.{subtree_some}
 use Rattle.quilt_btree.proofs.subtrees.Trees.{subtree_rises, ascending_first, ascending_rest}
-use Rattle.quilt_btree.proofs.subtrees.Walks.{and_parts, and_both}
 
 -- counts of runs
 pub more-append : (xs ys : List Edit) → more (xs ++ ys) ≡ more xs + more ys
@@ -65,7 +65,7 @@ pub looks_take : (n : ℕ) (run : List Edit) → looks (take n run) + looks (dro
 looks_take n run = sym (looks-append (take n run) (drop n run)) ∙ ap looks (take-append-drop n run)
 
 -- an edit may look at 6 pages at least
-least_looks : (e : Edit) → 6 ≤ looks_of e
+pub least_looks : (e : Edit) → 6 ≤ looks_of e
 least_looks (edit.Remove k) = omega arith
 least_looks (edit.Put r) = omega arith
 least_looks (edit.Replace r) = omega arith
@@ -76,7 +76,7 @@ some_looks (e ∷ run) zero some le = absurd (omega arith)
 some_looks (e ∷ run) (suc n) some le = let l = least_looks e in omega arith
 
 -- a run of one edit costs 6 at least
-least_cost : (e : Edit) → 6 ≤ cost_of e
+pub least_cost : (e : Edit) → 6 ≤ cost_of e
 least_cost (edit.Remove k) = omega arith
 least_cost (edit.Put r) = omega arith
 least_cost (edit.Replace r) = omega arith
@@ -98,16 +98,12 @@ other_way a b h g = on (key_cmp a b) (key_cmp b a) (key_total.antisymm a b) h g
         no true h g = cc
         no false h g = cc
 
-or_none : (a b : Bool) → (a || b) ≡ false → (a ≡ false) × (b ≡ false)
-or_none true b h = cc
-or_none false b h = (refl, h)
-
 asc_step : (r s : Record) (rs : List Record) (b : Bool) → is_lt (key_cmp r.key s.key) ≡ b → is_ascending (keys_of (s ∷ rs)) ≡ true
     → list_any (has_key r.key) (s ∷ rs) ≡ false → is_ascending (keys_of (put r rs)) ≡ true
     → is_ascending (keys_of (if b then r ∷ s ∷ rs else s ∷ put r rs)) ≡ true
-asc_step r s rs true e a none h = and_both (is_lt (key_cmp r.key s.key)) (is_ascending (keys_of (s ∷ rs))) e a
+asc_step r s rs true e a none h = and_from (is_lt (key_cmp r.key s.key)) (is_ascending (keys_of (s ∷ rs))) e a
 asc_step r s rs false e a none h =
-    let n = or_none (has_key r.key s) (list_any (has_key r.key) rs) none in
+    let n = or_parts (has_key r.key s) (list_any (has_key r.key) rs) none in
     ascending_cons s.key (keys_of (put r rs))
     (within_put (λ m. is_lt (key_cmp s.key m)) r rs (other_way r.key s.key e n.0) (ascending_first s.key (keys_of rs) a)) h
 
@@ -116,7 +112,7 @@ pub asc_put : (r : Record) (rs : List Record) → is_ascending (keys_of rs) ≡ 
 asc_put r [] a none = refl
 asc_put r (s ∷ rs) a none =
     asc_step r s rs (is_lt (key_cmp r.key s.key)) refl a none
-    (asc_put r rs (ascending_rest s.key (keys_of rs) a) (or_none (has_key r.key s) (list_any (has_key r.key) rs) none).1)
+    (asc_put r rs (ascending_rest s.key (keys_of rs) a) (or_parts (has_key r.key s) (list_any (has_key r.key) rs) none).1)
 
 pub gone : (k : Key) (rs : List Record) → list_any (has_key k) (without k rs) ≡ false
 unfolding without
@@ -166,53 +162,42 @@ all_over_none : (ks : List Key) → list_all (is_above None) ks ≡ true
 all_over_none [] = refl
 all_over_none (k ∷ ks) = all_over_none ks
 
-pub some_left : (told now_told : Option (List (List ℕ))) (free now : ℕ → Bool) (size : ℕ) (t : Tree) (rs : List Record) (run xs : List Edit)
-    → IsRemoving free size t → AtRootEdits run xs told now_told free now t → IsWhole told free size t rs
-    → fewer xs < t.records + more xs
-some_left told now_told free now size t rs run xs i f w =
-    let a = at_root told free size t rs i w in
-    let did = f everywhere rs a.used refl (all_over_none (edit_keys run)) a.can in
-    let rises = subtree_rises a.can.pages t.height true (t.root, everywhere) rs a.used a.can.subtree in
-    let left = subtree_some did.news t.height true (t.root, everywhere) (edit_all xs rs) did.becomes.uses did.becomes.subtree in
-    enough (length (edit_all xs rs)) (length left.more) (fewer xs) (more xs) (length rs) t.records (ap length left.is)
-    (length_all xs rs rises.ascends did.due) w.number
-  where
-    enough : (a m f p l r : ℕ) → a ≡ suc m → a + f ≡ l + p → l ≡ r → f < r + p
-    enough a m f p l r e g h = omega arith
+module _ (told now_told : Option (List (List ℕ))) (free now : ℕ → Bool) (size : ℕ) where
+  pub some_left : (t : Tree) (rs : List Record) (run xs : List Edit) → IsRemoving free size t → AtRootEdits run xs told now_told free now t
+      → IsWhole told free size t rs → fewer xs < t.records + more xs
+  some_left t rs run xs i f w =
+      let a = at_root told free size t rs i w in
+      let did = f everywhere rs a.used refl (all_over_none (edit_keys run)) a.can in
+      let rises = subtree_rises a.can.pages t.height true (t.root, everywhere) rs a.used a.can.subtree in
+      let left = subtree_some did.news t.height true (t.root, everywhere) (edit_all xs rs) did.becomes.uses did.becomes.subtree in
+      enough (length (edit_all xs rs)) (length left.more) (fewer xs) (more xs) (length rs) t.records (ap length left.is)
+      (length_all xs rs rises.ascends did.due) w.number
+    where
+      enough : (a m f p l r : ℕ) → a ≡ suc m → a + f ≡ l + p → l ≡ r → f < r + p
+      enough a m f p l r e g h = omega arith
 
-pub whole_edited : (told now_told : Option (List (List ℕ))) (free now : ℕ → Bool) (size records : ℕ) (t : Tree) (rs : List Record) (run xs : List Edit)
-    → IsRemoving free size t → records + fewer xs ≡ t.records + more xs → AtRootEdits run xs told now_told free now t
-    → IsWhole told free size t rs
-    → (are_due xs rs ≡ true) × IsWhole now_told now size (record { root = t.root; height = t.height; records = records }) (edit_all xs rs)
-whole_edited told now_told free now size records t rs run xs i count f w =
-    let a = at_root told free size t rs i w in
-    let did = f everywhere rs a.used refl (all_over_none (edit_keys run)) a.can in
-    let rises = subtree_rises a.can.pages t.height true (t.root, everywhere) rs a.used a.can.subtree in
-    let tall : 1 ≤ t.height = let ne = i.above in omega arith in
-    let number : length (edit_all xs rs) ≡ records =
-    same (length (edit_all xs rs)) (fewer xs) (more xs) (length rs) t.records records (length_all xs rs rises.ascends did.due) w.number count in (
-      did.due,
-      whole_again did.pages did.news now_told free now size t.root t.height records a.used did.becomes.uses
-          (edit_all xs rs) did.is tall did.becomes.subtree did.becomes.moves a.can.apart a.balance number,
-    )
-  where
-    same : (a f p l r n : ℕ) → a + f ≡ l + p → l ≡ r → n + f ≡ r + p → a ≡ n
-    same a f p l r n g h c = omega arith
+  pub whole_edited : (records : ℕ) (t : Tree) (rs : List Record) (run xs : List Edit) → IsRemoving free size t
+      → records + fewer xs ≡ t.records + more xs → AtRootEdits run xs told now_told free now t → IsWhole told free size t rs
+      → (are_due xs rs ≡ true) × IsWhole now_told now size (record { root = t.root; height = t.height; records = records }) (edit_all xs rs)
+  whole_edited records t rs run xs i count f w =
+      let a = at_root told free size t rs i w in
+      let did = f everywhere rs a.used refl (all_over_none (edit_keys run)) a.can in
+      let rises = subtree_rises a.can.pages t.height true (t.root, everywhere) rs a.used a.can.subtree in
+      let tall : 1 ≤ t.height = let ne = i.above in omega arith in
+      let number : length (edit_all xs rs) ≡ records =
+      same (length (edit_all xs rs)) (fewer xs) (more xs) (length rs) t.records records (length_all xs rs rises.ascends did.due) w.number count in (
+        did.due,
+        whole_again size t.root t.height records
+            (edit_all xs rs) did.is tall did.becomes.subtree did.becomes.moves a.can.apart a.balance number,
+      )
+    where
+      same : (a f p l r n : ℕ) → a + f ≡ l + p → l ≡ r → n + f ≡ r + p → a ≡ n
+      same a f p l r n g h c = omega arith
 
 fails_all : (run : List Edit) (high : Option Key) (rs : List Record) → Fails run high rs → are_due run rs ≡ false
 fails_all run high rs l =
     ap (λ m. are_due m rs) (sym (take-append-drop l.number run)) ∙ are_due-append (take l.number run) (drop l.number run) rs
     ∙ ap (λ b. b && are_due (drop l.number run) (edit_all (take l.number run) rs)) l.missing
-
-pub whole_fails : (e : Stop) (told : Option (List (List ℕ))) (free : ℕ → Bool) (size : ℕ) (t : Tree) (rs : List Record) (run : List Edit)
-    → IsRemoving free size t
-    → ((b : Bounds) (rs : List Record) (used : List ℕ) → b.high ≡ None → CanEdit told free t.root t.height true b rs used → (q : ℕ) → e ≡ Damaged q
-    → (q ≡ 0) × Fails run b.high rs)
-    → IsWhole told free size t rs → (q : ℕ) → e ≡ Damaged q → (q ≡ 0) × (are_due run rs ≡ false)
-whole_fails e told free size t rs run i f w q is =
-    let a = at_root told free size t rs i w in
-    let h = f everywhere rs a.used refl a.can q is in
-    (h.0, fails_all run None rs h.1)
 
 -- nothing changed before
 pub stays_edited : (r : Result ℕ Stop) (told mid now_told : Option (List (List ℕ))) (free was now : ℕ → Bool) (size at : ℕ) (t u : Tree)
@@ -277,7 +262,7 @@ made_rest told mid now_told free was now size at i n t u v run same made rooted 
       whole = λ rs w.
           let h = made.whole rs w in
           let g = f (edit_all xs rs) (subst (λ m. IsWhole mid was m u (edit_all xs rs)) (sym same) h.1) in (
-            are_due-append xs ys rs ∙ and_both (are_due xs rs) (are_due ys (edit_all xs rs)) h.0 g.0,
+            are_due-append xs ys rs ∙ and_from (are_due xs rs) (are_due ys (edit_all xs rs)) h.0 g.0,
             subst (λ l. IsWhole now_told now size v l) (sym (edit_all-append xs ys rs))
                 (subst (λ m. IsWhole now_told now m v (edit_all ys (edit_all xs rs))) same g.1),
           );
@@ -299,29 +284,41 @@ rest_fails e told mid free was size at i t u run same made f rs w page is =
     late true b h = h
     late false b h = refl
 
-pub made_all : (told now_told : Option (List (List ℕ))) (free now : ℕ → Bool) (size i : ℕ) (t u : Tree) (run : List Edit) → length run ≤ i
-    → IsMade told now_told free now size t u (take i run) → IsMade told now_told free now size t u run
-made_all told now_told free now size i t u run le made = subst (IsMade told now_told free now size t u) (take_all i run le) made
-
 pub rest_cost : (run : List Edit) (i n : ℕ) → cost (take (i + n) run) ≡ cost (take i run) + cost (take n (rest run i))
 rest_cost run i n =
-    ap cost (take-add i n run) ∙ cost-append (take i run) (take n (drop i run)) ∙ ap (λ l. cost (take i run) + cost (take n l)) (sym (take_rest run i))
+    ap cost (take-add i n run) ∙ cost-append (take i run) (take n (drop i run)) ∙ ap (λ l. cost (take i run) + cost (take n l))
+    (sym (take_rest run i))
 
 pub rest_looks : (run : List Edit) (i n : ℕ) → looks (take (i + n) run) ≡ looks (take i run) + looks (take n (rest run i))
 rest_looks run i n =
-    ap looks (take-add i n run) ∙ looks-append (take i run) (take n (drop i run)) ∙ ap (λ l. looks (take i run) + looks (take n l)) (sym (take_rest run i))
+    ap looks (take-add i n run) ∙ looks-append (take i run) (take n (drop i run)) ∙ ap (λ l. looks (take i run) + looks (take n l))
+    (sym (take_rest run i))
 
 pub rest_cost_all : (run : List Edit) (i : ℕ) → cost (take i run) + cost (rest run i) ≡ cost run
 rest_cost_all run i = ap (λ l. cost (take i run) + cost l) (take_rest run i) ∙ cost_take i run
 
-pub rest_room : (told mid : Option (List (List ℕ))) (free was : ℕ → Bool) (size i : ℕ) (t u : Tree) (run : List Edit)
-    → IsMade told mid free was size t u (take i run) → t.records + more run ≤ quota size → u.records + more (rest run i) ≤ quota size
-rest_room told mid free was size i t u run made room =
-    enough u.records (more (rest run i)) t.records (more run) (fewer (take i run)) (more (take i run)) (quota size) made.count
-    (ap (λ l. more (take i run) + more l) (take_rest run i) ∙ more_take i run) room
-  where
-    enough : (u r t m f a q : ℕ) → u + f ≡ t + a → a + r ≡ m → t + m ≤ q → u + r ≤ q
-    enough u r t m f a q e g h = omega arith
+module _ (told : Option (List (List ℕ))) (free : ℕ → Bool) (size : ℕ) (t : Tree) (run : List Edit) where
+  pub whole_fails : (e : Stop) (rs : List Record) → IsRemoving free size t
+      → ((b : Bounds) (rs : List Record) (used : List ℕ) → b.high ≡ None → CanEdit told free t.root t.height true b rs used → (q : ℕ) → e ≡ Damaged q
+      → (q ≡ 0) × Fails run b.high rs)
+      → IsWhole told free size t rs → (q : ℕ) → e ≡ Damaged q → (q ≡ 0) × (are_due run rs ≡ false)
+  whole_fails e rs i f w q is =
+      let a = at_root told free size t rs i w in
+      let h = f everywhere rs a.used refl a.can q is in
+      (h.0, fails_all run None rs h.1)
+
+  pub made_all : (now_told : Option (List (List ℕ))) (now : ℕ → Bool) (i : ℕ) (u : Tree) → length run ≤ i
+      → IsMade told now_told free now size t u (take i run) → IsMade told now_told free now size t u run
+  made_all now_told now i u le made = subst (IsMade told now_told free now size t u) (take_all i run le) made
+
+  pub rest_room : (mid : Option (List (List ℕ))) (was : ℕ → Bool) (i : ℕ) (u : Tree) → IsMade told mid free was size t u (take i run)
+      → t.records + more run ≤ quota size → u.records + more (rest run i) ≤ quota size
+  rest_room mid was i u made room =
+      enough u.records (more (rest run i)) t.records (more run) (fewer (take i run)) (more (take i run)) (quota size) made.count
+      (ap (λ l. more (take i run) + more l) (take_rest run i) ∙ more_take i run) room
+    where
+      enough : (u r t m f a q : ℕ) → u + f ≡ t + a → a + r ≡ m → t + m ≤ q → u + r ≤ q
+      enough u r t m f a q e g h = omega arith
 
 pub more_next : (run : List Edit) (i : ℕ) → i < length run → more (take (i + 1) run) ≡ more (take i run) + more_of (edit_at run i)
 more_next run i lt =

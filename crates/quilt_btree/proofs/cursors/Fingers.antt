@@ -1,5 +1,5 @@
 -- What the leaf of a finger tells of the tree.
-use Rattle.std.proofs.Common.{◌≡◌, ◌≢◌, ◌≤◌, ℕ, true, not, List, [], ◌∷◌, ◌++◌, filter, Option, Some, None, sym, ◌∙◌, ap, subst, arith}
+use Rattle.std.proofs.Common.{◌≡◌, ◌≢◌, ◌≤◌, ℕ, true, List, [], ◌∷◌, ◌++◌, filter, Option, Some, None, sym, ◌∙◌, ap, subst, arith}
 use Rattle.std.specs.Prelude.{IfSome}
 use Rattle.std.specs.List.{last_or}
 use Rattle.std.specs.Ordering.{is_lt}
@@ -23,9 +23,9 @@ use Rattle.quilt_btree.proofs.lists.Rising.{all_follow}
 use Rattle.quilt_btree.proofs.subtrees.Whole.{tree_spells}
 
 -- the leaf to which a key leads
-pub leaf_of_finger : (told : Option (List (List ℕ))) (t : Tree) (k : Key) (rs : List Record) (bytes : List ℕ) (high : Option Key)
+pub leaf_of_finger : {told : Option (List (List ℕ))} {t : Tree} {k : Key} {rs : List Record} {bytes : List ℕ} {high : Option Key}
     → Arrives told t.root t.height k None bytes high → 1 ≤ t.height → IsTree told t rs → IsLeafOf bytes high rs
-leaf_of_finger told t k rs bytes high a some is =
+leaf_of_finger {told = told} {t = t} {rs = rs} {bytes = bytes} a some is =
     let ne : t.height ≢ 0 = omega arith in
     let s = tree_spells told t rs ne is in
     let l = a.leads rs s.0 s.1 in
@@ -52,7 +52,8 @@ pub floor_is_near : (bytes : List ℕ) (high : Option Key) (k : Key) (r : Record
     → ((own : List Record) → leaf_of bytes ≡ Some own → Some r ≡ floor_of k own) → IsLeafOf bytes high rs → Some r ≡ floor_of k rs
 unfolding floor_of
 floor_is_near bytes high k r rs below floor l =
-    let above = all_follow (λ (s : Record). is_past high s.key) (λ s. is_lt (key_cmp k s.key)) (λ s past. under_past high k s.key below past) l.behind l.bounded in
+    let above = all_follow (λ (s : Record). is_past high s.key) (λ s. is_lt (key_cmp k s.key)) (λ s past. under_past high k s.key below past) l.behind
+    l.bounded in
     let kept : filter (is_at_most k) rs ≡ filter (is_at_most k) l.before ++ filter (is_at_most k) l.own =
     ap (filter (is_at_most k)) l.records ∙ filter-append (is_at_most k) l.before (l.own ++ l.behind)
     ∙ ap (λ xs. filter (is_at_most k) l.before ++ xs) (filter-append (is_at_most k) l.own l.behind

@@ -1,5 +1,6 @@
 -- The record of the greatest key below one, in a leaf and in a subtree, and the step of a cursor back over it.
 use Rattle.std.proofs.Common.{◌≡◌, ◌≢◌, ℕ, suc, ◌-◌, ◌<◌, ◌≤◌, true, List, [], ◌∷◌, ◌++◌, length, take, drop, Option, Some, None}
+use Rattle.std.proofs.lemmas.Bool.{and_from, and_parts}
 use Rattle.std.proofs.Common.{refl, sym, ◌∙◌, ap, subst, append_assoc, slice_index, arith}
 use Rattle.std.specs.Prelude.{slice_get}
 use Rattle.std.specs.List.{list_all, last_or}
@@ -20,7 +21,6 @@ use Rattle.quilt_btree.proofs.lists.Rising.{all_append, all_map}
 use Rattle.quilt_btree.proofs.lists.RisingApart.{all_under, ascending_back}
 use Rattle.quilt_btree.proofs.subtrees.Descending.{AtFloor, leads_below, along_told}
 use Rattle.quilt_btree.proofs.subtrees.Trees.{subtree_rises, ascending_first, keys_append}
-use Rattle.quilt_btree.proofs.subtrees.Walks.{and_parts, and_both}
 use Rattle.quilt_btree.proofs.subtrees.Whole.{tree_spells}
 use Rattle.quilt_btree.proofs.ways.Leaves.{cut_at, same_le}
 
@@ -46,34 +46,34 @@ last_lower k rs n r ne is low high =
 pub own_records : (bytes : List ℕ) (rs : List Record) → leaf_of bytes ≡ Some rs → leaf_of bytes ≡ Some (records_of bytes)
 own_records bytes rs is = is ∙ ap Some (sym (leaf_records bytes rs is))
 
--- in a subtree
-pub lower_here : (old new : Option (List (List ℕ))) (page height child i : ℕ) (k : Key) (inner : Inner) (r : Record)
-    → AtFloor old new page height child i k inner
-    → ((rs : List Record) → Spells new child (height - 1) rs → IsLast k rs r) → (rs : List Record) → Spells old page height rs → IsLast k rs r
-lower_here old new page height child i k inner r a f rs s =
-    let at = leads_below old page height rs inner i k a.some a.above s a.reads a.place in
-    let h = f at.here (subst (λ c. Spells new c (height - 1) at.here) (sym a.is_child)
-    (along_told old new (slice_index inner.children i) (height - 1) at.here a.told at.spells)) in
-    record {
-      before = at.first ++ h.before;
-      behind = h.behind ++ at.last;
-      records = at.among.records ∙ ap (λ m. at.first ++ (m ++ at.last)) h.records
-          ∙ ap (λ m. at.first ++ m) (append_assoc h.before (r ∷ h.behind) at.last) ∙ sym (append_assoc at.first h.before (r ∷ (h.behind ++ at.last)));
-      lower = subst (λ m. list_all (λ (l : Record). is_lt (key_cmp l.key k)) m ≡ true) (sym (append_assoc at.first h.before (r ∷ [])))
-          (all_append (λ (l : Record). is_lt (key_cmp l.key k)) at.first (h.before ++ r ∷ []) at.among.lower h.lower);
-      higher = all_append (λ (l : Record). is_le (key_cmp k l.key)) h.behind at.last h.higher (over_le k at.last at.among.higher);
-    }
+module _ (old new : Option (List (List ℕ))) (page height child i : ℕ) (k : Key) (inner : Inner) where
+  -- in a subtree
+  pub lower_here : (r : Record) → AtFloor old new page height child i k inner
+      → ((rs : List Record) → Spells new child (height - 1) rs → IsLast k rs r) → (rs : List Record) → Spells old page height rs → IsLast k rs r
+  lower_here r a f rs s =
+      let at = leads_below old page height rs inner i k a.some a.above s a.reads a.place in
+      let h = f at.here (subst (λ c. Spells new c (height - 1) at.here) (sym a.is_child)
+      (along_told old new (slice_index inner.children i) (height - 1) at.here a.told at.spells)) in
+      record {
+        before = at.first ++ h.before;
+        behind = h.behind ++ at.last;
+        records = at.among.records ∙ ap (λ m. at.first ++ (m ++ at.last)) h.records
+            ∙ ap (λ m. at.first ++ m) (append_assoc h.before (r ∷ h.behind) at.last) ∙ sym (append_assoc at.first h.before (r ∷ (h.behind ++ at.last)));
+        lower = subst (λ m. list_all (λ (l : Record). is_lt (key_cmp l.key k)) m ≡ true) (sym (append_assoc at.first h.before (r ∷ [])))
+            (all_append (λ (l : Record). is_lt (key_cmp l.key k)) at.first (h.before ++ r ∷ []) at.among.lower h.lower);
+        higher = all_append (λ (l : Record). is_le (key_cmp k l.key)) h.behind at.last h.higher (over_le k at.last at.among.higher);
+      }
 
-pub lower_none : (old new : Option (List (List ℕ))) (page height child i : ℕ) (k : Key) (inner : Inner) → AtFloor old new page height child i k inner → i ≡ 0
-    → ((rs : List Record) → Spells new child (height - 1) rs → list_all (λ (r : Record). is_le (key_cmp k r.key)) rs ≡ true)
-    → (rs : List Record) → Spells old page height rs → list_all (λ (r : Record). is_le (key_cmp k r.key)) rs ≡ true
-lower_none old new page height child i k inner a zero_place f rs s =
-    let at = leads_below old page height rs inner i k a.some a.above s a.reads a.place in
-    let h = f at.here (subst (λ c. Spells new c (height - 1) at.here) (sym a.is_child)
-    (along_told old new (slice_index inner.children i) (height - 1) at.here a.told at.spells)) in
-    subst (λ l. list_all (λ (r : Record). is_le (key_cmp k r.key)) l ≡ true)
-    (sym (at.among.records ∙ ap (λ l. l ++ (at.here ++ at.last)) (at.none_before zero_place)))
-    (all_append (λ (r : Record). is_le (key_cmp k r.key)) at.here at.last h (over_le k at.last at.among.higher))
+  pub lower_none : AtFloor old new page height child i k inner → i ≡ 0
+      → ((rs : List Record) → Spells new child (height - 1) rs → list_all (λ (r : Record). is_le (key_cmp k r.key)) rs ≡ true) → (rs : List Record)
+      → Spells old page height rs → list_all (λ (r : Record). is_le (key_cmp k r.key)) rs ≡ true
+  lower_none a zero_place f rs s =
+      let at = leads_below old page height rs inner i k a.some a.above s a.reads a.place in
+      let h = f at.here (subst (λ c. Spells new c (height - 1) at.here) (sym a.is_child)
+      (along_told old new (slice_index inner.children i) (height - 1) at.here a.told at.spells)) in
+      subst (λ l. list_all (λ (r : Record). is_le (key_cmp k r.key)) l ≡ true)
+      (sym (at.among.records ∙ ap (λ l. l ++ (at.here ++ at.last)) (at.none_before zero_place)))
+      (all_append (λ (r : Record). is_le (key_cmp k r.key)) at.here at.last h (over_le k at.last at.among.higher))
 
 -- the last record of a list, and those before it
 last_cut : (xs : List Record) (r : Record) → last_or None xs ≡ Some r → (init : List Record) × (xs ≡ init ++ r ∷ [])
@@ -81,13 +81,12 @@ last_cut [] r h = cc
 last_cut (x ∷ []) r h = ([], cc)
 last_cut (x ∷ y ∷ xs) r h = let m = last_cut (y ∷ xs) r h in (x ∷ m.0, ap (λ l. x ∷ l) m.1)
 
-pub lower_before : (old new newer : Option (List (List ℕ))) (page height child prior i : ℕ) (k : Key) (inner : Inner) (r : Record)
-    → AtFloor old new page height child i k inner → i ≢ 0 → newer ≡ old
-    → prior ≡ slice_index inner.children (i - 1)
+pub lower_before : {old new newer : Option (List (List ℕ))} {page height child prior i : ℕ} {k : Key} {inner : Inner} (r : Record)
+    → AtFloor old new page height child i k inner → i ≢ 0 → newer ≡ old → prior ≡ slice_index inner.children (i - 1)
     → ((rs : List Record) → Spells new child (height - 1) rs → list_all (λ (r : Record). is_le (key_cmp k r.key)) rs ≡ true)
-    → ((rs : List Record) → Spells newer prior (height - 1) rs → last_or None rs ≡ Some r)
-    → (rs : List Record) → Spells old page height rs → IsLast k rs r
-lower_before old new newer page height child prior i k inner r a some t is f g rs s =
+    → ((rs : List Record) → Spells newer prior (height - 1) rs → last_or None rs ≡ Some r) → {rs : List Record} → Spells old page height rs
+    → IsLast k rs r
+lower_before {old = old} {new = new} {newer = newer} {page = page} {height = height} {i = i} {k = k} {inner = inner} r a some t is f g {rs = rs} s =
     let at = leads_below old page height rs inner i k a.some a.above s a.reads a.place in
     let h = f at.here (subst (λ c. Spells new c (height - 1) at.here) (sym a.is_child)
     (along_told old new (slice_index inner.children i) (height - 1) at.here a.told at.spells)) in
@@ -105,11 +104,10 @@ lower_before old new newer page height child prior i k inner r a some t is f g r
     }
 
 -- the cursor goes back within its leaf
-pub goes_back : (told : Option (List (List ℕ))) (t : Tree) (r : Record) (bytes : List ℕ) (place low : ℕ) (high : Option Key) (before after : List Record)
-    → place ≡ suc low → slice_get (records_of bytes) low ≡ Some r
-    → StandsAt told t bytes place high before after
+pub goes_back : {told : Option (List (List ℕ))} {t : Tree} (r : Record) {bytes : List ℕ} {place : ℕ} (low : ℕ) {high : Option Key}
+    {before after : List Record} → place ≡ suc low → slice_get (records_of bytes) low ≡ Some r → StandsAt told t bytes place high before after
     → GoesBackTo told t r bytes low high before after
-goes_back told t r bytes place low high before after e at s =
+goes_back r {bytes = bytes} low e at s =
     let here = records_of bytes in
     record {
       rest = s.first ++ take low here;
@@ -133,7 +131,7 @@ parted xs r ys a =
     let cut = subst (λ l. is_ascending l ≡ true) (keys_append xs (r ∷ ys)) a in
     let behind = ascending_first r.key (keys_of ys) (ascending_back (keys_of xs) (keys_of (r ∷ ys)) cut) in (
       all_map (λ (l : Record). l.key) (λ l. is_lt (key_cmp l r.key)) xs (all_under (keys_of xs) r.key (keys_of ys) cut),
-      and_both (is_le (key_cmp r.key r.key)) (list_all (λ (l : Record). is_le (key_cmp r.key l.key)) ys) (same_le r.key)
+      and_from (is_le (key_cmp r.key r.key)) (list_all (λ (l : Record). is_le (key_cmp r.key l.key)) ys) (same_le r.key)
           (over_le r.key ys (all_map (λ (l : Record). l.key) (λ l. is_lt (key_cmp r.key l)) ys behind)),
     )
 
@@ -142,36 +140,35 @@ tree_ascends told t rs ne is =
     let s = (tree_spells told t rs ne is).0 in
     (subtree_rises s.pages t.height s.is_root (t.root, s.bounds) rs s.used s.subtree).ascends
 
--- what stands around the first record of a leaf
-first_parts : (told : Option (List (List ℕ))) (t : Tree) (c : Cursor) (first : Record) (before after : List Record) → t.height ≢ 0 → c.place ≡ 0
-    → (0 < length (records_of c.bytes) → slice_get (records_of c.bytes) 0 ≡ Some first)
-    → IsTree told t (before ++ after) → StandsIn told t c before after
-    → (list_all (λ (l : Record). is_lt (key_cmp l.key first.key)) before ≡ true) × (list_all (λ (l : Record). is_le (key_cmp first.key l.key)) after ≡ true)
-first_parts told t c first before after ne e at is s =
-    let here = records_of c.bytes in
-    let some = s.some in
-    let front = drop_at here 0 first (at (omega arith)) in
-    let behind : after ≡ first ∷ (drop 1 here ++ s.last) = s.is_after ∙ ap (λ n. drop n here ++ s.last) e ∙ ap (λ l. l ++ s.last) front in
-    let p = parted before first (drop 1 here ++ s.last)
-    (subst (λ l. is_ascending (keys_of (before ++ l)) ≡ true) behind (tree_ascends told t (before ++ after) ne is)) in
-    (p.0, subst (λ l. list_all (λ (l : Record). is_le (key_cmp first.key l.key)) l ≡ true) (sym behind) p.1)
+module _ (told : Option (List (List ℕ))) (t : Tree) (c : Cursor) (first : Record) (before after : List Record) where
+  -- what stands around the first record of a leaf
+  first_parts : t.height ≢ 0 → c.place ≡ 0 → (0 < length (records_of c.bytes) → slice_get (records_of c.bytes) 0 ≡ Some first)
+      → IsTree told t (before ++ after) → StandsIn told t c before after
+      → (list_all (λ (l : Record). is_lt (key_cmp l.key first.key)) before ≡ true) × (list_all (λ (l : Record). is_le (key_cmp first.key l.key)) after ≡ true)
+  first_parts ne e at is s =
+      let here = records_of c.bytes in
+      let some = s.some in
+      let front = drop_at here 0 first (at (omega arith)) in
+      let behind : after ≡ first ∷ (drop 1 here ++ s.last) = s.is_after ∙ ap (λ n. drop n here ++ s.last) e ∙ ap (λ l. l ++ s.last) front in
+      let p = parted before first (drop 1 here ++ s.last)
+      (subst (λ l. is_ascending (keys_of (before ++ l)) ≡ true) behind (tree_ascends told t (before ++ after) ne is)) in
+      (p.0, subst (λ l. list_all (λ (l : Record). is_le (key_cmp first.key l.key)) l ≡ true) (sym behind) p.1)
 
--- no record stands before the first leaf
-pub none_back : (told : Option (List (List ℕ))) (t : Tree) (c : Cursor) (first : Record) (before after : List Record) → 1 ≤ t.height → c.place ≡ 0
-    → (0 < length (records_of c.bytes) → slice_get (records_of c.bytes) 0 ≡ Some first)
-    → ((rs : List Record) → Spells told t.root t.height rs → IsLower first.key rs None)
-    → IsTree told t (before ++ after) → StandsIn told t c before after → before ≡ []
-none_back told t c first before after some e at lower is s =
-    let ne : t.height ≢ 0 = omega arith in
-    let p = first_parts told t c first before after ne e at is s in
-    empty before p.0 (lower (before ++ after) (tree_spells told t (before ++ after) ne is).0)
-  where
-    empty : (xs : List Record) → list_all (λ (l : Record). is_lt (key_cmp l.key first.key)) xs ≡ true
-        → list_all (λ (l : Record). is_le (key_cmp first.key l.key)) (xs ++ after) ≡ true → xs ≡ []
-    empty [] h g = refl
-    empty (x ∷ xs) h g =
-        absurd (no_both x.key first.key (and_parts (is_lt (key_cmp x.key first.key)) (list_all (λ (l : Record). is_lt (key_cmp l.key first.key)) xs) h).0
-        (and_parts (is_le (key_cmp first.key x.key)) (list_all (λ (l : Record). is_le (key_cmp first.key l.key)) (xs ++ after)) g).0)
+  -- no record stands before the first leaf
+  pub none_back : 1 ≤ t.height → c.place ≡ 0 → (0 < length (records_of c.bytes) → slice_get (records_of c.bytes) 0 ≡ Some first)
+      → ((rs : List Record) → Spells told t.root t.height rs → IsLower first.key rs None) → IsTree told t (before ++ after)
+      → StandsIn told t c before after → before ≡ []
+  none_back some e at lower is s =
+      let ne : t.height ≢ 0 = omega arith in
+      let p = first_parts ne e at is s in
+      empty before p.0 (lower (before ++ after) (tree_spells told t (before ++ after) ne is).0)
+    where
+      empty : (xs : List Record) → list_all (λ (l : Record). is_lt (key_cmp l.key first.key)) xs ≡ true
+          → list_all (λ (l : Record). is_le (key_cmp first.key l.key)) (xs ++ after) ≡ true → xs ≡ []
+      empty [] h g = refl
+      empty (x ∷ xs) h g =
+          absurd (no_both x.key first.key (and_parts (is_lt (key_cmp x.key first.key)) (list_all (λ (l : Record). is_lt (key_cmp l.key first.key)) xs) h).0
+          (and_parts (is_le (key_cmp first.key x.key)) (list_all (λ (l : Record). is_le (key_cmp first.key l.key)) (xs ++ after)) g).0)
 
 -- the cursor goes back into another leaf
 pub back_over : (told : Option (List (List ℕ))) (t : Tree) (c d : Cursor) (first r : Record) (before after : List Record) → 1 ≤ t.height → c.place ≡ 0

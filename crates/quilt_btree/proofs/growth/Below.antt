@@ -1,5 +1,6 @@
 -- A subtree that is to be edited, and the child to which a key leads.
 use Rattle.std.proofs.Common.{◌≡◌, ◌≢◌, ℕ, suc, ◌+◌, ◌<◌, ◌≤◌, Bool, true, false, ◌||◌, nat_le, List, [], ◌∷◌, ◌++◌, length, take, drop, Option, Some}
+use Rattle.std.proofs.lemmas.Bool.{and_parts}
 use Rattle.std.proofs.Common.{slice_index, slice_index_or, refl, sym, ◌∙◌, ap, subst, arith, take-append-drop}
 use Rattle.std.specs.List.{list_all}
 use Rattle.std.specs.Ordering.{is_lt, is_le}
@@ -14,7 +15,6 @@ use Rattle.quilt_btree.specs.Edits.{times, CanEdit}
 use Rattle.quilt_btree.specs.Trees.{ReadsInner, Spells}
 use Rattle.quilt_btree.proofs.lists.Counts.{times-append, times-three}
 use Rattle.quilt_btree.proofs.stores.Moves.{AreApart, apart_some}
-use Rattle.quilt_btree.proofs.subtrees.Walks.{and_parts}
 use Rattle.quilt_btree.proofs.subtrees.Trees.{IsInnerList, inner_list}
 use Rattle.quilt_btree.proofs.rows.Places.{front, from_keys, head_bounds, tail_places, bounded_at, one_row, high_from}
 use Rattle.quilt_btree.proofs.lists.Lists.{IsAmong}
@@ -41,47 +41,6 @@ pub record IsBelow (told : Option (List (List ℕ))) (free : ℕ → Bool) (page
   pub child : Subtree pages (suc below) false (slice_index inner.children i, child_bounds inner b i) at.here at.here_used
   pub here_apart : AreApart free at.here_used
   pub in_range : i < length inner.children
-
-pub go_below : (told : Option (List (List ℕ))) (free : ℕ → Bool) (page height : ℕ) (is_root : Bool) (b : Bounds) (k : Key) (rs : List Record)
-    (used : List ℕ) (inner : Inner) (i : ℕ)
-    → 1 ≤ height → height ≢ 1 → ReadsInner told page inner → IsPlace inner.keys k i → CanEdit told free page height is_root b rs used
-    → IsBelow told free page height is_root b k rs used inner i
-go_below told free page height is_root b k rs used inner i some ne reads p can =
-    let n = height_above height some ne in
-    let s = subst (λ m. Subtree can.pages m is_root (page, b) rs used) n.1 can.subtree in
-    let there = reads can.pages can.is_told in
-    let mine = s.page in
-    let same : s.inner ≡ inner = cc in
-    let list = inner_list (length can.pages) (slice_index_or can.pages page []) inner there in
-    let within = subst (λ (x : Inner). are_within b x.keys ≡ true) same s.within in
-    let row = subst (λ (x : Inner). Row (Subtree can.pages (suc n.0) false) (bounded x.children x.keys b) rs s.under) same s.children in
-    let down = leads_down can.pages n.0 inner (slice_index_or can.pages page []) b i k rs s.under list within p row in
-    let at = down.at in
-    let inside : (p : ℕ) → times p at.here_used ≤ times p used = λ p.
-    part (times p used) (times p s.under) (times p (page ∷ [])) (times p at.last_used) (times p at.here_used) (times p at.first_used)
-    (ap (times p) s.is_used ∙ times-append p s.under (page ∷ [])) (ap (times p) at.is_used ∙ times-three p at.last_used at.here_used at.first_used) in
-    record {
-      pages = can.pages;
-      is_told = can.is_told;
-      below = n.0;
-      is_height = n.1;
-      page_is = there;
-      list = list;
-      inner_height = subst (λ (x : Inner). x.height ≡ suc (suc n.0)) same s.is_height;
-      enough = subst (λ (x : Inner). (is_root || nat_le 127 (length x.children)) ≡ true) same s.enough;
-      within = within;
-      under = s.under;
-      is_used = s.is_used;
-      apart = subst (AreApart free) s.is_used can.apart;
-      at = at;
-      among = record { records = at.records; lower = down.lower; higher = down.higher };
-      child = one_row (Subtree can.pages (suc n.0) false) (slice_index inner.children i, child_bounds inner b i) at.here at.here_used at.row_here;
-      here_apart = apart_some free at.here_used used inside can.apart;
-      in_range = place_in inner k i p list.keys;
-    }
-  where
-    part : (u d g l h f : ℕ) → u ≡ d + g → d ≡ l + h + f → h ≤ u
-    part u d g l h f e q = omega arith
 
 -- the children before, at and behind the place
 pub cut_at_child : (inner : Inner) (b : Bounds) (i : ℕ) → i < length inner.children → length inner.children ≡ length inner.keys + 1
@@ -112,7 +71,8 @@ head_low (k ∷ ks) b = refl
 pub child_above : (inner : Inner) (b : Bounds) (i : ℕ) (k : Key) → IsPlace inner.keys k i → is_above b.low k ≡ true
     → is_above (child_bounds inner b i).low k ≡ true
 child_above inner b i k p h =
-    subst (λ o. is_above o k ≡ true) (sym (head_low (drop i inner.keys) (from_keys (take i inner.keys) b))) (above_from (take i inner.keys) b k p.before h)
+    subst (λ o. is_above o k ≡ true) (sym (head_low (drop i inner.keys) (from_keys (take i inner.keys) b)))
+    (above_from (take i inner.keys) b k p.before h)
 
 pub head_below : (ks : List Key) (b : Bounds) (k : Key) → list_all (λ l. is_lt (key_cmp k l)) ks ≡ true → is_below b.high k ≡ true
     → is_below (head_bounds ks b).high k ≡ true
@@ -122,9 +82,49 @@ head_below (l ∷ ks) b k p h = (and_parts (is_lt (key_cmp k l)) (list_all (λ m
 pub child_below : (inner : Inner) (b : Bounds) (i : ℕ) (k : Key) → IsPlace inner.keys k i → is_below b.high k ≡ true
     → is_below (child_bounds inner b i).high k ≡ true
 child_below inner b i k p h =
-    head_below (drop i inner.keys) (from_keys (take i inner.keys) b) k p.behind (subst (λ o. is_below o k ≡ true) (sym (high_from (take i inner.keys) b)) h)
+    head_below (drop i inner.keys) (from_keys (take i inner.keys) b) k p.behind
+    (subst (λ o. is_below o k ≡ true) (sym (high_from (take i inner.keys) b)) h)
 
-pub edit_spells : (told : Option (List (List ℕ))) (free : ℕ → Bool) (page height : ℕ) (is_root : Bool) (b : Bounds) (rs : List Record)
-    (used : List ℕ) → CanEdit told free page height is_root b rs used → Spells told page height rs
-edit_spells told free page height is_root b rs used can =
-    record { pages = can.pages; is_told = can.is_told; is_root = is_root; bounds = b; used = used; subtree = can.subtree }
+module _ (told : Option (List (List ℕ))) (free : ℕ → Bool) (page height : ℕ) (is_root : Bool) (b : Bounds) where
+  pub go_below : (k : Key) (rs : List Record) (used : List ℕ) (inner : Inner) (i : ℕ) → 1 ≤ height → height ≢ 1 → ReadsInner told page inner
+      → IsPlace inner.keys k i → CanEdit told free page height is_root b rs used → IsBelow told free page height is_root b k rs used inner i
+  go_below k rs used inner i some ne reads p can =
+      let n = height_above height some ne in
+      let s = subst (λ m. Subtree can.pages m is_root (page, b) rs used) n.1 can.subtree in
+      let there = reads can.pages can.is_told in
+      let mine = s.page in
+      let same : s.inner ≡ inner = cc in
+      let list = inner_list (length can.pages) (slice_index_or can.pages page []) inner there in
+      let within = subst (λ (x : Inner). are_within b x.keys ≡ true) same s.within in
+      let row = subst (λ (x : Inner). Row (Subtree can.pages (suc n.0) false) (bounded x.children x.keys b) rs s.under) same s.children in
+      let down = leads_down inner b i rs s.under can.pages n.0 (slice_index_or can.pages page []) k list within p row in
+      let at = down.at in
+      let inside : (p : ℕ) → times p at.here_used ≤ times p used = λ p.
+      part (times p used) (times p s.under) (times p (page ∷ [])) (times p at.last_used) (times p at.here_used) (times p at.first_used)
+      (ap (times p) s.is_used ∙ times-append p s.under (page ∷ [])) (ap (times p) at.is_used ∙ times-three p at.last_used at.here_used at.first_used) in
+      record {
+        pages = can.pages;
+        is_told = can.is_told;
+        below = n.0;
+        is_height = n.1;
+        page_is = there;
+        list = list;
+        inner_height = subst (λ (x : Inner). x.height ≡ suc (suc n.0)) same s.is_height;
+        enough = subst (λ (x : Inner). (is_root || nat_le 127 (length x.children)) ≡ true) same s.enough;
+        within = within;
+        under = s.under;
+        is_used = s.is_used;
+        apart = subst (AreApart free) s.is_used can.apart;
+        at = at;
+        among = record { records = at.records; lower = down.lower; higher = down.higher };
+        child = one_row (Subtree can.pages (suc n.0) false) (slice_index inner.children i, child_bounds inner b i) at.here at.here_used at.row_here;
+        here_apart = apart_some free at.here_used used inside can.apart;
+        in_range = place_in inner k i p list.keys;
+      }
+    where
+      part : (u d g l h f : ℕ) → u ≡ d + g → d ≡ l + h + f → h ≤ u
+      part u d g l h f e q = omega arith
+
+  pub edit_spells : (rs : List Record) (used : List ℕ) → CanEdit told free page height is_root b rs used → Spells told page height rs
+  edit_spells rs used can =
+      record { pages = can.pages; is_told = can.is_told; is_root = is_root; bounds = b; used = used; subtree = can.subtree }

@@ -1,5 +1,6 @@
 -- A subtree that takes records of a run into one leaf.
 use Rattle.std.proofs.Common.{◌≡◌, ℕ, suc, ◌-◌, Bool, true, false, ◌&&◌, List, [], ◌∷◌, Option}
+use Rattle.std.proofs.lemmas.Bool.{and_from, and_parts}
 use Rattle.std.proofs.Common.{Some, None, refl, arith}
 use Rattle.std.specs.Prelude.{if◌then◌else◌}
 use Rattle.std.specs.List.{list_all}
@@ -13,16 +14,15 @@ use Rattle.quilt_record.specs.Lists.{put}
 use Rattle.quilt_btree.specs.Trees.{is_past}
 use Rattle.quilt_record.proofs.Orders.{lt_le, lt_to_le}
 use Rattle.quilt_btree.proofs.rows.Places.{head_bounds}
-use Rattle.quilt_btree.proofs.subtrees.Walks.{and_parts, and_both}
 
 pub within_put : (p : Key → Bool) (r : Record) (rs : List Record) → p r.key ≡ true → list_all p (keys_of rs) ≡ true → list_all p (keys_of (put r rs)) ≡ true
-within_put p r [] h w = and_both (p r.key) true h refl
+within_put p r [] h w = and_from (p r.key) true h refl
 within_put p r (s ∷ rs) h w =
     let t = and_parts (p s.key) (list_all p (keys_of rs)) w in
-    at (is_lt (key_cmp r.key s.key)) (and_both (p s.key) (list_all p (keys_of (put r rs))) t.0 (within_put p r rs h t.1))
+    at (is_lt (key_cmp r.key s.key)) (and_from (p s.key) (list_all p (keys_of (put r rs))) t.0 (within_put p r rs h t.1))
   where
     at : (b : Bool) → (p s.key && list_all p (keys_of (put r rs))) ≡ true → list_all p (keys_of (if b then r ∷ s ∷ rs else s ∷ put r rs)) ≡ true
-    at true e = and_both (p r.key) (p s.key && list_all p (keys_of rs)) h w
+    at true e = and_from (p r.key) (p s.key && list_all p (keys_of rs)) h w
     at false e = e
 
 pub below_past : (o : Option Key) (k m : Key) → is_below o k ≡ true → is_past o m ≡ true → is_lt (key_cmp k m) ≡ true

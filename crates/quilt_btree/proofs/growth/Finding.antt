@@ -23,16 +23,15 @@ use Rattle.quilt_btree.proofs.subtrees.Whole.{tree_spells, no_records}
 abbrev pub Finds : Option (List (List ℕ)) → ℕ → ℕ → Key → Bool → Type 0
 Finds told page height k b = (rs : List Record) → Spells told page height rs → b ≡ list_any (has_key k) rs
 
--- a search in a leaf
-pub finds_here : (told : Option (List (List ℕ))) (page height i : ℕ) (k : Key) (leaf : List Record) → ReadsLeaf told page leaf → IsFound k leaf i
-    → height ≡ 1 → Finds told page height k true
-finds_here told page height i k leaf reads f one rs s =
-    sym (found_any k leaf i f.found f f.here) ∙ ap (list_any (has_key k)) (leaf_spells told page height rs leaf one s reads)
+module _ (told : Option (List (List ℕ))) (page height i : ℕ) (k : Key) (leaf : List Record) (reads : ReadsLeaf told page leaf) where
+  -- a search in a leaf
+  pub finds_here : IsFound k leaf i → height ≡ 1 → Finds told page height k true
+  finds_here f one rs s =
+      sym (found_any k leaf i f.found f f.here) ∙ ap (list_any (has_key k)) (leaf_spells told page height rs leaf one s reads)
 
-pub finds_none : (told : Option (List (List ℕ))) (page height i : ℕ) (k : Key) (leaf : List Record) → ReadsLeaf told page leaf → IsGap k leaf i
-    → height ≡ 1 → Finds told page height k false
-finds_none told page height i k leaf reads g one rs s =
-    sym (gap_any k leaf i g) ∙ ap (list_any (has_key k)) (leaf_spells told page height rs leaf one s reads)
+  pub finds_none : IsGap k leaf i → height ≡ 1 → Finds told page height k false
+  finds_none g one rs s =
+      sym (gap_any k leaf i g) ∙ ap (list_any (has_key k)) (leaf_spells told page height rs leaf one s reads)
 
 -- a search below an inner page
 pub record IsLed (told then_told : Option (List (List ℕ))) (page height child i : ℕ) (k : Key) (inner : Inner) : Type 0 where
@@ -43,21 +42,21 @@ pub record IsLed (told then_told : Option (List (List ℕ))) (page height child 
   pub place : IsPlace inner.keys k i
   pub is_child : child ≡ slice_index inner.children i
 
-pub finds_below : (told then_told : Option (List (List ℕ))) (page height child i : ℕ) (k : Key) (inner : Inner) (b : Bool)
-    → IsLed told then_told page height child i k inner
-    → Finds then_told child (height - 1) k b → Finds told page height k b
-finds_below told then_told page height child i k inner b l f rs s =
-    let low = leads_below told page height rs inner i k l.some l.above s l.reads l.place in
-    f low.here (subst (λ c. Spells then_told c (height - 1) low.here) (sym l.is_child)
-    (along_told told then_told (slice_index inner.children i) (height - 1) low.here l.same low.spells))
-    ∙ sym (any_between k low.first low.here low.last rs low.among)
+module _ (told : Option (List (List ℕ))) (k : Key) (b : Bool) where
+  pub finds_below : (then_told : Option (List (List ℕ))) (page height child i : ℕ) (inner : Inner) → IsLed told then_told page height child i k inner
+      → Finds then_told child (height - 1) k b → Finds told page height k b
+  finds_below then_told page height child i inner l f rs s =
+      let low = leads_below told page height rs inner i k l.some l.above s l.reads l.place in
+      f low.here (subst (λ c. Spells then_told c (height - 1) low.here) (sym l.is_child)
+      (along_told told then_told (slice_index inner.children i) (height - 1) low.here l.same low.spells))
+      ∙ sym (any_between k low.first low.here low.last rs low.among)
 
--- a search in the whole tree
-pub finds_root : (told : Option (List (List ℕ))) (t : Tree) (k : Key) (b : Bool) (rs : List Record) → t.height ≢ 0 → Finds told t.root t.height k b
-    → IsTree told t rs → b ≡ list_any (has_key k) rs
-finds_root told t k b rs ne f is = f rs (tree_spells told t rs ne is).0
+  -- a search in the whole tree
+  pub finds_root : (t : Tree) (rs : List Record) → t.height ≢ 0 → Finds told t.root t.height k b → IsTree told t rs → b ≡ list_any (has_key k) rs
+  finds_root t rs ne f is = f rs (tree_spells told t rs ne is).0
 
-pub finds_empty : (told : Option (List (List ℕ))) (t : Tree) (k : Key) (rs : List Record) → t.height ≡ 0 → IsTree told t rs → false ≡ list_any (has_key k) rs
+pub finds_empty : (told : Option (List (List ℕ))) (t : Tree) (k : Key) (rs : List Record) → t.height ≡ 0 → IsTree told t rs
+    → false ≡ list_any (has_key k) rs
 finds_empty told t k rs e is = sym (ap (list_any (has_key k)) (no_records told t rs e is))
 
 -- an insertion

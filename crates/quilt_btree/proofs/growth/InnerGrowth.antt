@@ -28,16 +28,15 @@ use Rattle.quilt_btree.proofs.stores.Writes.{tells_at, TellsAll, all_told, both_
 abbrev pub IsWritten : List ℕ → Inner → Type 0
 IsWritten bytes inner = (pages : ℕ) → are_pages pages inner.children ≡ true → inner_of pages bytes ≡ Some inner
 
-pub pending_taken : (told : Option (List (List ℕ))) (free : ℕ → Bool) (page : ℕ) (is_root : Bool) (b : Bounds) (inner : Inner) (all : List Record)
-    (under : List ℕ) → IsPending told free page is_root b inner all under → free page ≡ false
-pending_taken told free page is_root b inner all under p = used_not_free free (under ++ page ∷ []) page p.apart (page_in page under)
+pub pending_taken : {told : Option (List (List ℕ))} {free : ℕ → Bool} {page : ℕ} {is_root : Bool} {b : Bounds} {inner : Inner} {all : List Record}
+    {under : List ℕ} → IsPending told free page is_root b inner all under → free page ≡ false
+pending_taken {free = free} {page = page} {under = under} p = used_not_free free (under ++ page ∷ []) page p.apart (page_in page under)
 
-pub put_done : (told now_told : Option (List (List ℕ))) (free now : ℕ → Bool) (size page height : ℕ) (inner : Inner) (bytes : List ℕ)
-    (is_root : Bool) (b : Bounds) (all : List Record) (under : List ℕ)
-    → page < size → TellsAll told size → IsWritten bytes inner → inner.height ≡ height
-    → Goes (λ old new. new ≡ slice_set old page bytes) told now_told → now ≡ free
+pub put_done : {told : Option (List (List ℕ))} (now_told : Option (List (List ℕ))) {free now : ℕ → Bool} (size : ℕ) {page : ℕ} (height : ℕ)
+    {inner : Inner} (bytes : List ℕ) {is_root : Bool} {b : Bounds} {all : List Record} {under : List ℕ} → page < size → TellsAll told size
+    → IsWritten bytes inner → inner.height ≡ height → Goes (λ old new. new ≡ slice_set old page bytes) told now_told → now ≡ free
     → IsPending told free page is_root b inner all under → DidPut told now_told free now page height is_root b (under ++ page ∷ []) all inserted.Done
-put_done told now_told free now size page height inner bytes is_root b all under inside many is tall wrote same p =
+put_done {told = told} now_told {free = free} {now = now} size {page = page} height {inner = inner} bytes {is_root = is_root} {b = b} {all = all} {under = under} inside many is tall wrote same p =
     let written = tells_at (λ old new. new ≡ slice_set old page bytes) told now_told p.pages wrote p.is_told in
     let news = slice_set p.pages page bytes in
     let becomes = parent_written p.pages free p.below page is_root b inner bytes under all (all_told told size page p.pages many p.is_told inside)
@@ -81,12 +80,12 @@ none_each p under rest first e h =
     right : (u r f : ℕ) → u ≡ r + f → u ≡ 0 → f ≡ 0
     right u r f e h = omega arith
 
-pub put_split : (told now_told : Option (List (List ℕ))) (free now : ℕ → Bool) (size page new height : ℕ) (inner : Inner) (left right : List ℕ)
-    (key : Key) (is_root : Bool) (b : Bounds) (all : List Record) (under : List ℕ)
-    → page < size → new < size → TellsAll told size → AreParts inner left right key → inner.height ≡ height → free new ≡ true → FreesOnly new false free now
-    → Goes (λ old now. now ≡ slice_set (slice_set old page left) new right) told now_told
-    → IsPending told free page is_root b inner all under → DidPut told now_told free now page height is_root b (under ++ page ∷ []) all (inserted.Split key new)
-put_split told now_told free now size page new height inner left right key is_root b all under inside inside_new many h tall t f wrote p =
+pub put_split : {told : Option (List (List ℕ))} (now_told : Option (List (List ℕ))) {free now : ℕ → Bool} (size : ℕ) {page new : ℕ} (height : ℕ)
+    {inner : Inner} (left right : List ℕ) (key : Key) {is_root : Bool} {b : Bounds} {all : List Record} {under : List ℕ} → page < size → new < size
+    → TellsAll told size → AreParts inner left right key → inner.height ≡ height → free new ≡ true → FreesOnly new false free now
+    → Goes (λ old now. now ≡ slice_set (slice_set old page left) new right) told now_told → IsPending told free page is_root b inner all under
+    → DidPut told now_told free now page height is_root b (under ++ page ∷ []) all (inserted.Split key new)
+put_split {told = told} now_told {free = free} {now = now} size {page = page} {new = new} height {inner = inner} left right key {b = b} {all = all} {under = under} inside inside_new many h tall t f wrote p =
     let pages = p.pages in
     let S = Subtree pages (suc p.below) false in
     let news = slice_set (slice_set pages page left) new right in
@@ -127,8 +126,9 @@ put_split told now_told free now size page new height inner left right key is_ro
         within = sides.lower;
         under = row.first_used;
         children =
-            rows_stay pages news p.below size_same (bounded (take 127 cs) (take 126 ks) (record { low = b.low; high = Some key })) row.first row.first_used
-            (both_same pages news free now (under ++ page ∷ []) page new left right row.first_used both page_none.1 new_none.1) row.here;
+            rows_stay pages news p.below size_same (bounded (take 127 cs) (take 126 ks) (record { low = b.low; high = Some key })) row.first
+            row.first_used
+            (both_same pages free now (under ++ page ∷ []) page new left right news row.first_used both page_none.1 new_none.1) row.here;
         is_used = refl;
       };
       is_right = record {
@@ -140,8 +140,9 @@ put_split told now_told free now size page new height inner left right key is_ro
         within = sides.higher;
         under = row.rest_used;
         children =
-            rows_stay pages news p.below size_same (bounded (drop 127 cs) (drop 127 ks) (record { low = Some key; high = b.high })) row.rest row.rest_used
-            (both_same pages news free now (under ++ page ∷ []) page new left right row.rest_used both page_none.0 new_none.0) row.after;
+            rows_stay pages news p.below size_same (bounded (drop 127 cs) (drop 127 ks) (record { low = Some key; high = b.high })) row.rest
+            row.rest_used
+            (both_same pages free now (under ++ page ∷ []) page new left right news row.rest_used both page_none.0 new_none.0) row.after;
         is_used = refl;
       };
       records = row.records;

@@ -48,90 +48,89 @@ at_root told free t rs ne w =
     let same : w.tree.visited ≡ found.used = found.is_now ∙ append-nil found.used in
     record {
       used = found.used;
-      can = record { pages = w.tree.pages; is_told = w.tree.is_told; subtree = found.spells; apart = λ p. subst (λ u. account free u p ≤ 1) same (w.apart p) };
+      can = record
+          { pages = w.tree.pages; is_told = w.tree.is_told; subtree = found.spells; apart = λ p. subst (λ u. account free u p ≤ 1) same (w.apart p) };
     }
 
 -- a subtree that has come of a tree by an edit is the tree
-pub kept_again : (pages news : List (List ℕ)) (now_told : Option (List (List ℕ))) (free now : ℕ → Bool) (root height records : ℕ)
-    (used uses : List ℕ) (all : List Record)
-    → now_told ≡ Some news → 1 ≤ height → Subtree news height true (root, everywhere) all uses → Moves pages news free now used uses → AreApart free used
+pub kept_again : {pages news : List (List ℕ)} {now_told : Option (List (List ℕ))} {free now : ℕ → Bool} (root height records : ℕ) {used uses : List ℕ}
+    (all : List Record) → now_told ≡ Some news → 1 ≤ height → Subtree news height true (root, everywhere) all uses
+    → Moves pages news free now used uses → AreApart free used
     → HasItsPages now_told now (record { root = root; height = height; records = records }) all
 unfolding tree_again
-kept_again pages news now_told free now root height records used uses all is some s m apart =
+kept_again {pages = pages} {news = news} {now_told = now_told} {free = free} {now = now} root height records {used = used} {uses = uses} all is some s m apart =
     let still = apart_then pages news free now used uses m apart in
     record {
       tree = tree_again news now_told now root height records uses all is some s still;
       apart = λ p. subst (λ u. account now u p ≤ 1) (sym (append-nil uses)) (still p);
     }
 
-pub same_tree : (told now_told : Option (List (List ℕ))) (free now : ℕ → Bool) (t : Tree) (rs : List Record) → now_told ≡ told → now ≡ free
-    → HasItsPages told free t rs → HasItsPages now_told now t rs
-same_tree told now_told free now t rs p q w = subst (λ o. HasItsPages o now t rs) (sym p) (subst (λ g. HasItsPages told g t rs) (sym q) w)
-
 -- An insertion.
 pub insert_can : (told : Option (List (List ℕ))) (free : ℕ → Bool) (size : ℕ) (t : Tree) (k : Key) (rs : List Record)
     → t.height < count_free free size → (a : AtRoot told free t rs) → CanInsert told free size t.root t.height true everywhere k rs a.used
 insert_can told free size t k rs room a = record { can_edit = a.can; low = refl; high = refl; room = omega arith }
 
-pub sound_kept : (e : Stop) (told : Option (List (List ℕ))) (free : ℕ → Bool) (size : ℕ) (t : Tree) (k : Key) (rs : List Record) → t.height ≢ 0
-    → ((is_root : Bool) (b : Bounds) (rs : List Record) (used : List ℕ) → CanInsert told free size t.root t.height is_root b k rs used → AreFew rs → IsSound e)
-    → AreFew rs → t.height < count_free free size → HasItsPages told free t rs → IsSound e
-sound_kept e told free size t k rs ne f few room w =
-    let a = at_root told free t rs ne w in
-    f true everywhere rs a.used (insert_can told free size t k rs room a) few
+module _ (told : Option (List (List ℕ))) (free : ℕ → Bool) (t : Tree) (rs : List Record) where
+  pub same_tree : (now_told : Option (List (List ℕ))) (now : ℕ → Bool) → now_told ≡ told → now ≡ free → HasItsPages told free t rs
+      → HasItsPages now_told now t rs
+  same_tree now_told now p q w = subst (λ o. HasItsPages o now t rs) (sym p) (subst (λ g. HasItsPages told g t rs) (sym q) w)
 
-pub kept_done : (r : Record) (told now_told : Option (List (List ℕ))) (free now : ℕ → Bool) (size : ℕ) (t : Tree) (rs : List Record) → t.height ≢ 0
-    → UnderRoot r told now_told free now size t inserted.Done
-    → t.height < count_free free size → HasItsPages told free t rs
-    → HasItsPages now_told now (record { root = t.root; height = t.height; records = t.records + 1 }) (put r rs)
-kept_done r told now_told free now size t rs ne f room w =
-    let a = at_root told free t rs ne w in
-    let did = f true everywhere rs a.used (insert_can told free size t r.key rs room a) in
-    let grown = did.done.1 in
-    kept_again did.pages did.news now_told free now t.root t.height (t.records + 1) a.used grown.uses (put r rs) did.is
-    (some_height t.height ne) grown.subtree grown.moves a.can.apart
+  pub sound_kept : (e : Stop) (size : ℕ) (k : Key) → t.height ≢ 0
+      → ((is_root : Bool) (b : Bounds) (rs : List Record) (used : List ℕ) → CanInsert told free size t.root t.height is_root b k rs used → AreFew rs → IsSound e)
+      → AreFew rs → t.height < count_free free size → HasItsPages told free t rs → IsSound e
+  sound_kept e size k ne f few room w =
+      let a = at_root told free t rs ne w in
+      f true everywhere rs a.used (insert_can told free size t k rs room a) few
 
-pub kept_split : (r : Record) (told mid_told now_told : Option (List (List ℕ))) (free mid now : ℕ → Bool) (size : ℕ) (t : Tree) (rs : List Record)
-    (key : Key) (right new : ℕ) (bytes : List ℕ) (h : ℕ) → IsRooted size t → TellsAll told size → t.height ≡ suc h
-    → UnderRoot r told mid_told free mid size t (inserted.Split key right) → IsNewRoot t mid_told now_told mid now size key right new bytes
-    → t.height < count_free free size → HasItsPages told free t rs
+pub kept_split : (r : Record) {told : Option (List (List ℕ))} (mid_told now_told : Option (List (List ℕ))) {free : ℕ → Bool} (mid now : ℕ → Bool)
+    {size : ℕ} {t : Tree} {rs : List Record} (key : Key) (right new : ℕ) (bytes : List ℕ) (h : ℕ) → IsRooted size t → TellsAll told size
+    → t.height ≡ suc h → UnderRoot r told mid_told free mid size t (inserted.Split key right)
+    → IsNewRoot t mid_told now_told mid now size key right new bytes → t.height < count_free free size → HasItsPages told free t rs
     → HasItsPages now_told now (record { root = new; height = t.height + 1; records = t.records + 1 }) (put r rs)
-kept_split r told mid_told now_told free mid now size t rs key right new bytes h rooted many tall f is room w =
+kept_split r {told = told} mid_told now_told {free = free} mid now {size = size} {t = t} {rs = rs} key right new bytes h rooted many tall f is room w =
     let ne : t.height ≢ 0 = omega arith in
     let a = at_root told free t rs ne w in
     let did = f true everywhere rs a.used (insert_can told free size t r.key rs room a) in
-    let grown = regrown_split told mid_told now_told did.pages did.news free mid now size t
-    (put r rs) a.used key right new bytes h rooted many tall did.was did.is did.done.1 a.can.apart is in
+    let grown = regrown_split
+    h rooted many tall did.was did.is did.done.1 a.can.apart is in
     let some : 1 ≤ t.height + 1 = omega arith in
-    kept_again did.pages grown.news now_told free now new (t.height + 1) (t.records + 1) a.used grown.uses
+    kept_again new (t.height + 1) (t.records + 1)
     (put r rs) grown.is some grown.subtree grown.moves a.can.apart
 
-pub kept_first : (r : Record) (told now_told : Option (List (List ℕ))) (free now : ℕ → Bool) (size : ℕ) (t : Tree) (rs : List Record) (new : ℕ)
-    (bytes : List ℕ) → TellsAll told size → t.height ≡ 0
-    → leaf_of bytes ≡ Some (r ∷ []) → (1 ≤ new) × (new < size) → free new ≡ true → FreesOnly new false free now
-    → Goes (λ old news. news ≡ slice_set old new bytes) told now_told
-    → HasItsPages told free t rs → HasItsPages now_told now (record { root = new; height = 1; records = 1 }) (put r rs)
-kept_first r told now_told free now size t rs new bytes many none leaf range was_free taken wrote w =
-    let no_rs : rs ≡ [] = no_records told t rs none w.tree in
-    let pages = w.tree.pages in
-    let written = tells_at (λ old news. news ≡ slice_set old new bytes) told now_told pages wrote w.tree.is_told in
-    let news = slice_set pages new bytes in
-    let inside = all_told told size new pages many w.tree.is_told range.1 in
-    let one : 1 ≤ 1 = omega arith in
-    let here : 1 ≤ times new (new ∷ []) = first (times new (new ∷ [])) (times_here new []) in
-    let moves = moves_then pages pages news free now now [] (new ∷ []) (new ∷ []) (moves_taken pages free now [] new was_free taken)
-    (moves_written pages now (new ∷ []) new bytes (used_account now (new ∷ []) new here)) in
-    kept_again pages news now_told free now new 1 1 [] (new ∷ []) (put r rs) (written.1 ∙ ap Some written.2) one
-    (subst (λ l. Subtree news 1 true (new, everywhere) (put r l) (new ∷ [])) (sym no_rs)
-    (record { page = ap leaf_of (get_or-set_same pages new bytes [] inside) ∙ leaf; enough = refl; within = refl; is_used = refl }))
-    moves (λ p. none_used (free p))
-  where
-    none_used : (b : Bool) → cond {A = ℕ} b 1 0 + 0 ≤ 1
-    none_used true = omega arith
-    none_used false = omega arith
+module _ (r : Record) (told now_told : Option (List (List ℕ))) (free now : ℕ → Bool) (size : ℕ) (t : Tree) (rs : List Record) where
+  pub kept_done : t.height ≢ 0 → UnderRoot r told now_told free now size t inserted.Done → t.height < count_free free size
+      → HasItsPages told free t rs → HasItsPages now_told now (record { root = t.root; height = t.height; records = t.records + 1 }) (put r rs)
+  kept_done ne f room w =
+      let a = at_root told free t rs ne w in
+      let did = f true everywhere rs a.used (insert_can told free size t r.key rs room a) in
+      let grown = did.done.1 in
+      kept_again t.root t.height (t.records + 1) (put r rs) did.is
+      (some_height t.height ne) grown.subtree grown.moves a.can.apart
 
-    first : (t : ℕ) → t ≡ 1 + 0 → 1 ≤ t
-    first t e = omega arith
+  pub kept_first : (new : ℕ) (bytes : List ℕ) → TellsAll told size → t.height ≡ 0 → leaf_of bytes ≡ Some (r ∷ []) → (1 ≤ new) × (new < size)
+      → free new ≡ true → FreesOnly new false free now → Goes (λ old news. news ≡ slice_set old new bytes) told now_told → HasItsPages told free t rs
+      → HasItsPages now_told now (record { root = new; height = 1; records = 1 }) (put r rs)
+  kept_first new bytes many none leaf range was_free taken wrote w =
+      let no_rs : rs ≡ [] = no_records told t rs none w.tree in
+      let pages = w.tree.pages in
+      let written = tells_at (λ old news. news ≡ slice_set old new bytes) told now_told pages wrote w.tree.is_told in
+      let news = slice_set pages new bytes in
+      let inside = all_told told size new pages many w.tree.is_told range.1 in
+      let one : 1 ≤ 1 = omega arith in
+      let here : 1 ≤ times new (new ∷ []) = first (times new (new ∷ [])) (times_here new []) in
+      let moves = moves_then (moves_taken pages free now [] new was_free taken)
+      (moves_written pages now (new ∷ []) new bytes (used_account now (new ∷ []) new here)) in
+      kept_again new 1 1 (put r rs) (written.1 ∙ ap Some written.2) one
+      (subst (λ l. Subtree news 1 true (new, everywhere) (put r l) (new ∷ [])) (sym no_rs)
+      (record { page = ap leaf_of (get_or-set_same pages new bytes [] inside) ∙ leaf; enough = refl; within = refl; is_used = refl }))
+      moves (λ p. none_used (free p))
+    where
+      none_used : (b : Bool) → cond {A = ℕ} b 1 0 + 0 ≤ 1
+      none_used true = omega arith
+      none_used false = omega arith
+
+      first : (t : ℕ) → t ≡ 1 + 0 → 1 ≤ t
+      first t e = omega arith
 
 pub room_left : (free now : ℕ → Bool) (size mid_size height : ℕ) → mid_size ≡ size → count_free free size ≤ count_free now size + height
     → height < count_free free size → 0 < count_free now mid_size
@@ -142,11 +141,11 @@ room_left free now size mid_size height same few room =
     left c d h e f = omega arith
 
 -- a root of the greatest height is not split within the quota
-pub kept_low : (r : Record) (told now_told : Option (List (List ℕ))) (free now : ℕ → Bool) (size : ℕ) (t : Tree) (rs : List Record) (key : Key)
-    (right : ℕ) → t.records < quota size → size ≤ 30000 → t.height ≡ 3
+pub kept_low : (r : Record) {told : Option (List (List ℕ))} (now_told : Option (List (List ℕ))) {free : ℕ → Bool} (now : ℕ → Bool) (size : ℕ)
+    {t : Tree} {rs : List Record} (key : Key) (right : ℕ) → t.records < quota size → size ≤ 30000 → t.height ≡ 3
     → UnderRoot r told now_told free now size t (inserted.Split key right) → t.height < count_free free size → length rs ≡ t.records
     → HasItsPages told free t rs → ⊥
-kept_low r told now_told free now size t rs key right few most tall f room number w =
+kept_low r {told = told} now_told {free = free} now size {t = t} {rs = rs} key right few most tall f room number w =
     let ne : t.height ≢ 0 = omega arith in
     let a = at_root told free t rs ne w in
     let did = f true everywhere rs a.used (insert_can told free size t r.key rs room a) in
@@ -167,87 +166,85 @@ kept_low r told now_told free now size t rs key right few most tall f room numbe
     too_many : (n p a b m : ℕ) → p ≡ a + b → p ≡ m + 1 → 1161288 ≤ a → 1161288 ≤ b → m < quota n → n ≤ 30000 → ⊥
     too_many n p a b m e f g h few most = omega arith
 
--- A removal.
-pub sound_out : (e : Stop) (told : Option (List (List ℕ))) (free : ℕ → Bool) (t : Tree) (rs : List Record) → t.height ≢ 0
-    → ((is_root : Bool) (b : Bounds) (rs : List Record) (used : List ℕ) → CanEdit told free t.root t.height is_root b rs used → IsSound e)
-    → HasItsPages told free t rs → IsSound e
-sound_out e told free t rs ne f w = let a = at_root told free t rs ne w in f true everywhere rs a.used a.can
-
 pub out_none : (k : Key) (told : Option (List (List ℕ))) (free : ℕ → Bool) (t : Tree) (rs : List Record) → t.height ≡ 0 → HasItsPages told free t rs
     → HasItsPages told free t (without k rs)
 out_none k told free t rs e w =
     let none = no_records told t rs e w.tree in
     subst (λ l. HasItsPages told free t l) (none ∙ sym (without_none k) ∙ ap (without k) (sym none)) w
 
-pub out_missing : (k : Key) (told now_told : Option (List (List ℕ))) (free now : ℕ → Bool) (t : Tree) (rs : List Record) → t.height ≢ 0
-    → removals.UnderRoot k told now_told free now t removed.Missing → now_told ≡ told → now ≡ free
-    → HasItsPages told free t rs → HasItsPages now_told now t (without k rs)
-out_missing k told now_told free now t rs ne f same same_free w =
-    let a = at_root told free t rs ne w in
-    let none = f true everywhere rs a.used a.can in
-    subst (λ l. HasItsPages now_told now t l) (sym (without_missing k rs none)) (same_tree told now_told free now t rs same same_free w)
+module _ (k : Key) (told now_told : Option (List (List ℕ))) (free now : ℕ → Bool) (t : Tree) (rs : List Record) where
+  pub out_missing : t.height ≢ 0 → removals.UnderRoot k told now_told free now t removed.Missing → now_told ≡ told → now ≡ free
+      → HasItsPages told free t rs → HasItsPages now_told now t (without k rs)
+  out_missing ne f same same_free w =
+      let a = at_root told free t rs ne w in
+      let none = f true everywhere rs a.used a.can in
+      subst (λ l. HasItsPages now_told now t l) (sym (without_missing k rs none)) (same_tree told free t rs now_told now same same_free w)
 
-became : (k : Key) (told now_told : Option (List (List ℕ))) (free now : ℕ → Bool) (t : Tree) (rs : List Record) (a : AtRoot told free t rs)
-    (pages news : List (List ℕ)) → t.height ≢ 0 → now_told ≡ Some news
-    → Becomes pages news free now t.root t.height true everywhere a.used (without k rs)
-    → HasItsPages now_told now (record { root = t.root; height = t.height; records = t.records - 1 }) (without k rs)
-became k told now_told free now t rs a pages news ne is b =
-    kept_again pages news now_told free now t.root t.height (t.records - 1) a.used b.uses (without k rs) is
-    (some_height t.height ne) b.subtree b.moves a.can.apart
+  became : (a : AtRoot told free t rs) (pages news : List (List ℕ)) → t.height ≢ 0 → now_told ≡ Some news
+      → Becomes pages news free now t.root t.height true everywhere a.used (without k rs)
+      → HasItsPages now_told now (record { root = t.root; height = t.height; records = t.records - 1 }) (without k rs)
+  became a pages news ne is b =
+      kept_again t.root t.height (t.records - 1) (without k rs) is
+      (some_height t.height ne) b.subtree b.moves a.can.apart
 
-pub out_done : (k : Key) (told now_told : Option (List (List ℕ))) (free now : ℕ → Bool) (t : Tree) (rs : List Record) → t.height ≢ 0
-    → removals.UnderRoot k told now_told free now t removed.Done
-    → HasItsPages told free t rs → HasItsPages now_told now (record { root = t.root; height = t.height; records = t.records - 1 }) (without k rs)
-out_done k told now_told free now t rs ne f w =
-    let a = at_root told free t rs ne w in
-    let did = f true everywhere rs a.used a.can in
-    became k told now_told free now t rs a did.1.pages did.1.news ne did.1.is did.1.left
+  pub out_done : t.height ≢ 0 → removals.UnderRoot k told now_told free now t removed.Done → HasItsPages told free t rs
+      → HasItsPages now_told now (record { root = t.root; height = t.height; records = t.records - 1 }) (without k rs)
+  out_done ne f w =
+      let a = at_root told free t rs ne w in
+      let did = f true everywhere rs a.used a.can in
+      became a did.1.pages did.1.news ne did.1.is did.1.left
 
-pub out_underfull : (k : Key) (told now_told : Option (List (List ℕ))) (free now : ℕ → Bool) (t : Tree) (rs : List Record) → t.height ≢ 0
-    → removals.UnderRoot k told now_told free now t removed.Underfull
-    → HasItsPages told free t rs → HasItsPages now_told now (record { root = t.root; height = t.height; records = t.records - 1 }) (without k rs)
-out_underfull k told now_told free now t rs ne f w =
-    let a = at_root told free t rs ne w in
-    let did = f true everywhere rs a.used a.can in
-    let left = did.1.left in
-    became k told now_told free now t rs a did.1.pages did.1.news ne did.1.is left.1
+  pub out_underfull : t.height ≢ 0 → removals.UnderRoot k told now_told free now t removed.Underfull → HasItsPages told free t rs
+      → HasItsPages now_told now (record { root = t.root; height = t.height; records = t.records - 1 }) (without k rs)
+  out_underfull ne f w =
+      let a = at_root told free t rs ne w in
+      let did = f true everywhere rs a.used a.can in
+      let left = did.1.left in
+      became a did.1.pages did.1.news ne did.1.is left.1
 
-pub out_emptied : (k : Key) (told mid now_told : Option (List (List ℕ))) (free between now : ℕ → Bool) (t : Tree) (rs : List Record) → t.height ≢ 0
-    → removals.UnderRoot k told mid free between t removed.Emptied
-    → Goes (HasGiven t.root) mid now_told → HasItsPages told free t rs
-    → HasItsPages now_told now (record { root = 0; height = 0; records = t.records - 1 }) (without k rs)
-out_emptied k told mid now_told free between now t rs ne f tells w =
-    let a = at_root told free t rs ne w in
-    let did = f true everywhere rs a.used a.can in
-    let left = did.1.left in
-    let on = tells_on (HasGiven t.root) mid now_told did.1.news did.1.is tells in
-    record {
-      tree = record { pages = on.0; is_told = on.1; visited = []; walk = removals.empty_walk on.0 ∙ ap (λ l. Whole l []) (sym left.none) };
-      apart = λ p. none_used (now p);
-    }
-  where
-    none_used : (b : Bool) → cond {A = ℕ} b 1 0 + 0 ≤ 1
-    none_used true = omega arith
-    none_used false = omega arith
+module _ (k : Key) (told mid now_told : Option (List (List ℕ))) (free between now : ℕ → Bool) where
+  pub out_emptied : (t : Tree) (rs : List Record) → t.height ≢ 0 → removals.UnderRoot k told mid free between t removed.Emptied
+      → Goes (HasGiven t.root) mid now_told → HasItsPages told free t rs
+      → HasItsPages now_told now (record { root = 0; height = 0; records = t.records - 1 }) (without k rs)
+  out_emptied t rs ne f tells w =
+      let a = at_root told free t rs ne w in
+      let did = f true everywhere rs a.used a.can in
+      let left = did.1.left in
+      let on = tells_on (HasGiven t.root) mid now_told did.1.news did.1.is tells in
+      record {
+        tree = record { pages = on.0; is_told = on.1; visited = []; walk = removals.empty_walk on.0 ∙ ap (λ l. Whole l []) (sym left.none) };
+        apart = λ p. none_used (now p);
+      }
+    where
+      none_used : (b : Bool) → cond {A = ℕ} b 1 0 + 0 ≤ 1
+      none_used true = omega arith
+      none_used false = omega arith
 
-pub out_only : (k : Key) (told mid now_told : Option (List (List ℕ))) (free between now : ℕ → Bool) (child : ℕ) (t : Tree) (rs : List Record)
-    → t.height ≢ 0 → removals.UnderRoot k told mid free between t (removed.Only child)
-    → Goes (HasGiven t.root) mid now_told → FreesOnly t.root true between now → HasItsPages told free t rs
-    → HasItsPages now_told now (record { root = child; height = t.height - 1; records = t.records - 1 }) (without k rs)
-out_only k told mid now_told free between now child t rs ne f tells frees w =
-    let a = at_root told free t rs ne w in
-    let did = f true everywhere rs a.used a.can in
-    let only = did.1.left.1 in
-    let grown =
-    removals.regrown_only told mid now_told did.1.pages did.1.news free between now t (without k rs) a.used child did.1.is only a.can.apart tells frees in
-    kept_again did.1.pages grown.news now_told free now child (t.height - 1) (t.records - 1) a.used grown.uses (without k rs) grown.is
-    (removals.tall_above did.1.news t.height child (without k rs) only.below only.uses only.is_height only.subtree) grown.subtree grown.moves a.can.apart
+  pub out_only : (child : ℕ) (t : Tree) (rs : List Record) → t.height ≢ 0 → removals.UnderRoot k told mid free between t (removed.Only child)
+      → Goes (HasGiven t.root) mid now_told → FreesOnly t.root true between now → HasItsPages told free t rs
+      → HasItsPages now_told now (record { root = child; height = t.height - 1; records = t.records - 1 }) (without k rs)
+  out_only child t rs ne f tells frees w =
+      let a = at_root told free t rs ne w in
+      let did = f true everywhere rs a.used a.can in
+      let only = did.1.left.1 in
+      let grown =
+      removals.regrown_only told now_told t did.1.is only a.can.apart tells
+      frees in
+      kept_again child (t.height - 1) (t.records - 1) (without k rs) grown.is
+      (removals.tall_above did.1.news t.height child (without k rs) only.below only.uses only.is_height only.subtree) grown.subtree grown.moves a.can.apart
 
-pub out_shrunk : (r : Result Bool Stop) (k : Key) (told now_told : Option (List (List ℕ))) (free now : ℕ → Bool) (t new less : Tree) → OnOk r (new ≡ less)
-    → ((rs : List Record) → HasItsPages told free t rs → HasItsPages now_told now less (without k rs))
-    → IfOk r (λ o. (rs : List Record) → HasItsPages told free t rs → HasItsPages now_told now new (without k rs))
-out_shrunk (Err e) k told now_told free now t new less is f = is
-out_shrunk (Ok o) k told now_told free now t new less is f = λ rs w. subst (λ x. HasItsPages now_told now x (without k rs)) (sym is) (f rs w)
+module _ (told : Option (List (List ℕ))) (free : ℕ → Bool) (t : Tree) where
+  -- A removal.
+  pub sound_out : (e : Stop) (rs : List Record) → t.height ≢ 0
+      → ((is_root : Bool) (b : Bounds) (rs : List Record) (used : List ℕ) → CanEdit told free t.root t.height is_root b rs used → IsSound e)
+      → HasItsPages told free t rs → IsSound e
+  sound_out e rs ne f w = let a = at_root told free t rs ne w in f true everywhere rs a.used a.can
+
+  pub out_shrunk : (r : Result Bool Stop) (k : Key) (now_told : Option (List (List ℕ))) (now : ℕ → Bool) (new less : Tree) → OnOk r (new ≡ less)
+      → ((rs : List Record) → HasItsPages told free t rs → HasItsPages now_told now less (without k rs))
+      → IfOk r (λ o. (rs : List Record) → HasItsPages told free t rs → HasItsPages now_told now new (without k rs))
+  out_shrunk (Err e) k now_told now new less is f = is
+  out_shrunk (Ok o) k now_told now new less is f = λ rs w. subst (λ x. HasItsPages now_told now x (without k rs)) (sym is) (f rs w)
 
 -- the numbers fit together after a removal, where they did before
 exact : (told : Option (List (List ℕ))) (free : ℕ → Bool) (t : Tree) (rs : List Record) (k : Key) → AtRoot told free t rs → length rs ≡ t.records
@@ -256,50 +253,51 @@ exact told free t rs k a number h =
     let rises = subtree_rises a.can.pages t.height true (t.root, everywhere) rs a.used a.can.subtree in
     without_one_fewer k rs rises.ascends h ∙ number
 
-pub two_done : (k : Key) (told now_told : Option (List (List ℕ))) (free now : ℕ → Bool) (t : Tree) (rs : List Record) → t.height ≢ 0
-    → removals.UnderRoot k told now_told free now t removed.Done → length rs ≡ t.records → HasItsPages told free t rs → 2 ≤ t.records
-two_done k told now_told free now t rs ne f number w =
-    let a = at_root told free t rs ne w in
-    let did = f true everywhere rs a.used a.can in
-    removals.two_left did.1.news t.height true (t.root, everywhere) (without k rs) did.1.left.uses t.records did.1.left.subtree
-    (exact told free t rs k a number did.0)
+module _ (k : Key) (told now_told : Option (List (List ℕ))) (free now : ℕ → Bool) where
+  pub two_done : (t : Tree) (rs : List Record) → t.height ≢ 0 → removals.UnderRoot k told now_told free now t removed.Done → length rs ≡ t.records
+      → HasItsPages told free t rs → 2 ≤ t.records
+  two_done t rs ne f number w =
+      let a = at_root told free t rs ne w in
+      let did = f true everywhere rs a.used a.can in
+      removals.two_left did.1.news t.height true (t.root, everywhere) (without k rs) did.1.left.uses t.records did.1.left.subtree
+      (exact told free t rs k a number did.0)
 
-pub two_underfull : (k : Key) (told now_told : Option (List (List ℕ))) (free now : ℕ → Bool) (t : Tree) (rs : List Record) → t.height ≢ 0
-    → removals.UnderRoot k told now_told free now t removed.Underfull → length rs ≡ t.records → HasItsPages told free t rs → 2 ≤ t.records
-two_underfull k told now_told free now t rs ne f number w =
-    let a = at_root told free t rs ne w in
-    let did = f true everywhere rs a.used a.can in
-    let left = did.1.left in
-    removals.two_left did.1.news t.height true (t.root, everywhere) (without k rs) left.1.uses t.records left.1.subtree (exact told free t rs k a number did.0)
+  pub two_underfull : (t : Tree) (rs : List Record) → t.height ≢ 0 → removals.UnderRoot k told now_told free now t removed.Underfull
+      → length rs ≡ t.records → HasItsPages told free t rs → 2 ≤ t.records
+  two_underfull t rs ne f number w =
+      let a = at_root told free t rs ne w in
+      let did = f true everywhere rs a.used a.can in
+      let left = did.1.left in
+      removals.two_left did.1.news t.height true (t.root, everywhere) (without k rs) left.1.uses t.records left.1.subtree
+      (exact told free t rs k a number did.0)
 
-pub one_empty : (k : Key) (told now_told : Option (List (List ℕ))) (free now : ℕ → Bool) (t : Tree) (rs : List Record) → t.height ≢ 0
-    → removals.UnderRoot k told now_told free now t removed.Emptied → length rs ≡ t.records → HasItsPages told free t rs
-    → (now t.root ≡ false) × (t.records ≡ 1)
-one_empty k told now_told free now t rs ne f number w =
-    let a = at_root told free t rs ne w in
-    let did = f true everywhere rs a.used a.can in
-    let left = did.1.left in (
-      ap (λ g. g t.root) left.frees
-          ∙ used_not_free free a.used t.root a.can.apart (page_used a.can.pages t.height true (t.root, everywhere) rs a.used a.can.subtree),
-      sym (exact told free t rs k a number did.0) ∙ ap (λ l. suc (length l)) left.none,
-    )
+  pub one_empty : (t : Tree) (rs : List Record) → t.height ≢ 0 → removals.UnderRoot k told now_told free now t removed.Emptied → length rs ≡ t.records
+      → HasItsPages told free t rs → (now t.root ≡ false) × (t.records ≡ 1)
+  one_empty t rs ne f number w =
+      let a = at_root told free t rs ne w in
+      let did = f true everywhere rs a.used a.can in
+      let left = did.1.left in (
+        ap (λ g. g t.root) left.frees
+            ∙ used_not_free free a.used t.root a.can.apart (page_used a.can.pages t.height true (t.root, everywhere) rs a.used a.can.subtree),
+        sym (exact told free t rs k a number did.0) ∙ ap (λ l. suc (length l)) left.none,
+      )
 
-pub two_only : (k : Key) (told now_told : Option (List (List ℕ))) (free now : ℕ → Bool) (child : ℕ) (t : Tree) (rs : List Record) → t.height ≢ 0
-    → removals.UnderRoot k told now_told free now t (removed.Only child) → length rs ≡ t.records → HasItsPages told free t rs
-    → (now t.root ≡ false) × (2 ≤ t.records) × (1 ≤ t.height - 1)
-two_only k told now_told free now child t rs ne f number w =
-    let a = at_root told free t rs ne w in
-    let did = f true everywhere rs a.used a.can in
-    let only = did.1.left.1 in
-    let apart = apart_then did.1.pages did.1.news free now a.used (only.uses ++ t.root ∷ []) only.moves a.can.apart in (
-      used_not_free now (only.uses ++ t.root ∷ []) t.root apart
-          (some (times t.root (only.uses ++ t.root ∷ [])) (times t.root only.uses) (removals.last_used t.root only.uses)),
-      removals.two_left did.1.news only.below false (child, everywhere) (without k rs) only.uses t.records only.subtree (exact told free t rs k a number did.0),
-      removals.tall_above did.1.news t.height child (without k rs) only.below only.uses only.is_height only.subtree,
-    )
-  where
-    some : (n m : ℕ) → n ≡ suc m → 1 ≤ n
-    some n m e = omega arith
+  pub two_only : (child : ℕ) (t : Tree) (rs : List Record) → t.height ≢ 0 → removals.UnderRoot k told now_told free now t (removed.Only child)
+      → length rs ≡ t.records → HasItsPages told free t rs → (now t.root ≡ false) × (2 ≤ t.records) × (1 ≤ t.height - 1)
+  two_only child t rs ne f number w =
+      let a = at_root told free t rs ne w in
+      let did = f true everywhere rs a.used a.can in
+      let only = did.1.left.1 in
+      let apart = apart_then did.1.pages did.1.news free now a.used (only.uses ++ t.root ∷ []) only.moves a.can.apart in (
+        used_not_free now (only.uses ++ t.root ∷ []) t.root apart
+            (some (times t.root (only.uses ++ t.root ∷ [])) (times t.root only.uses) (removals.last_used t.root only.uses)),
+        removals.two_left did.1.news only.below false (child, everywhere) (without k rs) only.uses t.records only.subtree
+            (exact told free t rs k a number did.0),
+        removals.tall_above did.1.news t.height child (without k rs) only.below only.uses only.is_height only.subtree,
+      )
+    where
+      some : (n m : ℕ) → n ≡ suc m → 1 ≤ n
+      some n m e = omega arith
 
 pub out_sound : (r : Result Bool Stop) (told : Option (List (List ℕ))) (free : ℕ → Bool) (t : Tree) (A B : Type 0) → IfErr r (λ e. A → B → IsSound e)
     → ((rs : List Record) → HasItsPages told free t rs → length rs ≡ t.records → A × B)

@@ -1,5 +1,6 @@
 -- A record put into a leaf, over a store's pages.
 use Rattle.std.proofs.Common.{◌≡◌, ℕ, zero, suc, ◌+◌, ◌-◌, ◌<◌, ◌≤◌, Bool, true, false, ◌&&◌, ◌||◌, nat_le, List, [], ◌∷◌, ◌++◌, length, take, drop, Option}
+use Rattle.std.proofs.lemmas.Bool.{and_from, and_parts}
 use Rattle.std.proofs.Common.{Some, slice_index_or, slice_set, refl, sym, ◌∙◌, ap, subst, arith, take-append-drop, length-append, length-take-le, length-drop}
 use Rattle.std.proofs.Common.{get_or-set_same}
 use Rattle.std.specs.Prelude.{slice_get}
@@ -25,7 +26,6 @@ use Rattle.quilt_btree.proofs.subtrees.Trees.{leaf_list, keys_append}
 use Rattle.quilt_btree.specs.Trees.{ReadsLeaf, Spells}
 use Rattle.quilt_btree.proofs.ways.Leaves.{put_gap, gap_any, found_any, same_le}
 use Rattle.quilt_btree.proofs.lists.Separators.{separated_at}
-use Rattle.quilt_btree.proofs.subtrees.Walks.{and_parts, and_both}
 use Rattle.quilt_btree.proofs.stores.Writes.{tells_at, TellsAll, all_told, both_written}
 
 keys_insert : (rs : List Record) (i : ℕ) (r : Record) → keys_of (insert rs i r) ≡ insert (keys_of rs) i r.key
@@ -37,7 +37,7 @@ keys_take : (p : Key → Bool) (rs : List Record) (i : ℕ) → list_all (λ s. 
 keys_take p rs zero h = refl
 keys_take p [] (suc i) h = refl
 keys_take p (s ∷ rs) (suc i) h = let t = and_parts (p s.key) (list_all (λ (s : Record). p s.key) (take i rs)) h in
-    and_both (p s.key) (list_all p (take i (keys_of rs))) t.0 (keys_take p rs i t.1)
+    and_from (p s.key) (list_all p (take i (keys_of rs))) t.0 (keys_take p rs i t.1)
 
 keys_drop : (p : Key → Bool) (rs : List Record) (i : ℕ) → list_all (λ s. p s.key) (drop i rs) ≡ true → list_all p (drop i (keys_of rs)) ≡ true
 keys_drop p rs zero h = map_all (λ (s : Record). s.key) p rs h
@@ -45,7 +45,8 @@ keys_drop p [] (suc i) h = refl
 keys_drop p (s ∷ rs) (suc i) h = keys_drop p rs i h
 
 -- a record at its gap keeps the order
-pub gap_ascends : (r : Record) (rs : List Record) (i : ℕ) → is_ascending (keys_of rs) ≡ true → IsGap r.key rs i → is_ascending (keys_of (insert rs i r)) ≡ true
+pub gap_ascends : (r : Record) (rs : List Record) (i : ℕ) → is_ascending (keys_of rs) ≡ true → IsGap r.key rs i
+    → is_ascending (keys_of (insert rs i r)) ≡ true
 gap_ascends r rs i a g =
     subst (λ l. is_ascending l ≡ true) (sym (keys_insert rs i r))
     (ascending_insert r.key (keys_of rs) i a (keys_take (λ l. is_lt (key_cmp l r.key)) rs i g.before) (keys_drop (λ l. is_lt (key_cmp r.key l)) rs i g.behind))
@@ -56,8 +57,8 @@ within_insert b r rs i low high w =
     let p = λ (k : Key). is_above b.low k && is_below b.high k in
     subst (λ l. are_within b l ≡ true) (sym (keys_insert rs i r))
     (all_append p (take i (keys_of rs)) (r.key ∷ drop i (keys_of rs)) (all_take p (keys_of rs) i w)
-    (and_both (is_above b.low r.key && is_below b.high r.key) (are_within b (drop i (keys_of rs)))
-    (and_both (is_above b.low r.key) (is_below b.high r.key) low high) (all_drop p (keys_of rs) i w)))
+    (and_from (is_above b.low r.key && is_below b.high r.key) (are_within b (drop i (keys_of rs)))
+    (and_from (is_above b.low r.key) (is_below b.high r.key) low high) (all_drop p (keys_of rs) i w)))
 
 length_insert : (rs : List Record) (i : ℕ) (r : Record) → i ≤ length rs → length (insert rs i r) ≡ suc (length rs)
 length_insert rs i r h =
@@ -78,42 +79,6 @@ pub record IsGrowing (told : Option (List (List ℕ))) (size page : ℕ) (r : Re
   pub inside : page < size
   pub many : TellsAll told size
   pub gap : IsGap r.key rs i
-
--- the one leaf was written
-pub leaf_done : (told now_told : Option (List (List ℕ))) (free now : ℕ → Bool) (size page i : ℕ) (r : Record) (bytes : List ℕ) (is_root : Bool)
-    (b : Bounds) (rs : List Record) (used : List ℕ)
-    → IsGrowing told size page r rs i → leaf_of bytes ≡ Some (insert rs i r) → Goes (λ old new. new ≡ slice_set old page bytes) told now_told → now ≡ free
-    → CanInsert told free size page 1 is_root b r.key rs used → DidInsert r told now_told free now page 1 is_root b rs used inserted.Done
-leaf_done told now_told free now size page i r bytes is_root b rs used is leaf wrote same can =
-    let pages = can.can_edit.pages in
-    let s = can.can_edit.subtree in
-    let written = tells_at (λ old new. new ≡ slice_set old page bytes) told now_told pages wrote can.can_edit.is_told in
-    let here : 1 ≤ times page used = subst (λ u. 1 ≤ times page u) (sym s.is_used) (first (times page (page ∷ [])) (times_here page [])) in
-    let is_put : insert rs i r ≡ put r rs = put_gap r rs i is.gap in
-    let grown : Becomes pages (slice_set pages page bytes) free free page 1 is_root b used (insert rs i r) = record {
-      uses = used;
-      subtree = record {
-        page = ap leaf_of (get_or-set_same pages page bytes [] (all_told told size page pages is.many can.can_edit.is_told is.inside)) ∙ leaf;
-        enough = more_enough is_root (length rs) (length (insert rs i r)) (length_insert rs i r is.gap.in_range) s.enough;
-        within = within_insert b r rs i can.low can.high s.within;
-        is_used = s.is_used;
-      };
-      moves = moves_written pages free used page bytes (used_account free used page here);
-    } in
-    record {
-      pages = pages;
-      news = slice_set pages page bytes;
-      was = can.can_edit.is_told;
-      is = written.1 ∙ ap Some written.2;
-      done = (
-        gap_any r.key rs i is.gap,
-        subst (λ l. Becomes pages (slice_set pages page bytes) free now page 1 is_root b used l) is_put
-            (subst (λ f. Becomes pages (slice_set pages page bytes) free f page 1 is_root b used (insert rs i r)) (sym same) grown),
-      );
-    }
-  where
-    first : (t : ℕ) → t ≡ 1 + 0 → 1 ≤ t
-    first t e = omega arith
 
 -- the leaf and the one to its right
 pub record AreHalves (r : Record) (rs : List Record) (i : ℕ) (left right : List ℕ) (key : Key) (start : Record) : Type 0 where
@@ -141,24 +106,25 @@ halves b xs n start a w h =
     let cut : keys_of xs ≡ keys_of (take n xs) ++ start.key ∷ keys_of rest.0 =
     ap keys_of (sym (take-append-drop n xs)) ∙ keys_append (take n xs) (drop n xs) ∙ ap (λ l. keys_of (take n xs) ++ keys_of l) rest.1 in
     let parts =
-    separated_at b (keys_of (take n xs)) start.key (keys_of rest.0) (subst (λ l. is_ascending l ≡ true) cut a) (subst (λ l. are_within b l ≡ true) cut w) in
+    separated_at b (keys_of (take n xs)) start.key (keys_of rest.0) (subst (λ l. is_ascending l ≡ true) cut a)
+    (subst (λ l. are_within b l ≡ true) cut w) in
     record {
       above = parts.above;
       below = parts.below;
       lower = parts.lower;
       higher = subst (λ l. are_within (record { low = Some start.key; high = b.high }) (keys_of l) ≡ true) (sym rest.1)
-          (and_both (is_le (key_cmp start.key start.key) && is_below b.high start.key)
+          (and_from (is_le (key_cmp start.key start.key) && is_below b.high start.key)
           (are_within (record { low = Some start.key; high = b.high }) (keys_of rest.0))
-          (and_both (is_le (key_cmp start.key start.key)) (is_below b.high start.key) (same_le start.key) parts.below) parts.higher);
+          (and_from (is_le (key_cmp start.key start.key)) (is_below b.high start.key) (same_le start.key) parts.below) parts.higher);
     }
 
 -- the leaf was split
-pub leaf_split : (told now_told : Option (List (List ℕ))) (free now : ℕ → Bool) (size page new i : ℕ) (r : Record) (left right : List ℕ) (key : Key)
-    (start : Record) (is_root : Bool) (b : Bounds) (rs : List Record) (used : List ℕ)
+pub leaf_split : {told : Option (List (List ℕ))} (now_told : Option (List (List ℕ))) {free now : ℕ → Bool} {size page new : ℕ} (i : ℕ) (r : Record)
+    (left right : List ℕ) (key : Key) (start : Record) {is_root : Bool} {b : Bounds} {rs : List Record} {used : List ℕ}
     → IsGrowing told size page r rs i → AreHalves r rs i left right key start → new < size → free new ≡ true → FreesOnly new false free now
-    → Goes (λ old now. now ≡ slice_set (slice_set old page left) new right) told now_told
-    → CanInsert told free size page 1 is_root b r.key rs used → DidInsert r told now_told free now page 1 is_root b rs used (inserted.Split key new)
-leaf_split told now_told free now size page new i r left right key start is_root b rs used is h inside_new t f wrote can =
+    → Goes (λ old now. now ≡ slice_set (slice_set old page left) new right) told now_told → CanInsert told free size page 1 is_root b r.key rs used
+    → DidInsert r told now_told free now page 1 is_root b rs used (inserted.Split key new)
+leaf_split {told = told} now_told {free = free} {now = now} {size = size} {page = page} {new = new} i r left right key start {b = b} {rs = rs} {used = used} is h inside_new t f wrote can =
     let pages = can.can_edit.pages in
     let told_is = can.can_edit.is_told in
     let s = can.can_edit.subtree in
@@ -208,29 +174,64 @@ leaf_split told now_told free now size page new i r left right key start is_root
     enough_right : (n t : ℕ) → n ≡ 145 → t ≡ n - 72 → 72 ≤ t
     enough_right n t e f = omega arith
 
--- the key is there
-pub leaf_there : (told now_told : Option (List (List ℕ))) (free now : ℕ → Bool) (size page i : ℕ) (r : Record) (leaf : List Record) (is_root : Bool)
-    (b : Bounds) (rs : List Record) (used : List ℕ)
-    → now_told ≡ told → leaf ≡ rs → IsFound r.key leaf i
-    → CanInsert told free size page 1 is_root b r.key rs used → DidInsert r told now_told free now page 1 is_root b rs used inserted.There
-leaf_there told now_told free now size page i r leaf is_root b rs used t same found can = record {
-  pages = can.can_edit.pages;
-  news = can.can_edit.pages;
-  was = can.can_edit.is_told;
-  is = t ∙ can.can_edit.is_told;
-  done = subst (λ l. list_any (has_key r.key) l ≡ true) same (found_any r.key leaf i found.found found found.here);
-}
+module _ (told now_told : Option (List (List ℕ))) (free now : ℕ → Bool) (size page i : ℕ) (r : Record) (is_root : Bool) (b : Bounds)
+    (rs : List Record) (used : List ℕ) where
+  -- the one leaf was written
+  pub leaf_done : (bytes : List ℕ) → IsGrowing told size page r rs i → leaf_of bytes ≡ Some (insert rs i r)
+      → Goes (λ old new. new ≡ slice_set old page bytes) told now_told → now ≡ free → CanInsert told free size page 1 is_root b r.key rs used
+      → DidInsert r told now_told free now page 1 is_root b rs used inserted.Done
+  leaf_done bytes is leaf wrote same can =
+      let pages = can.can_edit.pages in
+      let s = can.can_edit.subtree in
+      let written = tells_at (λ old new. new ≡ slice_set old page bytes) told now_told pages wrote can.can_edit.is_told in
+      let here : 1 ≤ times page used = subst (λ u. 1 ≤ times page u) (sym s.is_used) (first (times page (page ∷ [])) (times_here page [])) in
+      let is_put : insert rs i r ≡ put r rs = put_gap r rs i is.gap in
+      let grown : Becomes pages (slice_set pages page bytes) free free page 1 is_root b used (insert rs i r) = record {
+        uses = used;
+        subtree = record {
+          page = ap leaf_of (get_or-set_same pages page bytes [] (all_told told size page pages is.many can.can_edit.is_told is.inside)) ∙ leaf;
+          enough = more_enough is_root (length rs) (length (insert rs i r)) (length_insert rs i r is.gap.in_range) s.enough;
+          within = within_insert b r rs i can.low can.high s.within;
+          is_used = s.is_used;
+        };
+        moves = moves_written pages free used page bytes (used_account free used page here);
+      } in
+      record {
+        pages = pages;
+        news = slice_set pages page bytes;
+        was = can.can_edit.is_told;
+        is = written.1 ∙ ap Some written.2;
+        done = (
+          gap_any r.key rs i is.gap,
+          subst (λ l. Becomes pages (slice_set pages page bytes) free now page 1 is_root b used l) is_put
+              (subst (λ f. Becomes pages (slice_set pages page bytes) free f page 1 is_root b used (insert rs i r)) (sym same) grown),
+        );
+      }
+    where
+      first : (t : ℕ) → t ≡ 1 + 0 → 1 ≤ t
+      first t e = omega arith
 
--- a leaf that was read is the one that the subtree has
-pub leaf_read : (told : Option (List (List ℕ))) (free : ℕ → Bool) (size page : ℕ) (k : Key) (leaf : List Record) (is_root : Bool) (b : Bounds)
-    (rs : List Record) (used : List ℕ)
-    → ReadsLeaf told page leaf → CanInsert told free size page 1 is_root b k rs used → leaf ≡ rs
-leaf_read told free size page k leaf is_root b rs used reads can =
-    let there = reads can.can_edit.pages can.can_edit.is_told in
-    let mine = can.can_edit.subtree.page in
-    cc
+  -- the key is there
+  pub leaf_there : (leaf : List Record) → now_told ≡ told → leaf ≡ rs → IsFound r.key leaf i → CanInsert told free size page 1 is_root b r.key rs used
+      → DidInsert r told now_told free now page 1 is_root b rs used inserted.There
+  leaf_there leaf t same found can = record {
+    pages = can.can_edit.pages;
+    news = can.can_edit.pages;
+    was = can.can_edit.is_told;
+    is = t ∙ can.can_edit.is_told;
+    done = subst (λ l. list_any (has_key r.key) l ≡ true) same (found_any r.key leaf i found.found found found.here);
+  }
 
-pub leaf_can_spell : (told : Option (List (List ℕ))) (free : ℕ → Bool) (size page : ℕ) (k : Key) (is_root : Bool) (b : Bounds) (rs : List Record)
-    (used : List ℕ) → CanInsert told free size page 1 is_root b k rs used → Spells told page 1 rs
-leaf_can_spell told free size page k is_root b rs used can =
-    record { pages = can.can_edit.pages; is_told = can.can_edit.is_told; is_root = is_root; bounds = b; used = used; subtree = can.can_edit.subtree }
+module _ (told : Option (List (List ℕ))) (free : ℕ → Bool) (size page : ℕ) (k : Key) where
+  -- a leaf that was read is the one that the subtree has
+  pub leaf_read : (leaf : List Record) (is_root : Bool) (b : Bounds) (rs : List Record) (used : List ℕ) → ReadsLeaf told page leaf
+      → CanInsert told free size page 1 is_root b k rs used → leaf ≡ rs
+  leaf_read leaf is_root b rs used reads can =
+      let there = reads can.can_edit.pages can.can_edit.is_told in
+      let mine = can.can_edit.subtree.page in
+      cc
+
+  pub leaf_can_spell : (is_root : Bool) (b : Bounds) (rs : List Record) (used : List ℕ) → CanInsert told free size page 1 is_root b k rs used
+      → Spells told page 1 rs
+  leaf_can_spell is_root b rs used can =
+      record { pages = can.can_edit.pages; is_told = can.can_edit.is_told; is_root = is_root; bounds = b; used = used; subtree = can.can_edit.subtree }

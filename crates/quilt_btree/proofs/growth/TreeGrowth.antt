@@ -1,5 +1,6 @@
 -- A record put into the whole tree.
 use Rattle.std.proofs.Common.{◌≡◌, ◌≢◌, ℕ, zero, suc, ◌+◌, ◌<◌, ◌≤◌, Bool, true, false, ◌&&◌, not, nat_le, cond, List, [], ◌∷◌, ◌++◌, length, Option, Some}
+use Rattle.std.proofs.lemmas.Bool.{and_from}
 use Rattle.std.proofs.Common.{None, slice_set, refl, sym, ◌∙◌, ap, subst, arith, length-append, get_or-set_same}
 use Rattle.std.specs.Prelude.{nat_lt, if◌then◌else◌}
 use Rattle.std.specs.List.{list_any}
@@ -32,7 +33,7 @@ use Rattle.quilt_btree.proofs.stores.Moves.{AreApart, moves_then, moves_taken, m
 use Rattle.quilt_btree.proofs.rows.Places.{row_one}
 use Rattle.quilt_btree.proofs.stores.Room.{count_left}
 use Rattle.quilt_btree.proofs.rows.Splices.{parent_written}
-use Rattle.quilt_btree.proofs.subtrees.Walks.{Found, walk_found, walk_again, and_both}
+use Rattle.quilt_btree.proofs.subtrees.Walks.{Found, walk_found, walk_again}
 use Rattle.quilt_btree.proofs.subtrees.Whole.{no_records}
 use Rattle.quilt_btree.proofs.stores.Writes.{tells_at, if_some_at, TellsAll, all_told}
 
@@ -80,29 +81,6 @@ at_most_one free used size inside once balance p = by_case (free p) refl
     by_case true e = let range = inside p e in same (account free used p) (balance p range.0 range.1)
     by_case false e = nothing (cond {A = ℕ} (free p) 1 0) (times p used) (ap (λ b. cond {A = ℕ} b 1 0) e) (once p)
 
-pub whole_from : (told : Option (List (List ℕ))) (free : ℕ → Bool) (size : ℕ) (t : Tree) (rs : List Record) → IsRooted size t → 1 ≤ t.height
-    → 16 ≤ size → FreeIn free size → IsWhole told free size t rs → IsWholeFrom told free size t.root t.height rs
-whole_from told free size t rs rooted some least inside w =
-    let found = root_found w.tree.pages t.root t.height rs w.tree.visited some w.tree.walk in
-    let same : w.tree.visited ≡ found.used = found.is_now ∙ append-nil found.used in
-    let balance : (p : ℕ) → 1 ≤ p → p < size → account free found.used p ≡ 1 = λ p low high. subst (λ u. account free u p ≡ 1) same (w.balance p low high) in
-    let dense = root_is_dense w.tree.pages t.height (t.root, everywhere) rs found.used rooted.height found.spells in
-    let few : length rs ≤ quota size = subst (λ n. n ≤ quota size) (sym w.number) rooted.records in
-    let one : 1 ≤ size = omega arith in
-    record {
-      pages = w.tree.pages;
-      is_told = w.tree.is_told;
-      used = found.used;
-      subtree = found.spells;
-      balance = balance;
-      apart = at_most_one free found.used size inside (once_from_fresh found.used found.fresh) balance;
-      left = enough size (count_free free size) (length found.used) (count_left free found.used size one balance)
-          (pages_left size (length found.used) (length rs) least few dense);
-    }
-  where
-    enough : (s c u : ℕ) → s ≤ c + u + 1 → u + 6 < s → 6 ≤ c
-    enough s c u e f = omega arith
-
 -- a subtree whose pages are apart is a tree
 unfoldable pub tree_again : (news : List (List ℕ)) (now_told : Option (List (List ℕ))) (now : ℕ → Bool) (root height records : ℕ)
     (uses : List ℕ) (all : List Record)
@@ -119,29 +97,53 @@ tree_again news now_told now root height records uses all is some s apart = reco
     once c t h = omega arith
 
 -- A subtree that has come of a whole tree by an edit is the whole tree.
-pub whole_again : (pages news : List (List ℕ)) (now_told : Option (List (List ℕ))) (free now : ℕ → Bool) (size root height records : ℕ)
-    (used uses : List ℕ) (all : List Record)
-    → now_told ≡ Some news → 1 ≤ height → Subtree news height true (root, everywhere) all uses → Moves pages news free now used uses
-    → AreApart free used → ((p : ℕ) → 1 ≤ p → p < size → account free used p ≡ 1) → length all ≡ records
+pub whole_again : {pages news : List (List ℕ)} {now_told : Option (List (List ℕ))} {free now : ℕ → Bool} (size root height records : ℕ)
+    {used uses : List ℕ} (all : List Record) → now_told ≡ Some news → 1 ≤ height → Subtree news height true (root, everywhere) all uses
+    → Moves pages news free now used uses → AreApart free used → ((p : ℕ) → 1 ≤ p → p < size → account free used p ≡ 1) → length all ≡ records
     → IsWhole now_told now size (record { root = root; height = height; records = records }) all
 unfolding tree_again
-whole_again pages news now_told free now size root height records used uses all is some s m apart balance number = record {
-  tree = tree_again news now_told now root height records uses all is some s (apart_then pages news free now used uses m apart);
-  number = number;
-  balance = λ p low high. ap (λ u. account now u p) (append-nil uses) ∙ m.balance p ∙ balance p low high;
-}
+whole_again {pages = pages} {news = news} {now_told = now_told} {free = free} {now = now} size root height records {used = used} {uses = uses} all is some s m apart
+    balance number = record {
+      tree = tree_again news now_told now root height records uses all is some s (apart_then pages news free now used uses m apart);
+      number = number;
+      balance = λ p low high. ap (λ u. account now u p) (append-nil uses) ∙ m.balance p ∙ balance p low high;
+    }
 
-pub whole_can : (told : Option (List (List ℕ))) (free : ℕ → Bool) (size root height : ℕ) (k : Key) (rs : List Record) → height ≤ 3
-    → (x : IsWholeFrom told free size root height rs) → CanInsert told free size root height true everywhere k rs x.used
-whole_can told free size root height k rs low x = record {
-  can_edit = record { pages = x.pages; is_told = x.is_told; subtree = x.subtree; apart = x.apart };
-  low = refl;
-  high = refl;
-  room = enough height (count_free free size) low x.left;
-}
-  where
-    enough : (h c : ℕ) → h ≤ 3 → 6 ≤ c → h ≤ c
-    enough h c e f = omega arith
+module _ (told : Option (List (List ℕ))) (free : ℕ → Bool) (size : ℕ) where
+  pub whole_from : (t : Tree) (rs : List Record) → IsRooted size t → 1 ≤ t.height → 16 ≤ size → FreeIn free size → IsWhole told free size t rs
+      → IsWholeFrom told free size t.root t.height rs
+  whole_from t rs rooted some least inside w =
+      let found = root_found w.tree.pages t.root t.height rs w.tree.visited some w.tree.walk in
+      let same : w.tree.visited ≡ found.used = found.is_now ∙ append-nil found.used in
+      let balance : (p : ℕ) → 1 ≤ p → p < size → account free found.used p ≡ 1 = λ p low high. subst (λ u. account free u p ≡ 1) same (w.balance p low high) in
+      let dense = root_is_dense w.tree.pages t.height (t.root, everywhere) rs found.used rooted.height found.spells in
+      let few : length rs ≤ quota size = subst (λ n. n ≤ quota size) (sym w.number) rooted.records in
+      let one : 1 ≤ size = omega arith in
+      record {
+        pages = w.tree.pages;
+        is_told = w.tree.is_told;
+        used = found.used;
+        subtree = found.spells;
+        balance = balance;
+        apart = at_most_one free found.used size inside (once_from_fresh found.used found.fresh) balance;
+        left = enough size (count_free free size) (length found.used) (count_left free found.used size one balance)
+            (pages_left size (length found.used) (length rs) least few dense);
+      }
+    where
+      enough : (s c u : ℕ) → s ≤ c + u + 1 → u + 6 < s → 6 ≤ c
+      enough s c u e f = omega arith
+
+  pub whole_can : (root height : ℕ) (k : Key) (rs : List Record) → height ≤ 3 → (x : IsWholeFrom told free size root height rs)
+      → CanInsert told free size root height true everywhere k rs x.used
+  whole_can root height k rs low x = record {
+    can_edit = record { pages = x.pages; is_told = x.is_told; subtree = x.subtree; apart = x.apart };
+    low = refl;
+    high = refl;
+    room = enough height (count_free free size) low x.left;
+  }
+    where
+      enough : (h c : ℕ) → h ≤ 3 → 6 ≤ c → h ≤ c
+      enough h c e f = omega arith
 
 put_step : (r s : Record) (rs : List Record) (b : Bool) → length (put r rs) ≡ suc (length rs)
     → length (if b then r ∷ s ∷ rs else s ∷ put r rs) ≡ suc (suc (length rs))
@@ -184,64 +186,64 @@ few_records size records rs is room most = below size (length rs) records is roo
     below : (n l m : ℕ) → l ≡ m → m < quota n → n ≤ 30000 → l < 2322576
     below n l m e h most = omega arith
 
-pub sound_root : (e : Stop) (told : Option (List (List ℕ))) (free : ℕ → Bool) (size : ℕ) (t : Tree) (k : Key) (rs : List Record)
+pub sound_root : (e : Stop) {told : Option (List (List ℕ))} {free : ℕ → Bool} {size : ℕ} {t : Tree} (k : Key) {rs : List Record}
     → IsInserting told free size t → t.height ≢ 0
     → ((is_root : Bool) (b : Bounds) (rs : List Record) (used : List ℕ) → CanInsert told free size t.root t.height is_root b k rs used → AreFew rs → IsSound e)
     → IsWhole told free size t rs → IsSound e
-sound_root e told free size t k rs i ne f w =
+sound_root e {told = told} {free = free} {size = size} {t = t} k {rs = rs} i ne f w =
     let x = insert_from told free size t rs i ne w in
-    f true everywhere rs x.used (whole_can told free size t.root t.height k rs i.rooted.height x) (few_records size t.records rs w.number i.room i.most)
+    f true everywhere rs x.used (whole_can told free size t.root t.height k rs i.rooted.height x)
+    (few_records size t.records rs w.number i.room i.most)
 
-pub whole_there : (r : Record) (told now_told : Option (List (List ℕ))) (free now : ℕ → Bool) (size : ℕ) (t : Tree) (rs : List Record)
-    → IsInserting told free size t → t.height ≢ 0 → UnderRoot r told now_told free now size t inserted.There
-    → now_told ≡ told → now ≡ free → IsWhole told free size t rs → (false ≡ not (list_any (has_key r.key) rs)) × IsWhole now_told now size t rs
-whole_there r told now_told free now size t rs i ne f same same_free w =
-    let x = insert_from told free size t rs i ne w in
-    let did = f true everywhere rs x.used (whole_can told free size t.root t.height r.key rs i.rooted.height x) in
-    (sym (ap not did.done), subst (λ o. IsWhole o now size t rs) (sym same) (subst (λ g. IsWhole told g size t rs) (sym same_free) w))
+module _ (r : Record) (told now_told : Option (List (List ℕ))) (free now : ℕ → Bool) (size : ℕ) where
+  pub whole_there : (t : Tree) (rs : List Record) → IsInserting told free size t → t.height ≢ 0
+      → UnderRoot r told now_told free now size t inserted.There → now_told ≡ told → now ≡ free → IsWhole told free size t rs
+      → (false ≡ not (list_any (has_key r.key) rs)) × IsWhole now_told now size t rs
+  whole_there t rs i ne f same same_free w =
+      let x = insert_from told free size t rs i ne w in
+      let did = f true everywhere rs x.used (whole_can told free size t.root t.height r.key rs i.rooted.height x) in
+      (sym (ap not did.done), subst (λ o. IsWhole o now size t rs) (sym same) (subst (λ g. IsWhole told g size t rs) (sym same_free) w))
 
-pub whole_done : (r : Record) (told now_told : Option (List (List ℕ))) (free now : ℕ → Bool) (size : ℕ) (t : Tree) (rs : List Record)
-    → IsInserting told free size t → t.height ≢ 0 → UnderRoot r told now_told free now size t inserted.Done
-    → IsWhole told free size t rs → (true ≡ not (list_any (has_key r.key) rs))
-    × IsWhole now_told now size (record { root = t.root; height = t.height; records = t.records + 1 }) (put r rs)
-whole_done r told now_told free now size t rs i ne f w =
-    let x = insert_from told free size t rs i ne w in
-    let did = f true everywhere rs x.used (whole_can told free size t.root t.height r.key rs i.rooted.height x) in
-    let grown = did.done.1 in (
-      sym (ap not did.done.0),
-      whole_again did.pages did.news now_told free now size t.root t.height (t.records + 1) x.used grown.uses (put r rs) did.is
-          (some_height t.height ne) grown.subtree grown.moves x.apart x.balance (more_records r rs t.records w.number),
-    )
+  pub whole_done : (t : Tree) (rs : List Record) → IsInserting told free size t → t.height ≢ 0
+      → UnderRoot r told now_told free now size t inserted.Done → IsWhole told free size t rs
+      → (true ≡ not (list_any (has_key r.key) rs)) × IsWhole now_told now size (record { root = t.root; height = t.height; records = t.records + 1 })
+      (put r rs)
+  whole_done t rs i ne f w =
+      let x = insert_from told free size t rs i ne w in
+      let did = f true everywhere rs x.used (whole_can told free size t.root t.height r.key rs i.rooted.height x) in
+      let grown = did.done.1 in (
+        sym (ap not did.done.0),
+        whole_again size t.root t.height (t.records + 1) (put r rs) did.is
+            (some_height t.height ne) grown.subtree grown.moves x.apart x.balance (more_records r rs t.records w.number),
+      )
 
--- a root of the greatest height is not split within the quota
-pub not_split : (r : Record) (told now_told : Option (List (List ℕ))) (free now : ℕ → Bool) (size : ℕ) (t : Tree) (rs : List Record) (key : Key)
-    (right : ℕ) → IsInserting told free size t → t.height ≡ 3
-    → UnderRoot r told now_told free now size t (inserted.Split key right) → IsWhole told free size t rs → ⊥
-not_split r told now_told free now size t rs key right i tall f w =
-    let ne : t.height ≢ 0 = omega arith in
-    let x = insert_from told free size t rs i ne w in
-    let did = f true everywhere rs x.used (whole_can told free size t.root t.height r.key rs i.rooted.height x) in
-    let separated = did.done.1 in
-    let left = third_filled did.news (t.root, record { low = None; high = Some key }) separated.first separated.first_uses
-    (subst (λ h. Subtree did.news h false (t.root, record { low = None; high = Some key }) separated.first separated.first_uses) tall separated.is_left) in
-    let right = third_filled did.news (right, record { low = Some key; high = None }) separated.rest separated.rest_uses
-    (subst (λ h. Subtree did.news h false (right, record { low = Some key; high = None }) separated.rest separated.rest_uses) tall separated.is_right) in
-    too_many size (length (put r rs)) (length separated.first) (length separated.rest) t.records
-    (ap length separated.records ∙ length-append separated.first separated.rest) (more_records r rs t.records w.number) left right i.room i.most
-  where
-    too_many : (n p a b m : ℕ) → p ≡ a + b → p ≡ m + 1 → 1161288 ≤ a → 1161288 ≤ b → m < quota n → n ≤ 30000 → ⊥
-    too_many n p a b m e f g h few most = omega arith
+  -- a root of the greatest height is not split within the quota
+  pub not_split : (t : Tree) (rs : List Record) (key : Key) (right : ℕ) → IsInserting told free size t → t.height ≡ 3
+      → UnderRoot r told now_told free now size t (inserted.Split key right) → IsWhole told free size t rs → ⊥
+  not_split t rs key right i tall f w =
+      let ne : t.height ≢ 0 = omega arith in
+      let x = insert_from told free size t rs i ne w in
+      let did = f true everywhere rs x.used (whole_can told free size t.root t.height r.key rs i.rooted.height x) in
+      let separated = did.done.1 in
+      let left = third_filled did.news (t.root, record { low = None; high = Some key }) separated.first separated.first_uses
+      (subst (λ h. Subtree did.news h false (t.root, record { low = None; high = Some key }) separated.first separated.first_uses) tall separated.is_left) in
+      let right = third_filled did.news (right, record { low = Some key; high = None }) separated.rest separated.rest_uses
+      (subst (λ h. Subtree did.news h false (right, record { low = Some key; high = None }) separated.rest separated.rest_uses) tall separated.is_right) in
+      too_many size (length (put r rs)) (length separated.first) (length separated.rest) t.records
+      (ap length separated.records ∙ length-append separated.first separated.rest) (more_records r rs t.records w.number) left right i.room i.most
+    where
+      too_many : (n p a b m : ℕ) → p ≡ a + b → p ≡ m + 1 → 1161288 ≤ a → 1161288 ≤ b → m < quota n → n ≤ 30000 → ⊥
+      too_many n p a b m e f g h few most = omega arith
 
--- a page is left for a new root
-pub root_room : (r : Record) (told now_told : Option (List (List ℕ))) (free now : ℕ → Bool) (size mid_size : ℕ) (t : Tree) (rs : List Record)
-    → IsInserting told free size t → t.height ≢ 0 → mid_size ≡ size
-    → count_free free size ≤ count_free now size + t.height → IsWhole told free size t rs → 0 < count_free now mid_size
-root_room r told now_told free now size mid_size t rs i ne same few w =
-    let x = insert_from told free size t rs i ne w in
-    subst (λ n. 0 < count_free now n) (sym same) (left (count_free free size) (count_free now size) t.height few x.left i.rooted.height)
-  where
-    left : (c d h : ℕ) → c ≤ d + h → 6 ≤ c → h ≤ 3 → 0 < d
-    left c d h e f g = omega arith
+  -- a page is left for a new root
+  pub root_room : (mid_size : ℕ) (t : Tree) (rs : List Record) → IsInserting told free size t → t.height ≢ 0 → mid_size ≡ size
+      → count_free free size ≤ count_free now size + t.height → IsWhole told free size t rs → 0 < count_free now mid_size
+  root_room mid_size t rs i ne same few w =
+      let x = insert_from told free size t rs i ne w in
+      subst (λ n. 0 < count_free now n) (sym same) (left (count_free free size) (count_free now size) t.height few x.left i.rooted.height)
+    where
+      left : (c d h : ℕ) → c ≤ d + h → 6 ≤ c → h ≤ 3 → 0 < d
+      left c d h e f g = omega arith
 
 -- a new root was written above the two pages that the root has become
 pub record IsNewRoot (t : Tree) (mid_told now_told : Option (List (List ℕ))) (mid now : ℕ → Bool) (size : ℕ) (key : Key) (right new : ℕ)
@@ -255,7 +257,7 @@ pub record IsNewRoot (t : Tree) (mid_told now_told : Option (List (List ℕ))) (
 
 two_pages : (n size a b : ℕ) → n ≡ size → (1 ≤ a) × (a < size) → (1 ≤ b) × (b < size) → are_pages n (a ∷ b ∷ []) ≡ true
 two_pages n size a b e h g =
-    and_both (nat_le 1 a && nat_lt a n) ((nat_le 1 b && nat_lt b n) && true) (one a h) (and_both (nat_le 1 b && nat_lt b n) true (one b g) refl)
+    and_from (nat_le 1 a && nat_lt a n) ((nat_le 1 b && nat_lt b n) && true) (one a h) (and_from (nat_le 1 b && nat_lt b n) true (one b g) refl)
   where
     test : (a n size : ℕ) → n ≡ size → 1 ≤ a → a < size → (nat_le 1 a && nat_lt a n) ≡ true
     test a n size e low high = grind (arith, nat_tests)
@@ -279,19 +281,20 @@ pub record IsRegrown (pages : List (List ℕ)) (now_told : Option (List (List �
   pub subtree : Subtree news height true (root, everywhere) all uses
   pub moves : Moves pages news free now used uses
 
-pub regrown_split : (told mid_told now_told : Option (List (List ℕ))) (pages mids : List (List ℕ)) (free mid now : ℕ → Bool) (size : ℕ) (t : Tree)
-    (all : List Record) (used : List ℕ) (key : Key) (right new : ℕ) (bytes : List ℕ) (h : ℕ)
-    → IsRooted size t → TellsAll told size → t.height ≡ suc h → told ≡ Some pages → mid_told ≡ Some mids
-    → Separated pages mids free mid t.root t.height everywhere used all key right → AreApart free used
+pub regrown_split : {told mid_told now_told : Option (List (List ℕ))} {pages mids : List (List ℕ)} {free mid now : ℕ → Bool} {size : ℕ} {t : Tree}
+    {all : List Record} {used : List ℕ} {key : Key} {right new : ℕ} {bytes : List ℕ} (h : ℕ) → IsRooted size t → TellsAll told size → t.height ≡ suc h
+    → told ≡ Some pages → mid_told ≡ Some mids → Separated pages mids free mid t.root t.height everywhere used all key right → AreApart free used
     → IsNewRoot t mid_told now_told mid now size key right new bytes → IsRegrown pages now_told free now new (t.height + 1) used all
-regrown_split told mid_told now_told pages mids free mid now size t all used key right new bytes h rooted many tall was mid_is separated apart is =
+regrown_split {told = told} {mid_told = mid_told} {now_told = now_told} {pages = pages} {mids = mids} {free = free} {mid = mid} {now = now} {size = size} {t = t} {all = all} {used = used} {key = key} {right = right} {new = new} {bytes = bytes} h rooted many tall was mid_is separated apart is =
     let some : 1 ≤ t.height = omega arith in
     let S = Subtree mids (suc h) false in
     let U = separated.rest_uses ++ separated.first_uses in
     let inner : Inner = record { height = t.height + 1; children = t.root ∷ right ∷ []; keys = key ∷ [] } in
     let taller : t.height + 1 ≡ suc (suc h) = omega arith in
-    let left = subst (λ n. Subtree mids n false (t.root, record { low = None; high = Some key }) separated.first separated.first_uses) tall separated.is_left in
-    let last = subst (λ n. Subtree mids n false (right, record { low = Some key; high = None }) separated.rest separated.rest_uses) tall separated.is_right in
+    let left = subst (λ n. Subtree mids n false (t.root, record { low = None; high = Some key }) separated.first separated.first_uses) tall
+    separated.is_left in
+    let last = subst (λ n. Subtree mids n false (right, record { low = Some key; high = None }) separated.rest separated.rest_uses) tall
+    separated.is_right in
     let row : Row S (bounded (t.root ∷ right ∷ []) (key ∷ []) everywhere) all U = record {
       first = separated.first;
       rest = separated.rest;
@@ -319,26 +322,9 @@ regrown_split told mid_told now_told pages mids free mid now size t all used key
       is = written.1 ∙ ap Some written.2;
       uses = grown.uses;
       subtree = subst (λ n. Subtree news n true (new, everywhere) all grown.uses) (sym taller) grown.subtree;
-      moves = moves_then pages mids news free now now used (U ++ new ∷ []) grown.uses
-          (moves_then pages mids mids free mid now used U (U ++ new ∷ []) separated.moves taken) grown.moves;
+      moves = moves_then
+          (moves_then separated.moves taken) grown.moves;
     }
-
-pub whole_split : (r : Record) (told mid_told now_told : Option (List (List ℕ))) (free mid now : ℕ → Bool) (size : ℕ) (t : Tree) (rs : List Record)
-    (key : Key) (right new : ℕ) (bytes : List ℕ) (h : ℕ) → IsInserting told free size t → t.height ≡ suc h
-    → UnderRoot r told mid_told free mid size t (inserted.Split key right) → IsNewRoot t mid_told now_told mid now size key right new bytes
-    → IsWhole told free size t rs → (true ≡ not (list_any (has_key r.key) rs))
-    × IsWhole now_told now size (record { root = new; height = t.height + 1; records = t.records + 1 }) (put r rs)
-whole_split r told mid_told now_told free mid now size t rs key right new bytes h i tall f is w =
-    let ne : t.height ≢ 0 = omega arith in
-    let x = insert_from told free size t rs i ne w in
-    let did = f true everywhere rs x.used (whole_can told free size t.root t.height r.key rs i.rooted.height x) in
-    let grown = regrown_split told mid_told now_told did.pages did.news free mid now size t
-    (put r rs) x.used key right new bytes h i.rooted i.many tall did.was did.is did.done.1 x.apart is in
-    let some_now : 1 ≤ t.height + 1 = omega arith in (
-      sym (ap not did.done.0),
-      whole_again did.pages grown.news now_told free now size new (t.height + 1) (t.records + 1) x.used grown.uses
-          (put r rs) grown.is some_now grown.subtree grown.moves x.apart x.balance (more_records r rs t.records w.number),
-    )
 
 -- the first record of a tree
 pub empty_room : (told : Option (List (List ℕ))) (free : ℕ → Bool) (size : ℕ) (t : Tree) (rs : List Record) → IsInserting told free size t
@@ -353,36 +339,51 @@ empty_room told free size t rs i none w =
     enough : (s c u : ℕ) → 16 ≤ s → u ≡ 0 → s ≤ c + u + 1 → 0 < c
     enough s c u e f g = omega arith
 
-pub whole_first : (r : Record) (told now_told : Option (List (List ℕ))) (free now : ℕ → Bool) (size : ℕ) (t : Tree) (rs : List Record) (new : ℕ)
-    (bytes : List ℕ) → IsInserting told free size t → t.height ≡ 0
-    → leaf_of bytes ≡ Some (r ∷ []) → (1 ≤ new) × (new < size) → free new ≡ true → FreesOnly new false free now
-    → Goes (λ old news. news ≡ slice_set old new bytes) told now_told
-    → IsWhole told free size t rs → (true ≡ not (list_any (has_key r.key) rs))
-    × IsWhole now_told now size (record { root = new; height = 1; records = 1 }) (put r rs)
-unfolding walk_of
-whole_first r told now_told free now size t rs new bytes i none leaf range was_free taken wrote w =
-    let h = subst (λ n. walk_of w.tree.pages t.root n ≡ Whole rs w.tree.visited) none w.tree.walk in
-    let no_pages : w.tree.visited ≡ [] = cc in
-    let no_rs : rs ≡ [] = no_records told t rs none w.tree in
-    let pages = w.tree.pages in
-    let written = tells_at (λ old news. news ≡ slice_set old new bytes) told now_told pages wrote w.tree.is_told in
-    let news = slice_set pages new bytes in
-    let inside = all_told told size new pages i.many w.tree.is_told range.1 in
-    let balance : (p : ℕ) → 1 ≤ p → p < size → account free [] p ≡ 1 = λ p low high. subst (λ u. account free u p ≡ 1) no_pages (w.balance p low high) in
-    let apart = at_most_one free [] size i.inside (λ p. nothing) balance in
-    let one : 1 ≤ 1 = omega arith in
-    let here : 1 ≤ times new (new ∷ []) = first (times new (new ∷ [])) (times_here new []) in
-    let moves = moves_then pages pages news free now now [] (new ∷ []) (new ∷ []) (moves_taken pages free now [] new was_free taken)
-    (moves_written pages now (new ∷ []) new bytes (used_account now (new ∷ []) new here)) in (
-      sym (ap (λ l. not (list_any (has_key r.key) l)) no_rs),
-      whole_again pages news now_told free now size new 1 1 [] (new ∷ []) (put r rs) (written.1 ∙ ap Some written.2) one
-          (subst (λ l. Subtree news 1 true (new, everywhere) (put r l) (new ∷ [])) (sym no_rs)
-          (record { page = ap leaf_of (get_or-set_same pages new bytes [] inside) ∙ leaf; enough = refl; within = refl; is_used = refl }))
-          moves apart balance (ap (λ l. length (put r l)) no_rs),
-    )
-  where
-    nothing : 0 ≤ 1
-    nothing = omega arith
+module _ (r : Record) (told now_told : Option (List (List ℕ))) (free now : ℕ → Bool) (size : ℕ) (t : Tree) (rs : List Record) (new : ℕ)
+    (bytes : List ℕ) (i : IsInserting told free size t) (w : IsWhole told free size t rs) where
+  pub whole_split : (mid_told : Option (List (List ℕ))) (mid : ℕ → Bool) (key : Key) (right h : ℕ) → t.height ≡ suc h
+      → UnderRoot r told mid_told free mid size t (inserted.Split key right) → IsNewRoot t mid_told now_told mid now size key right new bytes
+      → (true ≡ not (list_any (has_key r.key) rs)) × IsWhole now_told now size (record { root = new; height = t.height + 1; records = t.records + 1 })
+      (put r rs)
+  whole_split mid_told mid key right h tall f is =
+      let ne : t.height ≢ 0 = omega arith in
+      let x = insert_from told free size t rs i ne w in
+      let did = f true everywhere rs x.used (whole_can told free size t.root t.height r.key rs i.rooted.height x) in
+      let grown = regrown_split
+      h i.rooted i.many tall did.was did.is did.done.1 x.apart is in
+      let some_now : 1 ≤ t.height + 1 = omega arith in (
+        sym (ap not did.done.0),
+        whole_again size new (t.height + 1) (t.records + 1)
+            (put r rs) grown.is some_now grown.subtree grown.moves x.apart x.balance (more_records r rs t.records w.number),
+      )
 
-    first : (t : ℕ) → t ≡ 1 + 0 → 1 ≤ t
-    first t e = omega arith
+  pub whole_first : t.height ≡ 0 → leaf_of bytes ≡ Some (r ∷ []) → (1 ≤ new) × (new < size) → free new ≡ true → FreesOnly new false free now
+      → Goes (λ old news. news ≡ slice_set old new bytes) told now_told
+      → (true ≡ not (list_any (has_key r.key) rs)) × IsWhole now_told now size (record { root = new; height = 1; records = 1 }) (put r rs)
+  unfolding walk_of
+  whole_first none leaf range was_free taken wrote =
+      let h = subst (λ n. walk_of w.tree.pages t.root n ≡ Whole rs w.tree.visited) none w.tree.walk in
+      let no_pages : w.tree.visited ≡ [] = cc in
+      let no_rs : rs ≡ [] = no_records told t rs none w.tree in
+      let pages = w.tree.pages in
+      let written = tells_at (λ old news. news ≡ slice_set old new bytes) told now_told pages wrote w.tree.is_told in
+      let news = slice_set pages new bytes in
+      let inside = all_told told size new pages i.many w.tree.is_told range.1 in
+      let balance : (p : ℕ) → 1 ≤ p → p < size → account free [] p ≡ 1 = λ p low high. subst (λ u. account free u p ≡ 1) no_pages (w.balance p low high) in
+      let apart = at_most_one free [] size i.inside (λ p. nothing) balance in
+      let one : 1 ≤ 1 = omega arith in
+      let here : 1 ≤ times new (new ∷ []) = first (times new (new ∷ [])) (times_here new []) in
+      let moves = moves_then (moves_taken pages free now [] new was_free taken)
+      (moves_written pages now (new ∷ []) new bytes (used_account now (new ∷ []) new here)) in (
+        sym (ap (λ l. not (list_any (has_key r.key) l)) no_rs),
+        whole_again size new 1 1 (put r rs) (written.1 ∙ ap Some written.2) one
+            (subst (λ l. Subtree news 1 true (new, everywhere) (put r l) (new ∷ [])) (sym no_rs)
+            (record { page = ap leaf_of (get_or-set_same pages new bytes [] inside) ∙ leaf; enough = refl; within = refl; is_used = refl }))
+            moves apart balance (ap (λ l. length (put r l)) no_rs),
+      )
+    where
+      nothing : 0 ≤ 1
+      nothing = omega arith
+
+      first : (t : ℕ) → t ≡ 1 + 0 → 1 ≤ t
+      first t e = omega arith

@@ -1,5 +1,6 @@
 -- A record put in below an inner page.
 use Rattle.std.proofs.Common.{◌≡◌, ◌≢◌, ℕ, suc, ◌+◌, ◌-◌, ◌<◌, ◌≤◌, Bool, true, false, ◌&&◌, ◌||◌, nat_le, List, [], ◌∷◌, ◌++◌, length, take, drop, Option}
+use Rattle.std.proofs.lemmas.Bool.{and_from}
 use Rattle.std.proofs.Common.{Some, Result, Ok, Err, IfOk, IfErr, slice_index, refl, sym, ◌∙◌, ap, subst, arith, length-append}
 use Rattle.std.specs.Prelude.{nat_lt}
 use Rattle.std.specs.List.{insert, list_any}
@@ -32,7 +33,6 @@ use Rattle.quilt_btree.proofs.growth.NewChild.{two_places, bounded_next, bounds_
 use Rattle.quilt_btree.proofs.rows.Places.{front, from_keys, tail_places, row_one}
 use Rattle.quilt_btree.proofs.lists.Rising.{all_append}
 use Rattle.quilt_btree.proofs.rows.Splices.{RowMoved, middle_moved, parent_stays, becomes_then}
-use Rattle.quilt_btree.proofs.subtrees.Walks.{and_both}
 use Rattle.quilt_btree.proofs.stores.Writes.{TellsAll, if_some_at}
 
 -- an inner page was read, and the key leads to this child
@@ -48,36 +48,35 @@ pub record LeadsToChild (told then_told : Option (List (List ℕ))) (free then_f
 one_less : (height below : ℕ) → height ≡ suc (suc below) → height - 1 ≡ suc below
 one_less height below e = omega arith
 
--- what is around that child
-pub insert_below : (told then_told : Option (List (List ℕ))) (free then_free : ℕ → Bool) (size then_size page height child i : ℕ) (k : Key)
-    (inner : Inner) (is_root : Bool) (b : Bounds) (rs : List Record) (used : List ℕ)
-    → LeadsToChild told then_told free then_free size then_size page height child i k inner
-    → CanInsert told free size page height is_root b k rs used → IsBelow told free page height is_root b k rs used inner i
-insert_below told then_told free then_free size then_size page height child i k inner is_root b rs used l can =
-    go_below told free page height is_root b k rs used inner i l.some l.above l.reads l.place can.can_edit
+module _ (told then_told : Option (List (List ℕ))) (free then_free : ℕ → Bool) (size then_size page height child i : ℕ) (k : Key) (inner : Inner)
+    (is_root : Bool) (b : Bounds) (rs : List Record) (used : List ℕ)
+    (l : LeadsToChild told then_told free then_free size then_size page height child i k inner)
+    (can : CanInsert told free size page height is_root b k rs used) where
+  -- what is around that child
+  pub insert_below : IsBelow told free page height is_root b k rs used inner i
+  insert_below =
+      go_below told free page height is_root b k rs used inner i l.some l.above l.reads l.place can.can_edit
 
-pub child_can : (told then_told : Option (List (List ℕ))) (free then_free : ℕ → Bool) (size then_size page height child i : ℕ) (k : Key)
-    (inner : Inner) (is_root : Bool) (b : Bounds) (rs : List Record) (used : List ℕ)
-    → LeadsToChild told then_told free then_free size then_size page height child i k inner
-    → (can : CanInsert told free size page height is_root b k rs used) → (x : IsBelow told free page height is_root b k rs used inner i)
-    → CanInsert then_told then_free then_size child (height - 1) false (child_bounds inner b i) k x.at.here x.at.here_used
-child_can told then_told free then_free size then_size page height child i k inner is_root b rs used l can x =
-    can_along told then_told free then_free size then_size child (height - 1) false (child_bounds inner b i) k x.at.here x.at.here_used l.same (record {
-      can_edit = record {
-        pages = x.pages;
-        is_told = x.is_told;
-        subtree = subst (λ c. Subtree x.pages (height - 1) false (c, child_bounds inner b i) x.at.here x.at.here_used) (sym l.is_child)
-            (subst (λ n. Subtree x.pages n false (slice_index inner.children i, child_bounds inner b i) x.at.here x.at.here_used)
-            (sym (one_less height x.below x.is_height)) x.child);
-        apart = x.here_apart;
-      };
-      low = child_above inner b i k l.place can.low;
-      high = child_below inner b i k l.place can.high;
-      room = fewer height (count_free free size) can.room;
-    })
-  where
-    fewer : (h c : ℕ) → h ≤ c → h - 1 ≤ c
-    fewer h c e = omega arith
+  pub child_can : (x : IsBelow told free page height is_root b k rs used inner i)
+      → CanInsert then_told then_free then_size child (height - 1) false (child_bounds inner b i) k x.at.here x.at.here_used
+  child_can x =
+      can_along told then_told free then_free size then_size child (height - 1) false (child_bounds inner b i) x.at.here x.at.here_used k l.same
+      (record {
+        can_edit = record {
+          pages = x.pages;
+          is_told = x.is_told;
+          subtree = subst (λ c. Subtree x.pages (height - 1) false (c, child_bounds inner b i) x.at.here x.at.here_used) (sym l.is_child)
+              (subst (λ n. Subtree x.pages n false (slice_index inner.children i, child_bounds inner b i) x.at.here x.at.here_used)
+              (sym (one_less height x.below x.is_height)) x.child);
+          apart = x.here_apart;
+        };
+        low = child_above inner b i k l.place can.low;
+        high = child_below inner b i k l.place can.high;
+        room = fewer height (count_free free size) can.room;
+      })
+    where
+      fewer : (h c : ℕ) → h ≤ c → h - 1 ≤ c
+      fewer h c e = omega arith
 
 -- what became of the child, in the pages that were told before
 pub record ChildDid (r : Record) (pages : List (List ℕ)) (now_told : Option (List (List ℕ))) (free now : ℕ → Bool) (child height : ℕ) (b : Bounds)
@@ -86,90 +85,84 @@ pub record ChildDid (r : Record) (pages : List (List ℕ)) (now_told : Option (L
   pub is : now_told ≡ Some news
   pub done : HasInserted r pages news free now child height false b rs used o
 
-child_did : (r : Record) (told then_told now_told : Option (List (List ℕ))) (free then_free now : ℕ → Bool) (size then_size page height child i : ℕ)
-    (inner : Inner) (is_root : Bool) (b : Bounds) (rs : List Record) (used : List ℕ) (o : Inserted)
-    → LeadsToChild told then_told free then_free size then_size page height child i r.key inner
-    → (can : CanInsert told free size page height is_root b r.key rs used) → (x : IsBelow told free page height is_root b r.key rs used inner i)
-    → ((is_root : Bool) (b : Bounds) (rs : List Record) (used : List ℕ)
-    → CanInsert then_told then_free then_size child (height - 1) is_root b r.key rs used
-    → DidInsert r then_told now_told then_free now child (height - 1) is_root b rs used o)
-    → ChildDid r x.pages now_told free now (slice_index inner.children i) (suc x.below) (child_bounds inner b i) x.at.here x.at.here_used o
-child_did r told then_told now_told free then_free now size then_size page height child i inner is_root b rs used o l can x f =
-    let did = did_along r told then_told now_told free then_free now size then_size child (height - 1) false
-    (child_bounds inner b i) x.at.here x.at.here_used o l.same
-    (f false (child_bounds inner b i) x.at.here x.at.here_used
-    (child_can told then_told free then_free size then_size page height child i r.key inner is_root b rs used l can x)) in
-    let was = did.was in
-    let mine = x.is_told in
-    let same : did.pages ≡ x.pages = cc in
-    record {
-      news = did.news;
-      is = did.is;
-      done =
-          subst (λ p. HasInserted r p did.news free now (slice_index inner.children i) (suc x.below) false
-          (child_bounds inner b i) x.at.here x.at.here_used o) same
-          (subst (λ c. HasInserted r did.pages did.news free now c (suc x.below) false (child_bounds inner b i) x.at.here x.at.here_used o) l.is_child
-          (subst (λ n. HasInserted r did.pages did.news free now child n false (child_bounds inner b i) x.at.here x.at.here_used o)
-          (one_less height x.below x.is_height) did.done));
-    }
+module _ (r : Record) (told then_told now_told : Option (List (List ℕ))) (free then_free now : ℕ → Bool) (size then_size page height child i : ℕ)
+    (inner : Inner) (is_root : Bool) (b : Bounds) (rs : List Record) (used : List ℕ) where
+  child_did : (o : Inserted) → LeadsToChild told then_told free then_free size then_size page height child i r.key inner
+      → (can : CanInsert told free size page height is_root b r.key rs used) (x : IsBelow told free page height is_root b r.key rs used inner i)
+      → ((is_root : Bool) (b : Bounds) (rs : List Record) (used : List ℕ) → CanInsert then_told then_free then_size child (height - 1) is_root b r.key rs used
+      → DidInsert r then_told now_told then_free now child (height - 1) is_root b rs used o)
+      → ChildDid r x.pages now_told free now (slice_index inner.children i) (suc x.below) (child_bounds inner b i) x.at.here x.at.here_used o
+  child_did o l can x f =
+      let did = did_along told then_told free then_free size then_size child (height - 1) false (child_bounds inner b i) x.at.here x.at.here_used r
+      now_told now o l.same
+      (f false (child_bounds inner b i) x.at.here x.at.here_used
+      (child_can told then_told free then_free size then_size page height child i r.key inner is_root b rs used l can x)) in
+      let was = did.was in
+      let mine = x.is_told in
+      let same : did.pages ≡ x.pages = cc in
+      record {
+        news = did.news;
+        is = did.is;
+        done =
+            subst (λ p. HasInserted r p did.news free now (slice_index inner.children i) (suc x.below) false
+            (child_bounds inner b i) x.at.here x.at.here_used o) same
+            (subst (λ c. HasInserted r did.pages did.news free now c (suc x.below) false (child_bounds inner b i) x.at.here x.at.here_used o) l.is_child
+            (subst (λ n. HasInserted r did.pages did.news free now child n false (child_bounds inner b i) x.at.here x.at.here_used o)
+            (one_less height x.below x.is_height) did.done));
+      }
 
--- the key was there
-pub under_there : (r : Record) (told then_told now_told : Option (List (List ℕ))) (free then_free now : ℕ → Bool)
-    (size then_size page height child i : ℕ) (inner : Inner) (is_root : Bool) (b : Bounds) (rs : List Record) (used : List ℕ)
-    → LeadsToChild told then_told free then_free size then_size page height child i r.key inner
-    → ((is_root : Bool) (b : Bounds) (rs : List Record) (used : List ℕ)
-    → CanInsert then_told then_free then_size child (height - 1) is_root b r.key rs used
-    → DidInsert r then_told now_told then_free now child (height - 1) is_root b rs used inserted.There)
-    → CanInsert told free size page height is_root b r.key rs used → DidInsert r told now_told free now page height is_root b rs used inserted.There
-under_there r told then_told now_told free then_free now size then_size page height child i inner is_root b rs used l f can =
-    let x = insert_below told then_told free then_free size then_size page height child i r.key inner is_root b rs used l can in
-    let did = child_did r told then_told now_told free then_free now size then_size page height child i inner is_root b rs used inserted.There l can x f in
-    record { pages = x.pages; news = did.news; was = x.is_told; is = did.is; done = any_between r.key x.at.first x.at.here x.at.last rs x.among ∙ did.done }
+  -- the key was there
+  pub under_there : LeadsToChild told then_told free then_free size then_size page height child i r.key inner
+      → ((is_root : Bool) (b : Bounds) (rs : List Record) (used : List ℕ) → CanInsert then_told then_free then_size child (height - 1) is_root b r.key rs used
+      → DidInsert r then_told now_told then_free now child (height - 1) is_root b rs used inserted.There)
+      → CanInsert told free size page height is_root b r.key rs used → DidInsert r told now_told free now page height is_root b rs used inserted.There
+  under_there l f can =
+      let x = insert_below told then_told free then_free size then_size page height child i r.key inner is_root b rs used l can in
+      let did = child_did inserted.There l can x f in
+      record { pages = x.pages; news = did.news; was = x.is_told; is = did.is; done = any_between r.key x.at.first x.at.here x.at.last rs x.among ∙ did.done }
 
--- the child took the record
-pub under_done : (r : Record) (told then_told now_told : Option (List (List ℕ))) (free then_free now : ℕ → Bool)
-    (size then_size page height child i : ℕ) (inner : Inner) (is_root : Bool) (b : Bounds) (rs : List Record) (used : List ℕ)
-    → LeadsToChild told then_told free then_free size then_size page height child i r.key inner
-    → ((is_root : Bool) (b : Bounds) (rs : List Record) (used : List ℕ)
-    → CanInsert then_told then_free then_size child (height - 1) is_root b r.key rs used
-    → DidInsert r then_told now_told then_free now child (height - 1) is_root b rs used inserted.Done)
-    → CanInsert told free size page height is_root b r.key rs used → DidInsert r told now_told free now page height is_root b rs used inserted.Done
-under_done r told then_told now_told free then_free now size then_size page height child i inner is_root b rs used l f can =
-    let x = insert_below told then_told free then_free size then_size page height child i r.key inner is_root b rs used l can in
-    let did = child_did r told then_told now_told free then_free now size then_size page height child i inner is_root b rs used inserted.Done l can x f in
-    let grown = did.done.1 in
-    let all = put r x.at.here in
-    let c = slice_index inner.children i in
-    let before = front (take i inner.children) (take i inner.keys) b in
-    let behind = tail_places (drop (suc i) inner.children) (drop i inner.keys) (from_keys (take i inner.keys) b) in
-    let middle : List (ℕ × Bounds) = (c, child_bounds inner b i) ∷ [] in
-    let moved = middle_moved x.pages did.news free now x.below page before middle behind middle rs x.under all grown.uses x.apart x.at
-    (row_one (Subtree did.news (suc x.below) false) (c, child_bounds inner b i) all grown.uses grown.subtree) grown.moves in
-    let becomes = parent_stays x.pages did.news free now x.below page is_root b inner x.under
-    (x.at.first ++ (all ++ x.at.last)) x.page_is x.inner_height x.enough x.within
-    (subst (λ (cs : List (ℕ × Bounds)). RowMoved x.pages did.news free now x.below page cs (x.at.first ++ (all ++ x.at.last)) x.under)
-    (sym (cut_at_child inner b i x.in_range x.list.keys)) moved) in
-    record {
-      pages = x.pages;
-      news = did.news;
-      was = x.is_told;
-      is = did.is;
-      done = (
-        any_between r.key x.at.first x.at.here x.at.last rs x.among ∙ did.done.0,
-        subst (λ n. Becomes x.pages did.news free now page n is_root b used (put r rs)) (sym x.is_height)
-            (subst (λ u. Becomes x.pages did.news free now page (suc (suc x.below)) is_root b u (put r rs)) (sym x.is_used)
-            (subst (λ m. Becomes x.pages did.news free now page (suc (suc x.below)) is_root b (x.under ++ page ∷ []) m)
-            (sym (put_between r x.at.first x.at.here x.at.last rs x.among)) becomes)),
-      );
-    }
+  -- the child took the record
+  pub under_done : LeadsToChild told then_told free then_free size then_size page height child i r.key inner
+      → ((is_root : Bool) (b : Bounds) (rs : List Record) (used : List ℕ) → CanInsert then_told then_free then_size child (height - 1) is_root b r.key rs used
+      → DidInsert r then_told now_told then_free now child (height - 1) is_root b rs used inserted.Done)
+      → CanInsert told free size page height is_root b r.key rs used → DidInsert r told now_told free now page height is_root b rs used inserted.Done
+  under_done l f can =
+      let x = insert_below told then_told free then_free size then_size page height child i r.key inner is_root b rs used l can in
+      let did = child_did inserted.Done l can x f in
+      let grown = did.done.1 in
+      let all = put r x.at.here in
+      let c = slice_index inner.children i in
+      let before = front (take i inner.children) (take i inner.keys) b in
+      let behind = tail_places (drop (suc i) inner.children) (drop i inner.keys) (from_keys (take i inner.keys) b) in
+      let middle : List (ℕ × Bounds) = (c, child_bounds inner b i) ∷ [] in
+      let moved = middle_moved x.pages did.news free now x.below page before middle behind middle rs x.under all grown.uses x.apart x.at
+      (row_one (Subtree did.news (suc x.below) false) (c, child_bounds inner b i) all grown.uses grown.subtree) grown.moves in
+      let becomes = parent_stays x.pages did.news free now x.below page is_root b inner x.under
+      (x.at.first ++ (all ++ x.at.last)) x.page_is x.inner_height x.enough x.within
+      (subst (λ (cs : List (ℕ × Bounds)). RowMoved x.pages did.news free now x.below page cs (x.at.first ++ (all ++ x.at.last)) x.under)
+      (sym (cut_at_child inner b i x.in_range x.list.keys)) moved) in
+      record {
+        pages = x.pages;
+        news = did.news;
+        was = x.is_told;
+        is = did.is;
+        done = (
+          any_between r.key x.at.first x.at.here x.at.last rs x.among ∙ did.done.0,
+          subst (λ n. Becomes x.pages did.news free now page n is_root b used (put r rs)) (sym x.is_height)
+              (subst (λ u. Becomes x.pages did.news free now page (suc (suc x.below)) is_root b u (put r rs)) (sym x.is_used)
+              (subst (λ m. Becomes x.pages did.news free now page (suc (suc x.below)) is_root b (x.under ++ page ∷ []) m)
+              (sym (put_between r x.at.first x.at.here x.at.last rs x.among)) becomes)),
+        );
+      }
 
 page_test : (right size n : ℕ) → 1 ≤ right → right < size → n ≡ size → (nat_le 1 right && nat_lt right n) ≡ true
 page_test right size n low high e = grind (arith, nat_tests)
 
-pages_with : (n : ℕ) (cs : List ℕ) (i right : ℕ) → are_pages n cs ≡ true → (nat_le 1 right && nat_lt right n) ≡ true → are_pages n (insert cs i right) ≡ true
+pages_with : (n : ℕ) (cs : List ℕ) (i right : ℕ) → are_pages n cs ≡ true → (nat_le 1 right && nat_lt right n) ≡ true
+    → are_pages n (insert cs i right) ≡ true
 pages_with n cs i right h g =
     all_append (λ c. nat_le 1 c && nat_lt c n) (take i cs) (right ∷ drop i cs) (all_take (λ c. nat_le 1 c && nat_lt c n) cs i h)
-    (and_both (nat_le 1 right && nat_lt right n) (are_pages n (drop i cs)) g (all_drop (λ c. nat_le 1 c && nat_lt c n) cs i h))
+    (and_from (nat_le 1 right && nat_lt right n) (are_pages n (drop i cs)) g (all_drop (λ c. nat_le 1 c && nat_lt c n) cs i h))
 
 still_enough : (is_root : Bool) (m n : ℕ) → n ≡ m + 1 → (is_root || nat_le 127 m) ≡ true → (is_root || nat_le 127 n) ≡ true
 still_enough true m n e h = refl
@@ -188,88 +181,14 @@ pub record IsToTake (r : Record) (told now_told : Option (List (List ℕ))) (fre
   pub moves : Moves pages news free now used (under ++ page ∷ [])
   pub tall : inner.height ≡ height
 
-pub under_takes : (r : Record) (told then_told now_told : Option (List (List ℕ))) (free then_free now : ℕ → Bool)
-    (size then_size page height child i : ℕ) (inner : Inner) (is_root : Bool) (b : Bounds) (rs : List Record) (used : List ℕ) (key : Key) (right : ℕ)
-    → LeadsToChild told then_told free then_free size then_size page height child i r.key inner → TellsAll told size → (1 ≤ right) × (right < size)
-    → ((is_root : Bool) (b : Bounds) (rs : List Record) (used : List ℕ)
-    → CanInsert then_told then_free then_size child (height - 1) is_root b r.key rs used
-    → DidInsert r then_told now_told then_free now child (height - 1) is_root b rs used (inserted.Split key right))
-    → CanInsert told free size page height is_root b r.key rs used → IsToTake r told now_told free now page height is_root b rs used inner i key right
-under_takes r told then_told now_told free then_free now size then_size page height child i inner is_root b rs used key right l many in_range f can =
-    let x = insert_below told then_told free then_free size then_size page height child i r.key inner is_root b rs used l can in
-    let did = child_did r told then_told now_told free then_free now size then_size page height child i inner is_root b rs used
-    (inserted.Split key right) l can x f in
-    let separated = did.done.1 in
-    let all = put r x.at.here in
-    let c = slice_index inner.children i in
-    let cb = child_bounds inner b i in
-    let before = front (take i inner.children) (take i inner.keys) b in
-    let behind = tail_places (drop (suc i) inner.children) (drop i inner.keys) (from_keys (take i inner.keys) b) in
-    let S = Subtree did.news (suc x.below) false in
-    let places = two_places c right key cb in
-    let row : Row S places all (separated.rest_uses ++ separated.first_uses) = record {
-      first = separated.first;
-      rest = separated.rest;
-      first_used = separated.first_uses;
-      rest_used = separated.rest_uses;
-      here = separated.is_left;
-      after = row_one S (right, record { low = Some key; high = cb.high }) separated.rest separated.rest_uses separated.is_right;
-      records = separated.records;
-      is_used = refl;
-    } in
-    let moved = middle_moved x.pages did.news free now x.below page before ((c, cb) ∷ []) behind places rs x.under all
-    (separated.rest_uses ++ separated.first_uses) x.apart x.at row separated.moves in
-    let next = subst (λ (cs : List (ℕ × Bounds)). RowMoved x.pages did.news free now x.below page cs (x.at.first ++ (all ++ x.at.last)) x.under)
-    (sym (bounded_next inner b i right key x.in_range x.list.keys)) moved in
-    let fitting = is_fitting inner b i key x.list.ascends x.within
-    (λ low e. bounds_part did.news (suc x.below) false c low key cb.low separated.first separated.first_uses e separated.is_left)
-    separated.low separated.high in
-    let long : length did.news ≡ size = moved.moves.size ∙ if_some_at (λ pages. length pages ≡ size) told x.pages many x.is_told in
-    let children_more : length (insert inner.children (suc i) right) ≡ length inner.children + 1 =
-    length-insert inner.children (suc i) right (next_in i (length inner.children) x.in_range) in
-    let keys_more : length (insert inner.keys i key) ≡ length inner.keys + 1 = length-insert inner.keys i key l.place.in_range in
-    record {
-      pages = x.pages;
-      news = did.news;
-      was = x.is_told;
-      is = did.is;
-      not_there = any_between r.key x.at.first x.at.here x.at.last rs x.among ∙ did.done.0;
-      under = next.uses;
-      pending = record {
-        pages = did.news;
-        is_told = did.is;
-        below = x.below;
-        is_height = x.inner_height;
-        in_range = pages_with (length did.news) inner.children (suc i) right
-            (subst (λ n. are_pages n inner.children ≡ true) (sym moved.moves.size) x.list.in_range)
-            (page_test right size (length did.news) in_range.0 in_range.1 long);
-        many = as_many (length (insert inner.children (suc i) right)) (length inner.children) (length (insert inner.keys i key))
-            (length inner.keys) children_more keys_more x.list.keys;
-        enough = still_enough is_root (length inner.children) (length (insert inner.children (suc i) right)) children_more x.enough;
-        ascends = fitting.ascends;
-        within = fitting.within;
-        children = subst (λ m. Row S (bounded (insert inner.children (suc i) right) (insert inner.keys i key) b) m next.uses)
-            (sym (put_between r x.at.first x.at.here x.at.last rs x.among)) next.row;
-        apart = apart_then x.pages did.news free now (x.under ++ page ∷ []) (next.uses ++ page ∷ []) next.moves x.apart;
-      };
-      moves = subst (λ u. Moves x.pages did.news free now u (next.uses ++ page ∷ [])) (sym x.is_used) next.moves;
-      tall = x.inner_height ∙ sym x.is_height;
-    }
-  where
-    next_in : (i n : ℕ) → i < n → suc i ≤ n
-    next_in i n h = omega arith
-
-    as_many : (c d k l : ℕ) → c ≡ d + 1 → k ≡ l + 1 → d ≡ l + 1 → c ≡ suc k
-    as_many c d k l e f g = omega arith
-
-has_put : (r : Record) (pages mid news : List (List ℕ)) (free between now : ℕ → Bool) (page height : ℕ) (is_root : Bool) (b : Bounds)
-    (rs : List Record) (used more : List ℕ) (o : Inserted)
-    → list_any (has_key r.key) rs ≡ false → Moves pages mid free between used more
-    → HasPut mid news between now page height is_root b more (put r rs) o → HasInserted r pages news free now page height is_root b rs used o
-has_put r pages mid news free between now page height is_root b rs used more inserted.There none m h = absurd h
-has_put r pages mid news free between now page height is_root b rs used more inserted.Done none m h =
-    (none, becomes_then pages mid news free between now page height is_root b used more (put r rs) m h)
-has_put r pages mid news free between now page height is_root b rs used more (inserted.Split key right) none m h = (
+has_put : (r : Record) {pages mid : List (List ℕ)} (news : List (List ℕ)) {free between : ℕ → Bool} (now : ℕ → Bool) (page height : ℕ)
+    (is_root : Bool) (b : Bounds) (rs : List Record) {used more : List ℕ} (o : Inserted) → list_any (has_key r.key) rs ≡ false
+    → Moves pages mid free between used more → HasPut mid news between now page height is_root b more (put r rs) o
+    → HasInserted r pages news free now page height is_root b rs used o
+has_put r news now page height is_root b rs inserted.There none m h = absurd h
+has_put r news now page height is_root b rs inserted.Done none m h =
+    (none, becomes_then m h)
+has_put r news now page height is_root b rs (inserted.Split key right) none m h = (
   none,
   record {
     first = h.first;
@@ -281,82 +200,150 @@ has_put r pages mid news free between now page height is_root b rs used more (in
     records = h.records;
     low = h.low;
     high = h.high;
-    moves = moves_then pages mid news free between now used more (h.rest_uses ++ h.first_uses) m h.moves;
+    moves = moves_then m h.moves;
   },
 )
 
--- the page took it
-pub took_child : (result : Result Inserted Stop) (r : Record) (told then_told mid_told now_told : Option (List (List ℕ))) (free then_free mid now : ℕ
-    → Bool) (size then_size page height child i : ℕ) (inner : Inner) (key : Key) (right : ℕ)
-    → LeadsToChild told then_told free then_free size then_size page height child i r.key inner → TellsAll told size → (1 ≤ right) × (right < size)
-    → ((is_root : Bool) (b : Bounds) (rs : List Record) (used : List ℕ)
-    → CanInsert then_told then_free then_size child (height - 1) is_root b r.key rs used
-    → DidInsert r then_told mid_told then_free mid child (height - 1) is_root b rs used (inserted.Split key right))
-    → IfOk result (λ o. (is_root : Bool) (b : Bounds) (all : List Record) (under : List ℕ)
-    → IsPending mid_told mid page is_root b (with_child inner i key right) all under
-    → DidPut mid_told now_told mid now page inner.height is_root b (under ++ page ∷ []) all o)
-    → IfOk result (λ o. (is_root : Bool) (b : Bounds) (rs : List Record) (used : List ℕ)
-    → CanInsert told free size page height is_root b r.key rs used → DidInsert r told now_told free now page height is_root b rs used o)
-took_child (Err e) r told then_told mid_told now_told free then_free mid now size then_size page height child i inner key right l many in_range f g = g
-took_child (Ok o) r told then_told mid_told now_told free then_free mid now size then_size page height child i inner key right l many in_range f g =
-    λ is_root b rs used can.
-    let x =
-    under_takes r told then_told mid_told free then_free mid size then_size page height child i inner is_root b rs used key right l many in_range f can in
-    let did = g is_root b (put r rs) x.under x.pending in
-    let was = did.was in
-    let mine = x.is in
-    let same : did.pages ≡ x.news = cc in
-    record {
-      pages = x.pages;
-      news = did.news;
-      was = x.was;
-      is = did.is;
-      done = has_put r x.pages x.news did.news free mid now page height is_root b rs used (x.under ++ page ∷ []) o x.not_there x.moves
-          (subst (λ p. HasPut p did.news mid now page height is_root b (x.under ++ page ∷ []) (put r rs) o) same
-          (subst (λ n. HasPut did.pages did.news mid now page n is_root b (x.under ++ page ∷ []) (put r rs) o) x.tall did.done));
-    }
-
 -- a page of height 3 has a place for another child
-few_under : (told : Option (List (List ℕ))) (free : ℕ → Bool) (size page height : ℕ) (is_root : Bool) (b : Bounds) (k : Key) (rs : List Record) (used : List ℕ)
-    (inner : Inner) → ReadsInner told page inner → CanInsert told free size page height is_root b k rs used → AreFew rs → height ≡ 3 → length inner.children < 254
-few_under told free size page height is_root b k rs used inner reads can few three =
+few_under : {told : Option (List (List ℕ))} {free : ℕ → Bool} {size page height : ℕ} {is_root : Bool} {b : Bounds} {k : Key} {rs : List Record}
+    {used : List ℕ} (inner : Inner) → ReadsInner told page inner → CanInsert told free size page height is_root b k rs used → AreFew rs → height ≡ 3
+    → length inner.children < 254
+few_under {page = page} {is_root = is_root} {b = b} {rs = rs} {used = used} inner reads can few three =
     let e = can.can_edit in
-    few_children e.pages is_root (page, b) rs used inner (subst (λ h. Subtree e.pages h is_root (page, b) rs used) three e.subtree) (reads e.pages e.is_told) few
+    few_children e.pages is_root (page, b) rs used inner (subst (λ h. Subtree e.pages h is_root (page, b) rs used) three e.subtree)
+    (reads e.pages e.is_told) few
 
--- where the page does not take it, no page is damaged
-pub sound_child : (result : Result Inserted Stop) (r : Record) (told then_told mid_told : Option (List (List ℕ))) (free then_free mid : ℕ → Bool)
-    (size then_size mid_size page height child i : ℕ) (inner : Inner) (key : Key) (right : ℕ)
-    → LeadsToChild told then_told free then_free size then_size page height child i r.key inner → TellsAll told size
-    → (1 ≤ right) × (right < size) → mid_size ≡ size
-    → count_free free size ≤ count_free mid size + (height - 1)
-    → ((is_root : Bool) (b : Bounds) (rs : List Record) (used : List ℕ)
-    → CanInsert then_told then_free then_size child (height - 1) is_root b r.key rs used
-    → DidInsert r then_told mid_told then_free mid child (height - 1) is_root b rs used (inserted.Split key right))
-    → IfErr result (λ e. (is_root : Bool) (b : Bounds) (all : List Record) (under : List ℕ)
-    → IsPending mid_told mid page is_root b (with_child inner i key right) all under → 0 < count_free mid mid_size
-    → (inner.height ≡ 3 → length inner.children < 254) → IsSound e)
-    → IfErr result (λ e. (is_root : Bool) (b : Bounds) (rs : List Record) (used : List ℕ)
-    → CanInsert told free size page height is_root b r.key rs used → AreFew rs → IsSound e)
-sound_child (Ok o) r told then_told mid_told free then_free mid size then_size mid_size page height child i inner key right l many in_range same few f g = g
-sound_child (Err e) r told then_told mid_told free then_free mid size then_size mid_size page height child i inner key right l many in_range same few
-    f g = λ is_root b rs used can small.
-    let x =
-    under_takes r told then_told mid_told free then_free mid size then_size page height child i inner is_root b rs used key right l many in_range f can in
-    g is_root b (put r rs) x.under x.pending
-    (subst (λ n. 0 < count_free mid n) (sym same) (left (count_free free size) (count_free mid size) height l.some few can.room))
-    (λ three. few_under told free size page height is_root b r.key rs used inner l.reads can small (sym x.tall ∙ three))
-  where
-    left : (c d h : ℕ) → 1 ≤ h → c ≤ d + (h - 1) → h ≤ c → 0 < d
-    left c d h some e f = omega arith
+module _ (r : Record) (told then_told : Option (List (List ℕ))) (free then_free : ℕ → Bool) (size then_size page height child i : ℕ) (inner : Inner)
+    (key : Key) (right : ℕ) (l : LeadsToChild told then_told free then_free size then_size page height child i r.key inner)
+    (many : TellsAll told size) (in_range : (1 ≤ right) × (right < size)) where
+  pub under_takes : (now_told : Option (List (List ℕ))) (now : ℕ → Bool) (is_root : Bool) (b : Bounds) (rs : List Record) (used : List ℕ)
+      → ((is_root : Bool) (b : Bounds) (rs : List Record) (used : List ℕ) → CanInsert then_told then_free then_size child (height - 1) is_root b r.key rs used
+      → DidInsert r then_told now_told then_free now child (height - 1) is_root b rs used (inserted.Split key right))
+      → CanInsert told free size page height is_root b r.key rs used
+      → IsToTake r told now_told free now page height is_root b rs used inner i key right
+  under_takes now_told now is_root b rs used f can =
+      let x = insert_below told then_told free then_free size then_size page height child i r.key inner is_root b rs used l can in
+      let did = child_did r told then_told now_told free then_free now size then_size page height child i inner is_root b rs used
+      (inserted.Split key right) l can x f in
+      let separated = did.done.1 in
+      let all = put r x.at.here in
+      let c = slice_index inner.children i in
+      let cb = child_bounds inner b i in
+      let before = front (take i inner.children) (take i inner.keys) b in
+      let behind = tail_places (drop (suc i) inner.children) (drop i inner.keys) (from_keys (take i inner.keys) b) in
+      let S = Subtree did.news (suc x.below) false in
+      let places = two_places c right key cb in
+      let row : Row S places all (separated.rest_uses ++ separated.first_uses) = record {
+        first = separated.first;
+        rest = separated.rest;
+        first_used = separated.first_uses;
+        rest_used = separated.rest_uses;
+        here = separated.is_left;
+        after = row_one S (right, record { low = Some key; high = cb.high }) separated.rest separated.rest_uses separated.is_right;
+        records = separated.records;
+        is_used = refl;
+      } in
+      let moved = middle_moved x.pages did.news free now x.below page before ((c, cb) ∷ []) behind places rs x.under all
+      (separated.rest_uses ++ separated.first_uses) x.apart x.at row separated.moves in
+      let next = subst (λ (cs : List (ℕ × Bounds)). RowMoved x.pages did.news free now x.below page cs (x.at.first ++ (all ++ x.at.last)) x.under)
+      (sym (bounded_next inner b i key right x.in_range x.list.keys)) moved in
+      let fitting = is_fitting inner b i key x.list.ascends x.within
+      (λ low e. bounds_part did.news (suc x.below) false c low key cb.low separated.first separated.first_uses e separated.is_left)
+      separated.low separated.high in
+      let long : length did.news ≡ size = moved.moves.size ∙ if_some_at (λ pages. length pages ≡ size) told x.pages many x.is_told in
+      let children_more : length (insert inner.children (suc i) right) ≡ length inner.children + 1 =
+      length-insert inner.children (suc i) right (next_in i (length inner.children) x.in_range) in
+      let keys_more : length (insert inner.keys i key) ≡ length inner.keys + 1 = length-insert inner.keys i key l.place.in_range in
+      record {
+        pages = x.pages;
+        news = did.news;
+        was = x.is_told;
+        is = did.is;
+        not_there = any_between r.key x.at.first x.at.here x.at.last rs x.among ∙ did.done.0;
+        under = next.uses;
+        pending = record {
+          pages = did.news;
+          is_told = did.is;
+          below = x.below;
+          is_height = x.inner_height;
+          in_range = pages_with (length did.news) inner.children (suc i) right
+              (subst (λ n. are_pages n inner.children ≡ true) (sym moved.moves.size) x.list.in_range)
+              (page_test right size (length did.news) in_range.0 in_range.1 long);
+          many = as_many (length (insert inner.children (suc i) right)) (length inner.children) (length (insert inner.keys i key))
+              (length inner.keys) children_more keys_more x.list.keys;
+          enough = still_enough is_root (length inner.children) (length (insert inner.children (suc i) right)) children_more x.enough;
+          ascends = fitting.ascends;
+          within = fitting.within;
+          children = subst (λ m. Row S (bounded (insert inner.children (suc i) right) (insert inner.keys i key) b) m next.uses)
+              (sym (put_between r x.at.first x.at.here x.at.last rs x.among)) next.row;
+          apart = apart_then x.pages did.news free now (x.under ++ page ∷ []) (next.uses ++ page ∷ []) next.moves x.apart;
+        };
+        moves = subst (λ u. Moves x.pages did.news free now u (next.uses ++ page ∷ [])) (sym x.is_used) next.moves;
+        tall = x.inner_height ∙ sym x.is_height;
+      }
+    where
+      next_in : (i n : ℕ) → i < n → suc i ≤ n
+      next_in i n h = omega arith
+
+      as_many : (c d k l : ℕ) → c ≡ d + 1 → k ≡ l + 1 → d ≡ l + 1 → c ≡ suc k
+      as_many c d k l e f g = omega arith
+
+  -- the page took it
+  pub took_child : (result : Result Inserted Stop) (mid_told now_told : Option (List (List ℕ))) (mid now : ℕ → Bool)
+      → ((is_root : Bool) (b : Bounds) (rs : List Record) (used : List ℕ) → CanInsert then_told then_free then_size child (height - 1) is_root b r.key rs used
+      → DidInsert r then_told mid_told then_free mid child (height - 1) is_root b rs used (inserted.Split key right))
+      → IfOk result (λ o. (is_root : Bool) (b : Bounds) (all : List Record) (under : List ℕ)
+      → IsPending mid_told mid page is_root b (with_child inner i key right) all under → DidPut mid_told now_told mid now page inner.height is_root b (under ++ page ∷ []) all o)
+      → IfOk result (λ o. (is_root : Bool) (b : Bounds) (rs : List Record) (used : List ℕ) → CanInsert told free size page height is_root b r.key rs used
+      → DidInsert r told now_told free now page height is_root b rs used o)
+  took_child (Err e) mid_told now_told mid now f g = g
+  took_child (Ok o) mid_told now_told mid now f g =
+      λ is_root b rs used can.
+      let x =
+      under_takes mid_told mid is_root b rs used f can in
+      let did = g is_root b (put r rs) x.under x.pending in
+      let was = did.was in
+      let mine = x.is in
+      let same : did.pages ≡ x.news = cc in
+      record {
+        pages = x.pages;
+        news = did.news;
+        was = x.was;
+        is = did.is;
+        done = has_put r did.news now page height is_root b rs o x.not_there x.moves
+            (subst (λ p. HasPut p did.news mid now page height is_root b (x.under ++ page ∷ []) (put r rs) o) same
+            (subst (λ n. HasPut did.pages did.news mid now page n is_root b (x.under ++ page ∷ []) (put r rs) o) x.tall did.done));
+      }
+
+  -- where the page does not take it, no page is damaged
+  pub sound_child : (result : Result Inserted Stop) (mid_told : Option (List (List ℕ))) (mid : ℕ → Bool) (mid_size : ℕ) → mid_size ≡ size
+      → count_free free size ≤ count_free mid size + (height - 1)
+      → ((is_root : Bool) (b : Bounds) (rs : List Record) (used : List ℕ) → CanInsert then_told then_free then_size child (height - 1) is_root b r.key rs used
+      → DidInsert r then_told mid_told then_free mid child (height - 1) is_root b rs used (inserted.Split key right))
+      → IfErr result (λ e. (is_root : Bool) (b : Bounds) (all : List Record) (under : List ℕ)
+      → IsPending mid_told mid page is_root b (with_child inner i key right) all under → 0 < count_free mid mid_size → (inner.height ≡ 3
+      → length inner.children < 254) → IsSound e)
+      → IfErr result (λ e. (is_root : Bool) (b : Bounds) (rs : List Record) (used : List ℕ) → CanInsert told free size page height is_root b r.key rs used
+      → AreFew rs → IsSound e)
+  sound_child (Ok o) mid_told mid mid_size same few f g = g
+  sound_child (Err e) mid_told mid mid_size same few f g = λ is_root b rs used can small.
+      let x =
+      under_takes mid_told mid is_root b rs used f can in
+      g is_root b (put r rs) x.under x.pending
+      (subst (λ n. 0 < count_free mid n) (sym same) (left (count_free free size) (count_free mid size) height l.some few can.room))
+      (λ three. few_under inner l.reads can small (sym x.tall ∙ three))
+    where
+      left : (c d h : ℕ) → 1 ≤ h → c ≤ d + (h - 1) → h ≤ c → 0 < d
+      left c d h some e f = omega arith
 
 -- an error of the child
-pub sound_under : (e : Stop) (told then_told : Option (List (List ℕ))) (free then_free : ℕ → Bool) (size then_size page height child i : ℕ) (k : Key)
-    (inner : Inner) (is_root : Bool) (b : Bounds) (rs : List Record) (used : List ℕ)
+pub sound_under : (e : Stop) {told : Option (List (List ℕ))} (then_told : Option (List (List ℕ))) {free : ℕ → Bool} (then_free : ℕ → Bool) {size : ℕ}
+    (then_size : ℕ) {page height : ℕ} (child i : ℕ) {k : Key} (inner : Inner) {is_root : Bool} {b : Bounds} {rs : List Record} {used : List ℕ}
     → LeadsToChild told then_told free then_free size then_size page height child i k inner
-    → ((is_root : Bool) (b : Bounds) (rs : List Record) (used : List ℕ)
-    → CanInsert then_told then_free then_size child (height - 1) is_root b k rs used → AreFew rs → IsSound e)
+    → ((is_root : Bool) (b : Bounds) (rs : List Record) (used : List ℕ) → CanInsert then_told then_free then_size child (height - 1) is_root b k rs used → AreFew rs
+    → IsSound e)
     → CanInsert told free size page height is_root b k rs used → AreFew rs → IsSound e
-sound_under e told then_told free then_free size then_size page height child i k inner is_root b rs used l f can few =
+sound_under e {told = told} then_told {free = free} then_free {size = size} then_size {page = page} {height = height} child i {k = k} inner {is_root = is_root} {b = b} {rs = rs} {used = used} l f can few =
     let x = insert_below told then_told free then_free size then_size page height child i k inner is_root b rs used l can in
     f false (child_bounds inner b i) x.at.here x.at.here_used
     (child_can told then_told free then_free size then_size page height child i k inner is_root b rs used l can x)
@@ -367,10 +354,10 @@ sound_under e told then_told free then_free size then_size page height child i k
     fewer n f h l e lt = omega arith
 
 -- a leaf at height 1
-pub sound_leaf : (result : Result Inserted Stop) (told : Option (List (List ℕ))) (free : ℕ → Bool) (size page height : ℕ) (k : Key) → height ≡ 1
+pub sound_leaf : (result : Result Inserted Stop) (told : Option (List (List ℕ))) (free : ℕ → Bool) (size page : ℕ) {height : ℕ} (k : Key) → height ≡ 1
     → IfErr result (λ e. (is_root : Bool) (b : Bounds) (rs : List Record) (used : List ℕ) → CanInsert told free size page 1 is_root b k rs used → IsSound e)
-    → IfErr result (λ e. (is_root : Bool) (b : Bounds) (rs : List Record) (used : List ℕ)
-    → CanInsert told free size page height is_root b k rs used → AreFew rs → IsSound e)
-sound_leaf (Ok o) told free size page height k one f = f
-sound_leaf (Err e) told free size page height k one f =
+    → IfErr result (λ e. (is_root : Bool) (b : Bounds) (rs : List Record) (used : List ℕ) → CanInsert told free size page height is_root b k rs used → AreFew rs
+    → IsSound e)
+sound_leaf (Ok o) told free size page k one f = f
+sound_leaf (Err e) told free size page k one f =
     λ is_root b rs used can few. f is_root b rs used (subst (λ h. CanInsert told free size page h is_root b k rs used) one can)

@@ -1,5 +1,6 @@
 -- Two keys tell whether ascending lists ascend one behind the other, and whether a key fits in the place of another.
 use Rattle.std.proofs.Common.{◌≡◌, ℕ, zero, suc, ◌-◌, ◌<◌, ◌≤◌, Bool, true, false, ◌&&◌, List, [], ◌∷◌, ◌++◌, length, Option, Some, None, refl, sym, ◌∙◌, ap}
+use Rattle.std.proofs.lemmas.Bool.{and_parts}
 use Rattle.std.proofs.Common.{subst, arith}
 use Rattle.std.specs.Prelude.{slice_get, slice_set}
 use Rattle.std.specs.Ordering.{is_lt}
@@ -8,7 +9,6 @@ use Rattle.quilt_record.specs.declared.record.Record.{Record}
 use Rattle.quilt_record.specs.Records.{key_cmp}
 use Rattle.quilt_node.specs.Pages.{is_ascending}
 use Rattle.quilt_node.specs.Nodes.{keys_of}
-use Rattle.quilt_btree.proofs.subtrees.Walks.{and_parts}
 use Rattle.quilt_btree.proofs.subtrees.Trees.{ascending_rest, keys_append}
 
 and_true : (a b : Bool) → a ≡ true → (a && b) ≡ b
@@ -52,7 +52,8 @@ leaves_test l (z ∷ r) x y i n h g a b =
     ∙ ap (λ (t : Record). is_lt (key_cmp x.key t.key)) same)
 
 -- keys of two inner pages with one between
-pub inners_test : (l r : List Key) (k x y : Key) → slice_get l (length l - 1) ≡ Some x → slice_get r 0 ≡ Some y → is_ascending l ≡ true → is_ascending r ≡ true
+pub inners_test : (l r : List Key) (k x y : Key) → slice_get l (length l - 1) ≡ Some x → slice_get r 0 ≡ Some y → is_ascending l ≡ true
+    → is_ascending r ≡ true
     → is_ascending (l ++ k ∷ r) ≡ (is_lt (key_cmp x k) && is_lt (key_cmp k y))
 inners_test l [] k x y h g a b = cc
 inners_test l (z ∷ r) k x y h g a b =
@@ -87,21 +88,8 @@ set_ascends (x ∷ y ∷ ys) (suc (suc i)) k lt a =
     let t = and_parts (is_lt (key_cmp x y)) (is_ascending (y ∷ ys)) a in
     and_true (is_lt (key_cmp x y)) (is_ascending (y ∷ slice_set ys i k)) t.0 ∙ set_ascends (y ∷ ys) (suc i) k (omega arith) t.1
 
-fits_from : (ks : List Key) (i : ℕ) (k : Key) → i < length ks → is_ascending ks ≡ true → (a b : Bool) → is_past_all (key_before ks i) k ≡ a
-    → is_before_all k (slice_get ks (suc i)) ≡ b
-    → (a && b) ≡ is_ascending (slice_set ks i k)
-fits_from ks i k lt asc a b e f = sym (set_ascends ks i k lt asc ∙ ap (λ c. c && is_before_all k (slice_get ks (suc i))) e ∙ ap (λ c. a && c) f)
-
 one_back : (i : ℕ) → suc i - 1 ≡ i
 one_back i = omega arith
-
--- the key before does not let it
-pub not_fits : (ks : List Key) (i : ℕ) (k l : Key) → i < length ks → is_ascending ks ≡ true → 0 < i → slice_get ks (i - 1) ≡ Some l
-    → is_lt (key_cmp l k) ≡ false → false ≡ is_ascending (slice_set ks i k)
-not_fits ks zero k l lt asc some h g = absurd (omega arith)
-not_fits ks (suc i) k l lt asc some h g =
-    let here : slice_get ks i ≡ Some l = subst (λ n. slice_get ks n ≡ Some l) (one_back i) h in
-    fits_from ks (suc i) k lt asc false (is_before_all k (slice_get ks (suc (suc i)))) (ap (λ o. is_past_all o k) here ∙ g) refl
 
 past_first : (ks : List Key) (i : ℕ) (k : Key) → ((l : Key) → 0 < i → slice_get ks (i - 1) ≡ Some l → is_lt (key_cmp l k) ≡ true)
     → is_past_all (key_before ks i) k ≡ true
@@ -112,12 +100,25 @@ past_first ks (suc i) k f = past_some (slice_get ks i) refl
     past_some None e = ap (λ p. is_past_all p k) e
     past_some (Some l) e = ap (λ p. is_past_all p k) e ∙ f l (omega arith) (subst (λ n. slice_get ks n ≡ Some l) (sym (one_back i)) e)
 
--- the key behind decides
-pub fits_behind : (ks : List Key) (i j : ℕ) (k l : Key) → i < length ks → is_ascending ks ≡ true
-    → ((m : Key) → 0 < i → slice_get ks (i - 1) ≡ Some m → is_lt (key_cmp m k) ≡ true)
-    → j ≡ suc i → slice_get ks j ≡ Some l → is_lt (key_cmp k l) ≡ is_ascending (slice_set ks i k)
-fits_behind ks i j k l lt asc f e h =
-    fits_from ks i k lt asc true (is_lt (key_cmp k l)) (past_first ks i k f) (ap (is_before_all k) (ap (slice_get ks) (sym e) ∙ h))
+module _ (ks : List Key) (k : Key) where
+  fits_from : (i : ℕ) → i < length ks → is_ascending ks ≡ true → (a b : Bool) → is_past_all (key_before ks i) k ≡ a
+      → is_before_all k (slice_get ks (suc i)) ≡ b → (a && b) ≡ is_ascending (slice_set ks i k)
+  fits_from i lt asc a b e f = sym (set_ascends ks i k lt asc ∙ ap (λ c. c && is_before_all k (slice_get ks (suc i))) e ∙ ap (λ c. a && c) f)
+
+  -- the key before does not let it
+  pub not_fits : (i : ℕ) (l : Key) → i < length ks → is_ascending ks ≡ true → 0 < i → slice_get ks (i - 1) ≡ Some l → is_lt (key_cmp l k) ≡ false
+      → false ≡ is_ascending (slice_set ks i k)
+  not_fits zero l lt asc some h g = absurd (omega arith)
+  not_fits (suc i) l lt asc some h g =
+      let here : slice_get ks i ≡ Some l = subst (λ n. slice_get ks n ≡ Some l) (one_back i) h in
+      fits_from (suc i) lt asc false (is_before_all k (slice_get ks (suc (suc i)))) (ap (λ o. is_past_all o k) here ∙ g) refl
+
+  -- the key behind decides
+  pub fits_behind : (i j : ℕ) (l : Key) → i < length ks → is_ascending ks ≡ true
+      → ((m : Key) → 0 < i → slice_get ks (i - 1) ≡ Some m → is_lt (key_cmp m k) ≡ true) → j ≡ suc i → slice_get ks j ≡ Some l
+      → is_lt (key_cmp k l) ≡ is_ascending (slice_set ks i k)
+  fits_behind i j l lt asc f e h =
+      fits_from i lt asc true (is_lt (key_cmp k l)) (past_first ks i k f) (ap (is_before_all k) (ap (slice_get ks) (sym e) ∙ h))
 
 no_more : (ks : List Key) (i : ℕ) → length ks ≤ i → slice_get ks i ≡ None
 no_more [] i h = refl
@@ -127,14 +128,15 @@ no_more (k ∷ ks) (suc i) h = no_more ks i (omega arith)
 pub fits_last : (ks : List Key) (i : ℕ) (k : Key) → i < length ks → is_ascending ks ≡ true
     → ((m : Key) → 0 < i → slice_get ks (i - 1) ≡ Some m → is_lt (key_cmp m k) ≡ true)
     → length ks ≤ suc i → true ≡ is_ascending (slice_set ks i k)
-fits_last ks i k lt asc f e = fits_from ks i k lt asc true true (past_first ks i k f) (ap (is_before_all k) (no_more ks (suc i) e))
+fits_last ks i k lt asc f e = fits_from ks k i lt asc true true (past_first ks i k f) (ap (is_before_all k) (no_more ks (suc i) e))
 
-pub known_past : (ks : List Key) (i : ℕ) (k l : Key) → slice_get ks (i - 1) ≡ Some l → is_lt (key_cmp l k) ≡ true → (m : Key) → 0 < i
-    → slice_get ks (i - 1) ≡ Some m → is_lt (key_cmp m k) ≡ true
-known_past ks i k l h g m some e = let same : l ≡ m = some_same l m (sym h ∙ e) in subst (λ n. is_lt (key_cmp n k) ≡ true) same g
-  where
-    some_same : (a b : Key) → Some a ≡ Some b → a ≡ b
-    some_same a b q = cc
+module _ (ks : List Key) (i : ℕ) (k : Key) where
+  pub known_past : (l : Key) → slice_get ks (i - 1) ≡ Some l → is_lt (key_cmp l k) ≡ true → (m : Key) → 0 < i → slice_get ks (i - 1) ≡ Some m
+      → is_lt (key_cmp m k) ≡ true
+  known_past l h g m some e = let same : l ≡ m = some_same l m (sym h ∙ e) in subst (λ n. is_lt (key_cmp n k) ≡ true) same g
+    where
+      some_same : (a b : Key) → Some a ≡ Some b → a ≡ b
+      some_same a b q = cc
 
-pub first_past : (ks : List Key) (i : ℕ) (k : Key) → i ≤ 0 → (m : Key) → 0 < i → slice_get ks (i - 1) ≡ Some m → is_lt (key_cmp m k) ≡ true
-first_past ks i k none m some e = absurd (omega arith)
+  pub first_past : i ≤ 0 → (m : Key) → 0 < i → slice_get ks (i - 1) ≡ Some m → is_lt (key_cmp m k) ≡ true
+  first_past none m some e = absurd (omega arith)

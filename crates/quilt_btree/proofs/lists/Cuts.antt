@@ -15,11 +15,11 @@ cut_last (k ∷ ks) x h =
     let end : length (k ∷ ks) ≤ suc (length (k ∷ ks) - 1) = omega arith in
     sym (cut_at (k ∷ ks) (length (k ∷ ks) - 1) x h ∙ ap (λ l. take (length (k ∷ ks) - 1) (k ∷ ks) ++ x ∷ l) (drop_of_length-le (k ∷ ks) end))
 
-pub last_again : {X : Type 0} (ks more first rest : List X) (k x : X) (n : ℕ) → n ≡ length ks + 1 → slice_get ks (length ks - 1) ≡ Some x
-    → first ≡ take (n - 1 - 1) ks → rest ≡ drop (n - 1) ks ++ k ∷ more
-    → first ++ x ∷ rest ≡ ks ++ k ∷ more
-last_again ks more first rest k x n many h e f =
+pub last_again : {X : Type 0} (ks more : List X) {first rest : List X} (k x : X) {n : ℕ} → n ≡ length ks + 1 → slice_get ks (length ks - 1) ≡ Some x
+    → first ≡ take (n - 1 - 1) ks → rest ≡ drop (n - 1) ks ++ k ∷ more → first ++ x ∷ rest ≡ ks ++ k ∷ more
+last_again ks more {rest = rest} k x {n = n} many h e f =
     let low : n - 1 - 1 ≡ length ks - 1 = omega arith in
     let end : length ks ≤ n - 1 = omega arith in
-    ap (λ l. l ++ x ∷ rest) (e ∙ ap (λ m. take m ks) low) ∙ ap (λ l. take (length ks - 1) ks ++ x ∷ l) (f ∙ ap (λ l. l ++ k ∷ more) (drop_of_length-le ks end))
+    ap (λ l. l ++ x ∷ rest) (e ∙ ap (λ m. take m ks) low) ∙ ap (λ l. take (length ks - 1) ks ++ x ∷ l)
+    (f ∙ ap (λ l. l ++ k ∷ more) (drop_of_length-le ks end))
     ∙ sym (append_assoc (take (length ks - 1) ks) (x ∷ []) (k ∷ more)) ∙ ap (λ l. l ++ k ∷ more) (cut_last ks x h)

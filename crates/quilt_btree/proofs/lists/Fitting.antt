@@ -1,5 +1,6 @@
 -- Where a key may stand among keys that ascend.
 use Rattle.std.proofs.Common.{◌≡◌, ℕ, zero, suc, ◌-◌, ◌<◌, Bool, true, false, ◌&&◌, List, [], ◌∷◌, take, drop, Some, refl, sym, ◌∙◌, ap, subst, arith}
+use Rattle.std.proofs.lemmas.Bool.{and_from, and_parts}
 use Rattle.std.specs.Prelude.{slice_get}
 use Rattle.std.specs.List.{insert, list_all}
 use Rattle.std.specs.Ordering.{is_lt}
@@ -12,7 +13,6 @@ use Rattle.quilt_btree.proofs.lists.Rising.{all_follow}
 use Rattle.quilt_btree.proofs.subtrees.Trees.{ascending_first, ascending_rest}
 use Rattle.quilt_btree.proofs.subtrees.Dividing.{member}
 use Rattle.quilt_btree.proofs.lists.Separators.{below_separator, ascending_behind}
-use Rattle.quilt_btree.proofs.subtrees.Walks.{and_parts, and_both}
 
 abbrev pub are_under : Key → List Key → Bool
 are_under k ks = list_all (λ l. is_lt (key_cmp l k)) ks
@@ -28,10 +28,10 @@ both_ways false false f g = refl
 under_all : (ks : List Key) (j : ℕ) (l k : Key) → is_ascending ks ≡ true → slice_get ks j ≡ Some l → is_lt (key_cmp l k) ≡ true
     → are_under k (take (suc j) ks) ≡ true
 under_all [] j l k a h g = cc
-under_all (x ∷ ks) zero l k a h g = let same : x ≡ l = cc in and_both (is_lt (key_cmp x k)) true (subst (λ m. is_lt (key_cmp m k) ≡ true) (sym same) g) refl
+under_all (x ∷ ks) zero l k a h g = let same : x ≡ l = cc in and_from (is_lt (key_cmp x k)) true (subst (λ m. is_lt (key_cmp m k) ≡ true) (sym same) g) refl
 under_all (x ∷ ks) (suc j) l k a h g =
     let first = member (λ m. is_lt (key_cmp x m)) ks j l h (ascending_first x ks a) in
-    and_both (is_lt (key_cmp x k)) (are_under k (take (suc j) ks)) (lt_le x l k first (lt_to_le (key_cmp l k) g))
+    and_from (is_lt (key_cmp x k)) (are_under k (take (suc j) ks)) (lt_le x l k first (lt_to_le (key_cmp l k) g))
     (under_all ks j l k (ascending_rest x ks a) h g)
 
 all_under : (ks : List Key) (j : ℕ) (l k : Key) → slice_get ks j ≡ Some l → are_under k (take (suc j) ks) ≡ true → is_lt (key_cmp l k) ≡ true
@@ -53,7 +53,7 @@ over_all [] j m k a h g = cc
 over_all (x ∷ ks) zero m k a h g =
     let same : x ≡ m = cc in
     let here = subst (λ l. is_lt (key_cmp k l) ≡ true) (sym same) g in
-    and_both (is_lt (key_cmp k x)) (are_over k ks) here
+    and_from (is_lt (key_cmp k x)) (are_over k ks) here
     (all_follow (λ l. is_lt (key_cmp x l)) (λ l. is_lt (key_cmp k l)) (λ l f. lt_le k x l here (lt_to_le (key_cmp x l) f)) ks (ascending_first x ks a))
 over_all (x ∷ ks) (suc j) m k a h g = over_all ks j m k (ascending_rest x ks a) h g
 
@@ -70,7 +70,7 @@ pub fits_there : (ks : List Key) (i : ℕ) (k : Key) → is_ascending ks ≡ tru
 fits_there ks i k a =
     both_ways (are_under k (take i ks) && are_over k (drop i ks)) (is_ascending (insert ks i k))
     (λ h. let t = and_parts (are_under k (take i ks)) (are_over k (drop i ks)) h in ascending_insert k ks i a t.0 t.1)
-    (λ h. and_both (are_under k (take i ks)) (are_over k (drop i ks)) (below_separator k (take i ks) (drop i ks) h)
+    (λ h. and_from (are_under k (take i ks)) (are_over k (drop i ks)) (below_separator k (take i ks) (drop i ks) h)
     (ascending_first k (drop i ks) (ascending_behind (take i ks) (k ∷ drop i ks) h)))
 
 pub fits_not : (ks : List Key) (i : ℕ) (k : Key) → is_ascending ks ≡ true → are_under k (take i ks) ≡ false → false ≡ is_ascending (insert ks i k)

@@ -1,5 +1,6 @@
 -- What is looked for, put in or taken out concerns one part of an ascending list alone.
 use Rattle.std.proofs.Common.{◌≡◌, Bool, true, false, ◌||◌, not, cond, List, [], ◌∷◌, ◌++◌, filter, Option, Some, None, refl, ◌∙◌, ap}
+use Rattle.std.proofs.lemmas.Bool.{and_parts, not-true}
 use Rattle.std.specs.Prelude.{if◌then◌else◌}
 use Rattle.std.specs.List.{list_any, list_all, find, last_or}
 use Rattle.std.specs.Ordering.{is_lt, is_le, ordering_reverse}
@@ -14,7 +15,6 @@ use Rattle.quilt_record.specs.Lists.{has_key, put, without}
 use Rattle.quilt_btree.specs.Lists.{value_in, value_of, is_at_most, floor_of}
 use Rattle.quilt_record.proofs.Orders.{key_total, is_Less, lt_not_eq, gt_not_eq, lt_to_le}
 use Rattle.quilt_btree.proofs.lists.Rising.{all_follow}
-use Rattle.quilt_btree.proofs.subtrees.Walks.{and_parts}
 
 -- all of these have smaller keys, or greater ones
 abbrev pub AreBelow : Key → List Record → Type 0
@@ -38,27 +38,23 @@ filter_all p (x ∷ xs) h =
     let t = and_parts (p x) (list_all p xs) h in
     filter_cond p x (filter p xs) (filter p xs) true t.0 ∙ ap (λ l. x ∷ l) (filter_all p xs t.1)
 
-turned : (b : Bool) → not b ≡ true → b ≡ false
-turned true h = cc
-turned false h = refl
-
 pub filter_none : {X : Type 0} (p : X → Bool) (xs : List X) → list_all (λ x. not (p x)) xs ≡ true → filter p xs ≡ []
 filter_none p [] h = refl
 filter_none p (x ∷ xs) h =
     let t = and_parts (not (p x)) (list_all (λ y. not (p y)) xs) h in
-    filter_cond p x (filter p xs) (filter p xs) false (turned (p x) t.0) ∙ filter_none p xs t.1
+    filter_cond p x (filter p xs) (filter p xs) false (not-true (p x) t.0) ∙ filter_none p xs t.1
 
 pub find_none : {X : Type 0} (p : X → Bool) (xs : List X) → list_all (λ x. not (p x)) xs ≡ true → find p xs ≡ None
 find_none p [] h = refl
 find_none p (x ∷ xs) h =
     let t = and_parts (not (p x)) (list_all (λ y. not (p y)) xs) h in
-    ap (λ c. cond c (Some x) (find p xs)) (turned (p x) t.0) ∙ find_none p xs t.1
+    ap (λ c. cond c (Some x) (find p xs)) (not-true (p x) t.0) ∙ find_none p xs t.1
 
 pub any_none : {X : Type 0} (p : X → Bool) (xs : List X) → list_all (λ x. not (p x)) xs ≡ true → list_any p xs ≡ false
 any_none p [] h = refl
 any_none p (x ∷ xs) h =
     let t = and_parts (not (p x)) (list_all (λ y. not (p y)) xs) h in
-    ap (λ c. c || list_any p xs) (turned (p x) t.0) ∙ any_none p xs t.1
+    ap (λ c. c || list_any p xs) (not-true (p x) t.0) ∙ any_none p xs t.1
 
 any_append : {X : Type 0} (p : X → Bool) (xs ys : List X) → list_any p (xs ++ ys) ≡ (list_any p xs || list_any p ys)
 any_append p [] ys = refl
@@ -105,7 +101,8 @@ find_between p before here behind f g =
 pub value_between : (k : Key) (before here behind rs : List Record) → IsAmong k before here behind rs → value_of k rs ≡ value_of k here
 unfolding value_of
 value_between k before here behind rs h =
-    ap value_in (ap (find (has_key k)) h.records ∙ find_between (has_key k) before here behind (below_other k before h.lower) (above_other k behind h.higher))
+    ap value_in
+    (ap (find (has_key k)) h.records ∙ find_between (has_key k) before here behind (below_other k before h.lower) (above_other k behind h.higher))
 
 pub any_between : (k : Key) (before here behind rs : List Record) → IsAmong k before here behind rs → list_any (has_key k) rs ≡ list_any (has_key k) here
 any_between k before here behind rs h =

@@ -1,5 +1,6 @@
 -- Keys that ascend within bounds are separated at one of them.
 use Rattle.std.proofs.Common.{◌≡◌, true, ◌&&◌, List, [], ◌∷◌, ◌++◌, Some, refl}
+use Rattle.std.proofs.lemmas.Bool.{and_from, and_parts}
 use Rattle.std.specs.List.{list_all}
 use Rattle.std.specs.Ordering.{is_lt, is_le}
 use Rattle.quilt_record.specs.declared.key.Key.{Key}
@@ -10,7 +11,6 @@ use Rattle.quilt_record.proofs.Orders.{lt_to_le}
 use Rattle.quilt_btree.proofs.lists.Rising.{IsRising, all_follow, all_parts}
 use Rattle.quilt_btree.proofs.subtrees.Trees.{ascending_first, ascending_rest, all_both}
 use Rattle.quilt_btree.proofs.ways.Leaves.{same_le}
-use Rattle.quilt_btree.proofs.subtrees.Walks.{and_parts, and_both}
 
 pub ascending_back : (ks ls : List Key) → is_ascending (ks ++ ls) ≡ true → is_ascending ls ≡ true
 ascending_back [] ls a = a
@@ -21,13 +21,14 @@ ascending_front [] ls a = refl
 ascending_front (k ∷ []) ls a = refl
 ascending_front (k ∷ l ∷ ks) ls a =
     let t = and_parts (is_lt (key_cmp k l)) (is_ascending (l ∷ ks ++ ls)) a in
-    and_both (is_lt (key_cmp k l)) (is_ascending (l ∷ ks)) t.0 (ascending_front (l ∷ ks) ls t.1)
+    and_from (is_lt (key_cmp k l)) (is_ascending (l ∷ ks)) t.0 (ascending_front (l ∷ ks) ls t.1)
 
 pub all_under : (ks : List Key) (k : Key) (ls : List Key) → is_ascending (ks ++ k ∷ ls) ≡ true → list_all (λ l. is_lt (key_cmp l k)) ks ≡ true
 all_under [] k ls a = refl
 all_under (m ∷ ks) k ls a =
     let over = all_parts (λ l. is_lt (key_cmp m l)) ks (k ∷ ls) (ascending_first m (ks ++ k ∷ ls) a) in
-    and_both (is_lt (key_cmp m k)) (list_all (λ l. is_lt (key_cmp l k)) ks) (and_parts (is_lt (key_cmp m k)) (list_all (λ l. is_lt (key_cmp m l)) ls) over.1).0
+    and_from (is_lt (key_cmp m k)) (list_all (λ l. is_lt (key_cmp l k)) ks)
+    (and_parts (is_lt (key_cmp m k)) (list_all (λ l. is_lt (key_cmp m l)) ls) over.1).0
     (all_under ks k ls (ascending_rest m (ks ++ k ∷ ls) a))
 
 -- what stands before a key, and what stands from it on
@@ -47,7 +48,8 @@ rises_apart b ks k ls r =
     let over : list_all (λ m. is_le (key_cmp k m)) ls ≡ true =
     all_follow (λ m. is_lt (key_cmp k m)) (λ m. is_le (key_cmp k m)) (λ m h. lt_to_le (key_cmp k m) h) ls (ascending_first k ls asc) in
     let below : list_all (is_below b.high) ls ≡ true =
-    all_follow (λ m. is_above b.low m && is_below b.high m) (is_below b.high) (λ m h. (and_parts (is_above b.low m) (is_below b.high m) h).1) ls here.1 in
+    all_follow (λ m. is_above b.low m && is_below b.high m) (is_below b.high) (λ m h. (and_parts (is_above b.low m) (is_below b.high m) h).1) ls
+    here.1 in
     let rest = all_both (λ m. is_le (key_cmp k m)) (is_below b.high) ls over below in
     record {
       before = record {
@@ -59,8 +61,8 @@ rises_apart b ks k ls r =
       behind = record { ascends = ascending_rest k ls asc; within = rest };
       from_here = record {
         ascends = asc;
-        within = and_both (is_le (key_cmp k k) && is_below b.high k) (list_all (λ m. is_le (key_cmp k m) && is_below b.high m) ls)
-            (and_both (is_le (key_cmp k k)) (is_below b.high k) (same_le k) mine.1) rest;
+        within = and_from (is_le (key_cmp k k) && is_below b.high k) (list_all (λ m. is_le (key_cmp k m) && is_below b.high m) ls)
+            (and_from (is_le (key_cmp k k)) (is_below b.high k) (same_le k) mine.1) rest;
       };
       low = mine.0;
       high = mine.1;

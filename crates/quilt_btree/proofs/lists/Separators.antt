@@ -1,5 +1,6 @@
 -- Keys that ascend within bounds, separated at one of them.
 use Rattle.std.proofs.Common.{◌≡◌, true, ◌&&◌, List, [], ◌∷◌, ◌++◌, Some, refl}
+use Rattle.std.proofs.lemmas.Bool.{and_from, and_parts}
 use Rattle.std.specs.List.{list_all}
 use Rattle.std.specs.Ordering.{is_lt, is_le}
 use Rattle.quilt_record.specs.declared.key.Key.{Key}
@@ -9,13 +10,13 @@ use Rattle.quilt_node.specs.Tree.{Bounds, is_above, is_below, are_within}
 use Rattle.quilt_record.proofs.Orders.{lt_to_le}
 use Rattle.quilt_btree.proofs.lists.Rising.{all_follow, all_parts}
 use Rattle.quilt_btree.proofs.subtrees.Trees.{ascending_first, ascending_rest, all_both}
-use Rattle.quilt_btree.proofs.subtrees.Walks.{and_parts, and_both}
 
 pub below_separator : (k : Key) (ks ls : List Key) → is_ascending (ks ++ k ∷ ls) ≡ true → list_all (λ l. is_lt (key_cmp l k)) ks ≡ true
 below_separator k [] ls a = refl
 below_separator k (m ∷ ks) ls a =
     let parts = all_parts (λ l. is_lt (key_cmp m l)) ks (k ∷ ls) (ascending_first m (ks ++ k ∷ ls) a) in
-    and_both (is_lt (key_cmp m k)) (list_all (λ l. is_lt (key_cmp l k)) ks) (and_parts (is_lt (key_cmp m k)) (list_all (λ l. is_lt (key_cmp m l)) ls) parts.1).0
+    and_from (is_lt (key_cmp m k)) (list_all (λ l. is_lt (key_cmp l k)) ks)
+    (and_parts (is_lt (key_cmp m k)) (list_all (λ l. is_lt (key_cmp m l)) ls) parts.1).0
     (below_separator k ks ls (ascending_rest m (ks ++ k ∷ ls) a))
 
 pub ascending_behind : (ks ls : List Key) → is_ascending (ks ++ ls) ≡ true → is_ascending ls ≡ true

@@ -1,5 +1,6 @@
 -- How many records are left without the one with a key.
 use Rattle.std.proofs.Common.{◌≡◌, suc, Bool, true, false, ◌||◌, not, List, [], ◌∷◌, length, filter, refl, ◌∙◌, ap, Ordering, Less, Equal, Greater}
+use Rattle.std.proofs.lemmas.Bool.{and_from}
 use Rattle.std.specs.List.{list_any, list_all}
 use Rattle.std.specs.Ordering.{is_lt, is_le, is_eq, ordering_reverse}
 use Rattle.quilt_record.specs.declared.key.Key.{Key}
@@ -11,7 +12,6 @@ use Rattle.quilt_record.specs.Lists.{has_key, without}
 use Rattle.quilt_record.proofs.Orders.{key_total, le_lt}
 use Rattle.quilt_btree.proofs.lists.Rising.{all_follow, all_map}
 use Rattle.quilt_btree.proofs.subtrees.Trees.{ascending_first, ascending_rest}
-use Rattle.quilt_btree.proofs.subtrees.Walks.{and_both}
 use Rattle.quilt_btree.proofs.lists.Lists.{filter_all, filter_cond, above_other}
 
 -- where no record has the key, all are left
@@ -27,7 +27,7 @@ without_missing k rs h = filter_all (λ r. not (has_key k r)) rs (none_has rs h)
     none_has [] h = refl
     none_has (r ∷ rs) h =
         let t = or_none (has_key k r) (list_any (has_key k) rs) h in
-        and_both (not (has_key k r)) (list_all (λ s. not (has_key k s)) rs) (ap not t.0) (none_has rs t.1)
+        and_from (not (has_key k r)) (list_all (λ s. not (has_key k s)) rs) (ap not t.0) (none_has rs t.1)
 
 turned : (o : Ordering) → is_eq o ≡ true → is_le (ordering_reverse o) ≡ true
 turned Less h = cc

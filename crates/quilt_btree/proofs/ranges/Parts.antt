@@ -40,21 +40,20 @@ part_at : (rs : List Record) (first last i : ℕ) (r : Record) → first ≤ i �
     → slice_get (part first last rs) (i - first) ≡ Some r
 part_at rs first last i r le lt h = get_take (drop first rs) (last - first) (i - first) r (omega arith) (get_drop rs first i r le h)
 
-pub add_place : (p : Record → Bool) (n first last i : ℕ) (old items rs : List Record) (r : Record) → first ≤ i → i < last → slice_get rs i ≡ Some r
-    → items ≡ take n (old ++ filter p (take (i - first) (part first last rs)))
-    → length items < n → p r ≡ true → items ++ r ∷ [] ≡ take n (old ++ filter p (take ((i + 1) - first) (part first last rs)))
-add_place p n first last i old items rs r le lt at is room passes =
-    let e : (i + 1) - first ≡ (i - first) + 1 = omega arith in
-    add_record p n (i - first) old items (part first last rs) r (part_at rs first last i r le lt at) is room passes
-    ∙ ap (λ m. take n (old ++ filter p (take m (part first last rs)))) (sym e)
+module _ (p : Record → Bool) (n first last i : ℕ) (old items rs : List Record) (r : Record) (le : first ≤ i) (lt : i < last) where
+  pub add_place : slice_get rs i ≡ Some r → items ≡ take n (old ++ filter p (take (i - first) (part first last rs))) → length items < n → p r ≡ true
+      → items ++ r ∷ [] ≡ take n (old ++ filter p (take ((i + 1) - first) (part first last rs)))
+  add_place at is room passes =
+      let e : (i + 1) - first ≡ (i - first) + 1 = omega arith in
+      add_record p n (i - first) old items (part first last rs) r (part_at rs first last i r le lt at) is room passes
+      ∙ ap (λ m. take n (old ++ filter p (take m (part first last rs)))) (sym e)
 
-pub skip_place : (p : Record → Bool) (n first last i : ℕ) (old items rs : List Record) (r : Record) → first ≤ i → i < last → slice_get rs i ≡ Some r
-    → items ≡ take n (old ++ filter p (take (i - first) (part first last rs)))
-    → p r ≡ false → items ≡ take n (old ++ filter p (take ((i + 1) - first) (part first last rs)))
-skip_place p n first last i old items rs r le lt at is fails =
-    let e : (i + 1) - first ≡ (i - first) + 1 = omega arith in
-    skip_record p n (i - first) old items (part first last rs) r (part_at rs first last i r le lt at) is fails
-    ∙ ap (λ m. take n (old ++ filter p (take m (part first last rs)))) (sym e)
+  pub skip_place : slice_get rs i ≡ Some r → items ≡ take n (old ++ filter p (take (i - first) (part first last rs))) → p r ≡ false
+      → items ≡ take n (old ++ filter p (take ((i + 1) - first) (part first last rs)))
+  skip_place at is fails =
+      let e : (i + 1) - first ≡ (i - first) + 1 = omega arith in
+      skip_record p n (i - first) old items (part first last rs) r (part_at rs first last i r le lt at) is fails
+      ∙ ap (λ m. take n (old ++ filter p (take m (part first last rs)))) (sym e)
 
 pub no_place : (p : Record → Bool) (n first last : ℕ) (old rs : List Record) → length old ≤ n
     → old ≡ take n (old ++ filter p (take (first - first) (part first last rs)))
@@ -74,7 +73,8 @@ all_behind q (suc first) (suc last) (r ∷ rs) h =
     let e : suc last - suc first ≡ last - first = omega arith in
     subst (λ n. list_all q (drop n (drop first rs)) ≡ true) (sym e) (all_behind q first last rs h)
 
-none_above : (low high : Key) (rs : List Record) → list_all (λ (r : Record). is_lt (key_cmp high r.key)) rs ≡ true → filter (is_from_to low high) rs ≡ []
+none_above : (low high : Key) (rs : List Record) → list_all (λ (r : Record). is_lt (key_cmp high r.key)) rs ≡ true
+    → filter (is_from_to low high) rs ≡ []
 none_above low high rs h =
     filter_none (is_from_to low high) rs
     (all_follow (λ (r : Record). is_lt (key_cmp high r.key)) (λ r. not (is_from_to low high r))
@@ -84,34 +84,36 @@ none_above low high rs h =
     and_false true = refl
     and_false false = refl
 
--- no others are in the range
-part_filter : (low high : Key) (first last : ℕ) (rs : List Record) → list_all (λ (r : Record). is_lt (key_cmp r.key low)) (take first rs) ≡ true
-    → list_all (λ (r : Record). is_lt (key_cmp high r.key)) (drop last rs) ≡ true
-    → filter (is_from_to low high) (part first last rs) ≡ filter (is_from_to low high) rs
-part_filter low high first last rs below above =
-    let P = is_from_to low high in
-    let front : filter P rs ≡ filter P (drop first rs) =
-    ap (filter P) (sym (take-append-drop first rs)) ∙ filter-append P (take first rs) (drop first rs)
-    ∙ ap (λ l. l ++ filter P (drop first rs)) (none_below low high (take first rs) below) in
-    let back : filter P (drop first rs) ≡ filter P (part first last rs) =
-    ap (filter P) (sym (take-append-drop (last - first) (drop first rs))) ∙ filter-append P (part first last rs) (drop (last - first) (drop first rs))
-    ∙ ap (λ l. filter P (part first last rs) ++ l)
-    (none_above low high (drop (last - first) (drop first rs)) (all_behind (λ (r : Record). is_lt (key_cmp high r.key)) first last rs above))
-    ∙ append-nil (filter P (part first last rs)) in
-    sym (front ∙ back)
+module _ (low high : Key) (first last : ℕ) where
+  -- no others are in the range
+  part_filter : (rs : List Record) → list_all (λ (r : Record). is_lt (key_cmp r.key low)) (take first rs) ≡ true
+      → list_all (λ (r : Record). is_lt (key_cmp high r.key)) (drop last rs) ≡ true → filter (is_from_to low high)
+      (part first last rs) ≡ filter (is_from_to low high) rs
+  part_filter rs below above =
+      let P = is_from_to low high in
+      let front : filter P rs ≡ filter P (drop first rs) =
+      ap (filter P) (sym (take-append-drop first rs)) ∙ filter-append P (take first rs) (drop first rs)
+      ∙ ap (λ l. l ++ filter P (drop first rs)) (none_below low high (take first rs) below) in
+      let back : filter P (drop first rs) ≡ filter P (part first last rs) =
+      ap (filter P) (sym (take-append-drop (last - first) (drop first rs))) ∙ filter-append P (part first last rs)
+      (drop (last - first) (drop first rs))
+      ∙ ap (λ l. filter P (part first last rs) ++ l)
+      (none_above low high (drop (last - first) (drop first rs)) (all_behind (λ (r : Record). is_lt (key_cmp high r.key)) first last rs above))
+      ∙ append-nil (filter P (part first last rs)) in
+      sym (front ∙ back)
 
-pub part_added : {T E : Type 0} (result : Result T E) (low high : Key) (most first last : ℕ) (bytes : List ℕ) (old new : List Record)
-    → ((rs : List Record) → leaf_of bytes ≡ Some rs → list_all (λ r. is_lt (key_cmp r.key low)) (take first rs) ≡ true)
-    → ((rs : List Record) → leaf_of bytes ≡ Some rs → list_all (λ r. is_lt (key_cmp high r.key)) (drop last rs) ≡ true)
-    → OnOk result (new ≡ take most (old ++ filter (is_from_to low high) (part first last (records_of bytes))))
-    → OnOk result ((some : List Record) × (new ≡ take most (old ++ filter (is_from_to low high) some))
-    × ((rs : List Record) → leaf_of bytes ≡ Some rs → filter (is_from_to low high) some ≡ filter (is_from_to low high) rs))
-part_added (Err e) low high most first last bytes old new below above is = is
-part_added (Ok v) low high most first last bytes old new below above is = (
-  part first last (records_of bytes),
-  is,
-  λ rs l. ap (λ xs. filter (is_from_to low high) (part first last xs)) (leaf_records bytes rs l) ∙ part_filter low high first last rs (below rs l) (above rs l),
-)
+  pub part_added : {T E : Type 0} (result : Result T E) (most : ℕ) (bytes : List ℕ) (old new : List Record)
+      → ((rs : List Record) → leaf_of bytes ≡ Some rs → list_all (λ r. is_lt (key_cmp r.key low)) (take first rs) ≡ true)
+      → ((rs : List Record) → leaf_of bytes ≡ Some rs → list_all (λ r. is_lt (key_cmp high r.key)) (drop last rs) ≡ true)
+      → OnOk result (new ≡ take most (old ++ filter (is_from_to low high) (part first last (records_of bytes))))
+      → OnOk result ((some : List Record) × (new ≡ take most (old ++ filter (is_from_to low high) some)) × ((rs : List Record) → leaf_of bytes ≡ Some rs
+      → filter (is_from_to low high) some ≡ filter (is_from_to low high) rs))
+  part_added (Err e) most bytes old new below above is = is
+  part_added (Ok v) most bytes old new below above is = (
+    part first last (records_of bytes),
+    is,
+    λ rs l. ap (λ xs. filter (is_from_to low high) (part first last xs)) (leaf_records bytes rs l) ∙ part_filter rs (below rs l) (above rs l),
+  )
 
 pub past_place : (q : Record → Bool) (i : ℕ) (rs : List Record) → list_all q (drop (suc i) rs) ≡ true → list_all q (drop (i + 1) rs) ≡ true
 past_place q i rs h = let e : i + 1 ≡ suc i = omega arith in subst (λ n. list_all q (drop n rs) ≡ true) (sym e) h

@@ -1,5 +1,6 @@
 -- The records of a range, leaf by leaf.
 use Rattle.std.proofs.Common.{◌≡◌, ℕ, zero, suc, ◌+◌, ◌<◌, ◌≤◌, Bool, true, false, ◌&&◌, not, cond, List, [], ◌∷◌, ◌++◌, length, take, drop, filter, Option}
+use Rattle.std.proofs.lemmas.Bool.{and_from, and_parts}
 use Rattle.std.proofs.Common.{Some, None, refl, sym, ◌∙◌, ap, subst, append_assoc, arith, length-append, length-take, add-one, take_all, take-append-drop, min}
 use Rattle.std.specs.Prelude.{slice_get}
 use Rattle.std.specs.List.{list_all}
@@ -15,7 +16,6 @@ use Rattle.quilt_btree.specs.Trees.{LeadsTo, IsAsFar, is_past}
 use Rattle.quilt_record.proofs.Orders.{lt_le, le_le, lt_to_le, not_le}
 use Rattle.quilt_btree.proofs.lists.Rising.{all_follow, all_append}
 use Rattle.quilt_btree.proofs.lists.Lists.{AreBelow, filter_all, filter_none, filter_cond, gt_not_le}
-use Rattle.quilt_btree.proofs.subtrees.Walks.{and_parts, and_both}
 
 pub take_next : {X : Type 0} (xs : List X) (i : ℕ) (x : X) → slice_get xs i ≡ Some x → take (i + 1) xs ≡ take i xs ++ x ∷ []
 take_next xs i x h = ap (λ n. take n xs) (add-one i) ∙ next xs i x h
@@ -50,22 +50,21 @@ take_again zero xs ys = refl
 take_again (suc n) [] ys = refl
 take_again (suc n) (x ∷ xs) ys = ap (λ l. x ∷ l) (take_again n xs ys)
 
-pub add_record : (p : Record → Bool) (n i : ℕ) (old items leaf : List Record) (r : Record) → slice_get leaf i ≡ Some r
-    → items ≡ take n (old ++ filter p (take i leaf)) → length items < n → p r ≡ true
-    → items ++ r ∷ [] ≡ take n (old ++ filter p (take (i + 1) leaf))
-add_record p n i old items leaf r at is room passes =
-    let more : filter p (take (i + 1) leaf) ≡ filter p (take i leaf) ++ r ∷ [] =
-    ap (filter p) (take_next leaf i r at) ∙ filter-append p (take i leaf) (r ∷ [])
-    ∙ ap (λ l. filter p (take i leaf) ++ l) (filter_cond p r [] [] true passes) in
-    ap (λ l. l ++ r ∷ []) is ∙ sym (take_push n (old ++ filter p (take i leaf)) r (subst (λ l. length l < n) is room))
-    ∙ ap (take n) (append_assoc old (filter p (take i leaf)) (r ∷ []) ∙ ap (λ l. old ++ l) (sym more))
+module _ (p : Record → Bool) (n i : ℕ) (old items leaf : List Record) (r : Record) where
+  pub add_record : slice_get leaf i ≡ Some r → items ≡ take n (old ++ filter p (take i leaf)) → length items < n → p r ≡ true
+      → items ++ r ∷ [] ≡ take n (old ++ filter p (take (i + 1) leaf))
+  add_record at is room passes =
+      let more : filter p (take (i + 1) leaf) ≡ filter p (take i leaf) ++ r ∷ [] =
+      ap (filter p) (take_next leaf i r at) ∙ filter-append p (take i leaf) (r ∷ [])
+      ∙ ap (λ l. filter p (take i leaf) ++ l) (filter_cond p r [] [] true passes) in
+      ap (λ l. l ++ r ∷ []) is ∙ sym (take_push n (old ++ filter p (take i leaf)) r (subst (λ l. length l < n) is room))
+      ∙ ap (take n) (append_assoc old (filter p (take i leaf)) (r ∷ []) ∙ ap (λ l. old ++ l) (sym more))
 
-pub skip_record : (p : Record → Bool) (n i : ℕ) (old items leaf : List Record) (r : Record) → slice_get leaf i ≡ Some r
-    → items ≡ take n (old ++ filter p (take i leaf)) → p r ≡ false
-    → items ≡ take n (old ++ filter p (take (i + 1) leaf))
-skip_record p n i old items leaf r at is fails =
-    is ∙ ap (λ l. take n (old ++ l)) (sym (ap (filter p) (take_next leaf i r at) ∙ filter-append p (take i leaf) (r ∷ [])
-    ∙ ap (λ l. filter p (take i leaf) ++ l) (filter_cond p r [] [] false fails) ∙ append-nil (filter p (take i leaf))))
+  pub skip_record : slice_get leaf i ≡ Some r → items ≡ take n (old ++ filter p (take i leaf)) → p r ≡ false
+      → items ≡ take n (old ++ filter p (take (i + 1) leaf))
+  skip_record at is fails =
+      is ∙ ap (λ l. take n (old ++ l)) (sym (ap (filter p) (take_next leaf i r at) ∙ filter-append p (take i leaf) (r ∷ [])
+      ∙ ap (λ l. filter p (take i leaf) ++ l) (filter_cond p r [] [] false fails) ∙ append-nil (filter p (take i leaf))))
 
 pub full_list : (p : Record → Bool) (n i : ℕ) (old items leaf : List Record) → items ≡ take n (old ++ filter p (take i leaf)) → length items ≡ n
     → items ≡ take n (old ++ filter p leaf)
@@ -96,7 +95,8 @@ same_cut k rs a b c d e f la hb lc hd = sym (cut k rs a b e la hb) ∙ cut k rs 
         (all_follow (λ (r : Record). is_le (key_cmp k r.key)) (λ r. not (is_lt (key_cmp r.key k))) (λ r h. ap not (not_lt k r.key h)) b hb))
         ∙ append-nil a
 
-filter_same : (p q t : Record → Bool) → ((r : Record) → t r ≡ true → p r ≡ q r) → (rs : List Record) → list_all t rs ≡ true → filter p rs ≡ filter q rs
+filter_same : (p q t : Record → Bool) → ((r : Record) → t r ≡ true → p r ≡ q r) → (rs : List Record) → list_all t rs ≡ true
+    → filter p rs ≡ filter q rs
 filter_same p q t f [] h = refl
 filter_same p q t f (r ∷ rs) h =
     let u = and_parts (t r) (list_all t rs) h in
@@ -117,61 +117,60 @@ all_from k rs leaf start high l h =
     all_append (λ (r : Record). is_le (key_cmp k r.key)) leaf l.behind h
     (all_follow (λ (r : Record). is_lt (key_cmp k r.key)) (λ r. is_le (key_cmp k r.key)) (λ r g. lt_to_le (key_cmp k r.key) g) l.behind l.higher)
 
-pub range_more : (low from high : Key) (most : ℕ) (rs leaf old new : List Record) (start up : Option Key) (l : LeadsTo from rs leaf start up)
-    → list_all (λ (r : Record). is_le (key_cmp from r.key)) leaf ≡ true
-    → is_le (key_cmp low from) ≡ true → IsAsFar low high most from rs old → new ≡ take most (old ++ filter (is_from_to from high) leaf)
-    → new ≡ range_of low high most (l.before ++ leaf)
-unfolding range_of
-range_more low from high most rs leaf old new start up l starts le far is =
-    let same = same_cut from rs far.done far.rest l.before (leaf ++ l.behind) far.records l.records far.lower far.from_here l.lower
-    (all_from from rs leaf start up l starts) in
-    let P = is_from_to low high in
-    is ∙ ap (λ x. take most (x ++ filter (is_from_to from high) leaf)) (far.items_are ∙ ap (λ d. take most (filter P d)) same)
-    ∙ take_again most (filter P l.before) (filter (is_from_to from high) leaf)
-    ∙ ap (λ x. take most (filter P l.before ++ x)) (from_later low from high leaf le starts)
-    ∙ ap (take most) (sym (filter-append P l.before leaf))
+module _ (low high : Key) where
+  pub none_below : (rs : List Record) → AreBelow low rs → filter (is_from_to low high) rs ≡ []
+  none_below rs h =
+      filter_none (is_from_to low high) rs
+      (all_follow (λ (r : Record). is_lt (key_cmp r.key low)) (λ r. not (is_from_to low high r))
+      (λ r g. ap (λ b. not (b && is_le (key_cmp r.key high))) (gt_not_le r.key low g)) rs h)
 
-pub none_below : (low high : Key) (rs : List Record) → AreBelow low rs → filter (is_from_to low high) rs ≡ []
-none_below low high rs h =
-    filter_none (is_from_to low high) rs
-    (all_follow (λ (r : Record). is_lt (key_cmp r.key low)) (λ r. not (is_from_to low high r))
-    (λ r g. ap (λ b. not (b && is_le (key_cmp r.key high))) (gt_not_le r.key low g)) rs h)
+  pub range_first : (most : ℕ) (rs leaf new : List Record) (start up : Option Key) (l : LeadsTo low rs leaf start up)
+      → new ≡ take most ([] ++ filter (is_from_to low high) leaf) → new ≡ range_of low high most (l.before ++ leaf)
+  unfolding range_of
+  range_first most rs leaf new start up l is =
+      is ∙ ap (take most) (sym
+      (filter-append (is_from_to low high) l.before leaf ∙ ap (λ x. x ++ filter (is_from_to low high) leaf) (none_below l.before l.lower)))
 
-pub range_first : (low high : Key) (most : ℕ) (rs leaf new : List Record) (start up : Option Key) (l : LeadsTo low rs leaf start up)
-    → new ≡ take most ([] ++ filter (is_from_to low high) leaf) → new ≡ range_of low high most (l.before ++ leaf)
-unfolding range_of
-range_first low high most rs leaf new start up l is =
-    is ∙ ap (take most) (sym
-    (filter-append (is_from_to low high) l.before leaf ∙ ap (λ x. x ++ filter (is_from_to low high) leaf) (none_below low high l.before l.lower)))
+module _ (low from high : Key) (most : ℕ) (rs leaf new : List Record) (start : Option Key) where
+  pub range_more : (old : List Record) (up : Option Key) (l : LeadsTo from rs leaf start up)
+      → list_all (λ (r : Record). is_le (key_cmp from r.key)) leaf ≡ true → is_le (key_cmp low from) ≡ true → IsAsFar low high most from rs old
+      → new ≡ take most (old ++ filter (is_from_to from high) leaf) → new ≡ range_of low high most (l.before ++ leaf)
+  unfolding range_of
+  range_more old up l starts le far is =
+      let same = same_cut from rs far.done far.rest l.before (leaf ++ l.behind) far.records l.records far.lower far.from_here l.lower
+      (all_from from rs leaf start up l starts) in
+      let P = is_from_to low high in
+      is ∙ ap (λ x. take most (x ++ filter (is_from_to from high) leaf)) (far.items_are ∙ ap (λ d. take most (filter P d)) same)
+      ∙ take_again most (filter P l.before) (filter (is_from_to from high) leaf)
+      ∙ ap (λ x. take most (filter P l.before ++ x)) (from_later low from high leaf le starts)
+      ∙ ap (take most) (sym (filter-append P l.before leaf))
 
--- the range goes on from the next key
-pub range_next : (low from high next : Key) (most : ℕ) (rs leaf new : List Record) (start : Option Key) (l : LeadsTo from rs leaf start (Some next))
-    → is_below start from ≡ true
-    → new ≡ range_of low high most (l.before ++ leaf) → IsAsFar low high most next rs new
-range_next low from high next most rs leaf new start l under is = record {
-  done = l.before ++ leaf;
-  rest = l.behind;
-  records = l.records ∙ sym (append_assoc l.before leaf l.behind);
-  lower = all_append (λ (r : Record). is_lt (key_cmp r.key next)) l.before leaf
-      (all_follow (λ (r : Record). is_lt (key_cmp r.key from)) (λ r. is_lt (key_cmp r.key next))
-      (λ r h. lt_le r.key from next h (lt_to_le (key_cmp from next) (l.key_under under))) l.before l.lower) l.here_under;
-  from_here = l.bounded;
-  items_are = is;
-}
+  -- the range goes on from the next key
+  pub range_next : (next : Key) (l : LeadsTo from rs leaf start (Some next)) → is_below start from ≡ true
+      → new ≡ range_of low high most (l.before ++ leaf) → IsAsFar low high most next rs new
+  range_next next l under is = record {
+    done = l.before ++ leaf;
+    rest = l.behind;
+    records = l.records ∙ sym (append_assoc l.before leaf l.behind);
+    lower = all_append (λ (r : Record). is_lt (key_cmp r.key next)) l.before leaf
+        (all_follow (λ (r : Record). is_lt (key_cmp r.key from)) (λ r. is_lt (key_cmp r.key next))
+        (λ r h. lt_le r.key from next h (lt_to_le (key_cmp from next) (l.key_under under))) l.before l.lower) l.here_under;
+    from_here = l.bounded;
+    items_are = is;
+  }
 
-whole_range : (low high : Key) (most : ℕ) (rs front behind new : List Record) → rs ≡ front ++ behind → filter (is_from_to low high) behind ≡ []
-    → new ≡ range_of low high most front → new ≡ range_of low high most rs
-unfolding range_of
-whole_range low high most rs front behind new e none is =
-    is ∙ ap (take most) (sym (ap (filter (is_from_to low high)) e ∙ filter-append (is_from_to low high) front behind
-    ∙ ap (λ x. filter (is_from_to low high) front ++ x) none ∙ append-nil (filter (is_from_to low high) front)))
+module _ (low high : Key) (most : ℕ) (rs front behind new : List Record) (e : rs ≡ front ++ behind) where
+  whole_range : filter (is_from_to low high) behind ≡ [] → new ≡ range_of low high most front → new ≡ range_of low high most rs
+  unfolding range_of
+  whole_range none is =
+      is ∙ ap (take most) (sym (ap (filter (is_from_to low high)) e ∙ filter-append (is_from_to low high) front behind
+      ∙ ap (λ x. filter (is_from_to low high) front ++ x) none ∙ append-nil (filter (is_from_to low high) front)))
 
-full_range : (low high : Key) (most : ℕ) (rs front behind new : List Record) → rs ≡ front ++ behind → length new ≡ most
-    → new ≡ range_of low high most front → new ≡ range_of low high most rs
-unfolding range_of
-full_range low high most rs front behind new e full is =
-    is ∙ sym (ap (take most) (ap (filter (is_from_to low high)) e ∙ filter-append (is_from_to low high) front behind)
-    ∙ take_full most (filter (is_from_to low high) front) (filter (is_from_to low high) behind) (subst (λ l. length l ≡ most) is full))
+  full_range : length new ≡ most → new ≡ range_of low high most front → new ≡ range_of low high most rs
+  unfolding range_of
+  full_range full is =
+      is ∙ sym (ap (take most) (ap (filter (is_from_to low high)) e ∙ filter-append (is_from_to low high) front behind)
+      ∙ take_full most (filter (is_from_to low high) front) (filter (is_from_to low high) behind) (subst (λ l. length l ≡ most) is full))
 
 past_none : (low high : Key) (up : Option Key) (rs : List Record) → ((next : Key) → up ≡ Some next → is_le (key_cmp next high) ≡ false)
     → list_all (λ (r : Record). is_past up r.key) rs ≡ true → filter (is_from_to low high) rs ≡ []
@@ -187,17 +186,17 @@ past_none low high (Some next) rs f h =
     and_false true = refl
     and_false false = refl
 
--- the range ends here
-pub range_ends : (low from high : Key) (most : ℕ) (rs leaf new : List Record) (start up : Option Key) (l : LeadsTo from rs leaf start up)
-    → ((next : Key) → up ≡ Some next → is_le (key_cmp next high) ≡ false) → new ≡ range_of low high most (l.before ++ leaf) → new ≡ range_of low high most rs
-range_ends low from high most rs leaf new start up l over is =
-    whole_range low high most rs (l.before ++ leaf) l.behind new (l.records ∙ sym (append_assoc l.before leaf l.behind))
-    (past_none low high up l.behind over l.bounded) is
+module _ (low from high : Key) (most : ℕ) (rs leaf new : List Record) (start up : Option Key) (l : LeadsTo from rs leaf start up) where
+  -- the range ends here
+  pub range_ends : ((next : Key) → up ≡ Some next → is_le (key_cmp next high) ≡ false) → new ≡ range_of low high most (l.before ++ leaf)
+      → new ≡ range_of low high most rs
+  range_ends over is =
+      whole_range low high most rs (l.before ++ leaf) l.behind new (l.records ∙ sym (append_assoc l.before leaf l.behind))
+      (past_none low high up l.behind over l.bounded) is
 
-pub range_fills : (low from high : Key) (most : ℕ) (rs leaf new : List Record) (start up : Option Key) (l : LeadsTo from rs leaf start up)
-    → length new ≡ most → new ≡ range_of low high most (l.before ++ leaf) → new ≡ range_of low high most rs
-range_fills low from high most rs leaf new start up l full is =
-    full_range low high most rs (l.before ++ leaf) l.behind new (l.records ∙ sym (append_assoc l.before leaf l.behind)) full is
+  pub range_fills : length new ≡ most → new ≡ range_of low high most (l.before ++ leaf) → new ≡ range_of low high most rs
+  range_fills full is =
+      full_range low high most rs (l.before ++ leaf) l.behind new (l.records ∙ sym (append_assoc l.before leaf l.behind)) full is
 
 pub below_most : (n : ℕ) (xs items : List Record) → items ≡ take n xs → (length items ≡ n → ⊥) → length items < n
 below_most n xs items e ne =
@@ -214,7 +213,7 @@ adds_some from high next n old new (r ∷ leaf) e some starts ends le room ne sa
     let a = (and_parts (is_le (key_cmp from r.key)) (list_all (λ (s : Record). is_le (key_cmp from s.key)) leaf) starts).0 in
     let b = (and_parts (is_lt (key_cmp r.key next)) (list_all (λ (s : Record). is_lt (key_cmp s.key next)) leaf) ends).0 in
     let passes : is_from_to from high r ≡ true =
-    and_both (is_le (key_cmp from r.key)) (is_le (key_cmp r.key high)) a (lt_to_le (key_cmp r.key high) (lt_le r.key next high b le)) in
+    and_from (is_le (key_cmp from r.key)) (is_le (key_cmp r.key high)) a (lt_to_le (key_cmp r.key high) (lt_le r.key next high b le)) in
     let more : filter (is_from_to from high) (r ∷ leaf) ≡ r ∷ filter (is_from_to from high) leaf =
     filter_cond (is_from_to from high) r (filter (is_from_to from high) leaf) (filter (is_from_to from high) leaf) true passes in
     let m : length new ≡ min n (length (old ++ r ∷ filter (is_from_to from high) leaf)) =

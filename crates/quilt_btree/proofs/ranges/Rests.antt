@@ -27,34 +27,40 @@ pub record CameTo (told : Option (List (List ℕ))) (t : Tree) (from high : Key)
   pub added : new ≡ take most (old ++ filter (is_from_to from high) seen)
   pub same : (rs : List Record) → Spells told t.root t.height rs → filter (is_from_to from high) seen ≡ filter (is_from_to from high) leaf
 
--- the records of the leaf were added, where the tree is sound
-leaf_added : (told : Option (List (List ℕ))) (t : Tree) (from high : Key) (most : ℕ) (leaf old new rs : List Record) (up : Option Key)
-    (c : CameTo told t from high most leaf old new up) → Spells told t.root t.height rs
-    → new ≡ take most (old ++ filter (is_from_to from high) leaf)
-leaf_added told t from high most leaf old new rs up c s = c.added ∙ ap (λ l. take most (old ++ l)) (c.same rs s)
+module _ (told : Option (List (List ℕ))) (t : Tree) (from high : Key) where
+  -- the records of the leaf were added, where the tree is sound
+  leaf_added : (most : ℕ) (leaf old new rs : List Record) (up : Option Key) (c : CameTo told t from high most leaf old new up)
+      → Spells told t.root t.height rs → new ≡ take most (old ++ filter (is_from_to from high) leaf)
+  leaf_added most leaf old new rs up c s = c.added ∙ ap (λ l. take most (old ++ l)) (c.same rs s)
 
-pub rest_so_far : (told : Option (List (List ℕ))) (t : Tree) (low from high : Key) (most : ℕ) (leaf old new rs : List Record) (up : Option Key)
-    (c : CameTo told t from high most leaf old new up) (is : IsTree told t rs)
-    → Before told t low high most from rs old → (l : LeadsTo from rs leaf None up) × (new ≡ range_of low high most (l.before ++ leaf))
-rest_so_far told t low from high most leaf old new rs up c is b =
-    let s = tree_spells told t rs c.some is in
-    let l = c.leads rs s.0 s.1 in (
-      l,
-      range_more low from high most rs leaf old new None up l (c.cut.starts b.0 rs b.1 s.0 s.1 b.2) b.3 b.4
-          (leaf_added told t from high most leaf old new rs up c s.0),
-    )
+  -- each leaf but the first adds a record, where the range goes on
+  pub rest_adds : (next : Key) (most : ℕ) (leaf old new rs : List Record) (up : Option Key) (c : CameTo told t from high most leaf old new up)
+      (is : IsTree told t rs) (pages : List (List ℕ)) → told ≡ Some pages → Divides pages t.height t.root from → up ≡ Some next
+      → is_le (key_cmp next high) ≡ true → 1 ≤ length leaf → length old ≤ most → (length new ≡ most → ⊥) → length new ≡ length old → ⊥
+  rest_adds next most leaf old new rs up c is pages is_told d e le some room ne same =
+      let s = tree_spells told t rs c.some is in
+      let l = subst (λ o. LeadsTo from rs leaf None o) e (c.leads rs s.0 s.1) in
+      adds_some from high next most old new leaf (leaf_added most leaf old new rs up c s.0) some
+      (c.cut.starts pages rs is_told s.0 s.1 d) l.here_under le room ne same
 
-pub rest_ends : (told : Option (List (List ℕ))) (t : Tree) (low from high : Key) (most : ℕ) (leaf old new rs : List Record) (up : Option Key)
-    (c : CameTo told t from high most leaf old new up) (is : IsTree told t rs)
-    → Before told t low high most from rs old → ((next : Key) → up ≡ Some next → is_le (key_cmp next high) ≡ false) → new ≡ range_of low high most rs
-rest_ends told t low from high most leaf old new rs up c is b over =
-    let l = rest_so_far told t low from high most leaf old new rs up c is b in range_ends low from high most rs leaf new None up l.0 over l.1
+module _ (told : Option (List (List ℕ))) (t : Tree) (low from high : Key) (most : ℕ) (leaf old new rs : List Record) (up : Option Key)
+    (c : CameTo told t from high most leaf old new up) (is : IsTree told t rs) (b : Before told t low high most from rs old) where
+  pub rest_so_far : (l : LeadsTo from rs leaf None up) × (new ≡ range_of low high most (l.before ++ leaf))
+  rest_so_far =
+      let s = tree_spells told t rs c.some is in
+      let l = c.leads rs s.0 s.1 in (
+        l,
+        range_more low from high most rs leaf new None old up l (c.cut.starts b.0 rs b.1 s.0 s.1 b.2) b.3 b.4
+            (leaf_added told t from high most leaf old new rs up c s.0),
+      )
 
-pub rest_fills : (told : Option (List (List ℕ))) (t : Tree) (low from high : Key) (most : ℕ) (leaf old new rs : List Record) (up : Option Key)
-    (c : CameTo told t from high most leaf old new up) (is : IsTree told t rs)
-    → Before told t low high most from rs old → length new ≡ most → new ≡ range_of low high most rs
-rest_fills told t low from high most leaf old new rs up c is b full =
-    let l = rest_so_far told t low from high most leaf old new rs up c is b in range_fills low from high most rs leaf new None up l.0 full l.1
+  pub rest_ends : ((next : Key) → up ≡ Some next → is_le (key_cmp next high) ≡ false) → new ≡ range_of low high most rs
+  rest_ends over =
+      let l = rest_so_far in range_ends low from high most rs leaf new None up l.0 over l.1
+
+  pub rest_fills : length new ≡ most → new ≡ range_of low high most rs
+  rest_fills full =
+      let l = rest_so_far in range_fills low from high most rs leaf new None up l.0 full l.1
 
 pub next_divides : (pages : List (List ℕ)) (height page : ℕ) (up : Option Key) (next : Key) → up ≡ Some next → IsBound pages height page None up
     → Divides pages height page next
@@ -64,77 +70,64 @@ next_divides pages height page up next e (inr q) = let is = q.1 in let same : q.
 later : (low from next : Key) → is_le (key_cmp low from) ≡ true → is_lt (key_cmp from next) ≡ true → is_le (key_cmp low next) ≡ true
 later low from next h g = lt_to_le (key_cmp low next) (le_lt low from next h g)
 
--- and it goes on from the next key
-pub rest_goes_on : (told : Option (List (List ℕ))) (t : Tree) (low from high next : Key) (most : ℕ) (leaf old new rs : List Record) (up : Option Key)
-    (c : CameTo told t from high most leaf old new up) (is : IsTree told t rs)
-    → (l : LeadsTo from rs leaf None up) → new ≡ range_of low high most (l.before ++ leaf) → is_le (key_cmp low from) ≡ true → up ≡ Some next
-    → Before told t low high most next rs new
-rest_goes_on told t low from high next most leaf old new rs up c is l so_far le e =
-    let s = tree_spells told t rs c.some is in
-    let on = subst (λ o. (l : LeadsTo from rs leaf None o) × (new ≡ range_of low high most (l.before ++ leaf))) e (l, so_far) in (
-      is.pages,
-      is.is_told,
-      next_divides is.pages t.height t.root up next e (c.cut.ends is.pages rs s.0 is.is_told s.1 refl),
-      later low from next le
-          (on.0.key_under refl),
-      range_next low from high next most rs leaf new None on.0 refl on.1,
-    )
+module _ (told : Option (List (List ℕ))) (t : Tree) (low : Key) where
+  -- and it goes on from the next key
+  pub rest_goes_on : (from high next : Key) (most : ℕ) (leaf old new rs : List Record) (up : Option Key)
+      (c : CameTo told t from high most leaf old new up) (is : IsTree told t rs) (l : LeadsTo from rs leaf None up)
+      → new ≡ range_of low high most (l.before ++ leaf) → is_le (key_cmp low from) ≡ true → up ≡ Some next → Before told t low high most next rs new
+  rest_goes_on from high next most leaf old new rs up c is l so_far le e =
+      let s = tree_spells told t rs c.some is in
+      let on = subst (λ o. (l : LeadsTo from rs leaf None o) × (new ≡ range_of low high most (l.before ++ leaf))) e (l, so_far) in (
+        is.pages,
+        is.is_told,
+        next_divides is.pages t.height t.root up next e (c.cut.ends is.pages rs s.0 is.is_told s.1 refl),
+        later low from next le
+            (on.0.key_under refl),
+        range_next low from high most rs leaf new None next on.0 refl on.1,
+      )
 
-pub first_so_far : (told : Option (List (List ℕ))) (t : Tree) (low high : Key) (most : ℕ) (leaf new rs : List Record) (up : Option Key)
-    (c : CameTo told t low high most leaf [] new up) (is : IsTree told t rs)
-    → (l : LeadsTo low rs leaf None up) × (new ≡ range_of low high most (l.before ++ leaf))
-first_so_far told t low high most leaf new rs up c is =
-    let s = tree_spells told t rs c.some is in
-    let l = c.leads rs s.0 s.1 in
-    (l, range_first low high most rs leaf new None up l (leaf_added told t low high most leaf [] new rs up c s.0))
+  pub first_so_far : (high : Key) (most : ℕ) (leaf new rs : List Record) (up : Option Key) (c : CameTo told t low high most leaf [] new up)
+      (is : IsTree told t rs) → (l : LeadsTo low rs leaf None up) × (new ≡ range_of low high most (l.before ++ leaf))
+  first_so_far high most leaf new rs up c is =
+      let s = tree_spells told t rs c.some is in
+      let l = c.leads rs s.0 s.1 in
+      (l, range_first low high most rs leaf new None up l (leaf_added told t low high most leaf [] new rs up c s.0))
 
-pub first_ends : (told : Option (List (List ℕ))) (t : Tree) (low high : Key) (most : ℕ) (leaf new rs : List Record) (up : Option Key)
-    (c : CameTo told t low high most leaf [] new up) (is : IsTree told t rs)
-    → ((next : Key) → up ≡ Some next → is_le (key_cmp next high) ≡ false) → new ≡ range_of low high most rs
-first_ends told t low high most leaf new rs up c is over =
-    let l = first_so_far told t low high most leaf new rs up c is in range_ends low low high most rs leaf new None up l.0 over l.1
+module _ (told : Option (List (List ℕ))) (t : Tree) (low high : Key) where
+  pub first_ends : (most : ℕ) (leaf new rs : List Record) (up : Option Key) (c : CameTo told t low high most leaf [] new up) (is : IsTree told t rs)
+      → ((next : Key) → up ≡ Some next → is_le (key_cmp next high) ≡ false) → new ≡ range_of low high most rs
+  first_ends most leaf new rs up c is over =
+      let l = first_so_far told t low high most leaf new rs up c is in range_ends low low high most rs leaf new None up l.0 over l.1
 
-pub first_fills : (told : Option (List (List ℕ))) (t : Tree) (low high : Key) (most : ℕ) (leaf new rs : List Record) (up : Option Key)
-    (c : CameTo told t low high most leaf [] new up) (is : IsTree told t rs)
-    → length new ≡ most → new ≡ range_of low high most rs
-first_fills told t low high most leaf new rs up c is full =
-    let l = first_so_far told t low high most leaf new rs up c is in range_fills low low high most rs leaf new None up l.0 full l.1
+  pub first_fills : (most : ℕ) (leaf new rs : List Record) (up : Option Key) (c : CameTo told t low high most leaf [] new up) (is : IsTree told t rs)
+      → length new ≡ most → new ≡ range_of low high most rs
+  first_fills most leaf new rs up c is full =
+      let l = first_so_far told t low high most leaf new rs up c is in range_fills low low high most rs leaf new None up l.0 full l.1
 
-pub first_goes_on : (told : Option (List (List ℕ))) (t : Tree) (low high next : Key) (most : ℕ) (leaf new rs : List Record) (up : Option Key)
-    (c : CameTo told t low high most leaf [] new up) (is : IsTree told t rs)
-    → up ≡ Some next → Before told t low high most next rs new
-first_goes_on told t low high next most leaf new rs up c is e =
-    let l = first_so_far told t low high most leaf new rs up c is in
-    rest_goes_on told t low low high next most leaf [] new rs up c is l.0 l.1 (same_le low) e
+  pub first_goes_on : (next : Key) (most : ℕ) (leaf new rs : List Record) (up : Option Key) (c : CameTo told t low high most leaf [] new up)
+      (is : IsTree told t rs) → up ≡ Some next → Before told t low high most next rs new
+  first_goes_on next most leaf new rs up c is e =
+      let l = first_so_far told t low high most leaf new rs up c is in
+      rest_goes_on told t low low high next most leaf [] new rs up c is l.0 l.1 (same_le low) e
 
-pub rest_next : (told : Option (List (List ℕ))) (t : Tree) (low from high next : Key) (most : ℕ) (leaf old new rs : List Record) (up : Option Key)
-    (c : CameTo told t from high most leaf old new up) (is : IsTree told t rs)
+pub rest_next : {told : Option (List (List ℕ))} {t : Tree} (low from high : Key) {next : Key} (most : ℕ) (leaf old new : List Record)
+    {rs : List Record} {up : Option Key} (c : CameTo told t from high most leaf old new up) (is : IsTree told t rs)
     → Before told t low high most from rs old → up ≡ Some next → Before told t low high most next rs new
-rest_next told t low from high next most leaf old new rs up c is b e =
+rest_next {told = told} {t = t} low from high {next = next} most leaf old new {rs = rs} {up = up} c is b e =
     let l = rest_so_far told t low from high most leaf old new rs up c is b in
     rest_goes_on told t low from high next most leaf old new rs up c is l.0 l.1 b.3 e
-
--- each leaf but the first adds a record, where the range goes on
-pub rest_adds : (told : Option (List (List ℕ))) (t : Tree) (from high next : Key) (most : ℕ) (leaf old new rs : List Record) (up : Option Key)
-    (c : CameTo told t from high most leaf old new up) (is : IsTree told t rs)
-    → (pages : List (List ℕ)) → told ≡ Some pages → Divides pages t.height t.root from → up ≡ Some next → is_le (key_cmp next high) ≡ true
-    → 1 ≤ length leaf → length old ≤ most → (length new ≡ most → ⊥) → length new ≡ length old → ⊥
-rest_adds told t from high next most leaf old new rs up c is pages is_told d e le some room ne same =
-    let s = tree_spells told t rs c.some is in
-    let l = subst (λ o. LeadsTo from rs leaf None o) e (c.leads rs s.0 s.1) in
-    adds_some from high next most old new leaf (leaf_added told t from high most leaf old new rs up c s.0) some
-    (c.cut.starts pages rs is_told s.0 s.1 d) l.here_under le room ne same
 
 pub from_not_err : {T E P : Type 0} (r : Result T E) (b : Bool) → b ≡ is_err r → b ≡ false → OnOk r P → P
 from_not_err (Ok x) b e f p = p
 from_not_err (Err x) b e f p = cc
 
-pub along_tree : (told now : Option (List (List ℕ))) (t : Tree) (rs : List Record) → now ≡ told → IsTree told t rs → IsTree now t rs
-along_tree told now t rs e is = record { pages = is.pages; is_told = e ∙ is.is_told; visited = is.visited; walk = is.walk }
+module _ (told now : Option (List (List ℕ))) (t : Tree) where
+  pub along_tree : (rs : List Record) → now ≡ told → IsTree told t rs → IsTree now t rs
+  along_tree rs e is = record { pages = is.pages; is_told = e ∙ is.is_told; visited = is.visited; walk = is.walk }
 
-along_before : (told now : Option (List (List ℕ))) (t : Tree) (low high : Key) (most : ℕ) (from : Key) (rs old : List Record) → now ≡ told
-    → Before told t low high most from rs old → Before now t low high most from rs old
-along_before told now t low high most from rs old e b = (b.0, e ∙ b.1, b.2, b.3, b.4)
+  along_before : (low high : Key) (most : ℕ) (from : Key) (rs old : List Record) → now ≡ told → Before told t low high most from rs old
+      → Before now t low high most from rs old
+  along_before low high most from rs old e b = (b.0, e ∙ b.1, b.2, b.3, b.4)
 
 -- no key is left, where none is from the leaf's upper bound to the last
 pub none_over : (r up : Option Key) (high : Key)
@@ -152,24 +145,24 @@ none_is None f = refl
 none_is (Some k) f = absurd (f k refl)
 
 -- one leaf after those so far, of which the first is the one at `start`
-pub loop_goes_on : (o : Option Key) (told now : Option (List (List ℕ))) (t : Tree) (high start from next : Key) (most : ℕ)
+pub loop_goes_on : {o : Option Key} {told now : Option (List (List ℕ))} (t : Tree) (high start from : Key) {next : Key} (most : ℕ)
     (first old new : List Record) → now ≡ told → o ≡ Some next
     → ((low : Key) (rs : List Record) → IsTree told t rs → Before told t low high most start rs first → Before told t low high most from rs old)
     → IfSome o (λ k. (low : Key) (rs : List Record) → IsTree now t rs → Before now t low high most from rs old → Before now t low high most k rs new)
     → (low : Key) (rs : List Record) → IsTree told t rs → Before told t low high most start rs first → Before told t low high most next rs new
-loop_goes_on None told now t high start from next most first old new same is s f = cc
-loop_goes_on (Some k) told now t high start from next most first old new same is s f = λ low rs tree b.
+loop_goes_on {o = None} t high start from most first old new same is s f = cc
+loop_goes_on {o = (Some k)} {told = told} {now = now} t high start from {next = next} most first old new same is s f = λ low rs tree b.
     let e : k ≡ next = cc in
     subst (λ n. Before told t low high most n rs new) e
     (along_before now told t low high most k rs new (sym same)
     (f low rs (along_tree told now t rs same tree) (along_before told now t low high most from rs old same (s low rs tree b))))
 
-pub loop_ends : (o : Option Key) (told now : Option (List (List ℕ))) (t : Tree) (high start from : Key) (most : ℕ) (first old new : List Record)
+pub loop_ends : {o : Option Key} {told now : Option (List (List ℕ))} (t : Tree) (high start from : Key) (most : ℕ) (first old new : List Record)
     → now ≡ told → o ≡ None
     → ((low : Key) (rs : List Record) → IsTree told t rs → Before told t low high most start rs first → Before told t low high most from rs old)
     → (o ≡ None → (low : Key) (rs : List Record) → IsTree now t rs → Before now t low high most from rs old → new ≡ range_of low high most rs)
     → (low : Key) (rs : List Record) → IsTree told t rs → Before told t low high most start rs first → new ≡ range_of low high most rs
-loop_ends o told now t high start from most first old new same is s f = λ low rs tree b.
+loop_ends {told = told} {now = now} t high start from most first old new same is s f = λ low rs tree b.
     f is low rs (along_tree told now t rs same tree) (along_before told now t low high most from rs old same (s low rs tree b))
 
 pub loop_sound : (e : Stop) (told now : Option (List (List ℕ))) (t : Tree) (high start from : Key) (most : ℕ) (first old : List Record) → now ≡ told
@@ -189,21 +182,20 @@ loop_reads None (Some b) c first old new more f g = absurd f
 loop_reads None None (Some c) first old new more f g = g
 loop_reads None None None first old new more f g = f
 
-pub first_sound : (told now : Option (List (List ℕ))) (t : Tree) (low high next : Key) (most : ℕ) (leaf new : List Record)
-    (up : Option Key) (e : Stop) → now ≡ told
-    → CameTo told t low high most leaf [] new up → up ≡ Some next
-    → ((l : Key) (rs : List Record) → IsTree now t rs → Before now t l high most next rs new → IsSound e) → (rs : List Record) → IsTree told t rs → IsSound e
-first_sound told now t low high next most leaf new up e same c is f = λ rs tree.
-    f low rs (along_tree told now t rs same tree)
-    (along_before told now t low high most next rs new same (first_goes_on told t low high next most leaf new rs up c tree is))
+module _ (told now : Option (List (List ℕ))) (t : Tree) (low high next : Key) (most : ℕ) (leaf new : List Record) where
+  pub first_sound : (up : Option Key) (e : Stop) → now ≡ told → CameTo told t low high most leaf [] new up → up ≡ Some next
+      → ((l : Key) (rs : List Record) → IsTree now t rs → Before now t l high most next rs new → IsSound e) → (rs : List Record) → IsTree told t rs
+      → IsSound e
+  first_sound up e same c is f = λ rs tree.
+      f low rs (along_tree told now t rs same tree)
+      (along_before told now t low high most next rs new same (first_goes_on told t low high next most leaf new rs up c tree is))
 
-pub first_result : (told now : Option (List (List ℕ))) (t : Tree) (low high next : Key) (most : ℕ) (leaf new last : List Record) (up : Option Key) → now ≡ told
-    → CameTo told t low high most leaf [] new up → up ≡ Some next
-    → ((l : Key) (rs : List Record) → IsTree now t rs → Before now t l high most next rs new → last ≡ range_of l high most rs) → (rs : List Record)
-    → IsTree told t rs → last ≡ range_of low high most rs
-first_result told now t low high next most leaf new last up same c is f = λ rs tree.
-    f low rs (along_tree told now t rs same tree)
-    (along_before told now t low high most next rs new same (first_goes_on told t low high next most leaf new rs up c tree is))
+  pub first_result : (last : List Record) (up : Option Key) → now ≡ told → CameTo told t low high most leaf [] new up → up ≡ Some next
+      → ((l : Key) (rs : List Record) → IsTree now t rs → Before now t l high most next rs new → last ≡ range_of l high most rs) → (rs : List Record)
+      → IsTree told t rs → last ≡ range_of low high most rs
+  first_result last up same c is f = λ rs tree.
+      f low rs (along_tree told now t rs same tree)
+      (along_before told now t low high most next rs new same (first_goes_on told t low high next most leaf new rs up c tree is))
 
 pub no_range : (told : Option (List (List ℕ))) (t : Tree) (rs : List Record) (low high : Key) (most : ℕ) → t.height ≡ 0 → IsTree told t rs
     → [] ≡ range_of low high most rs

@@ -1,5 +1,6 @@
 -- A subtree that gives records of a run of keys out of one leaf.
 use Rattle.std.proofs.Common.{◌≡◌, ℕ, suc, ◌-◌, ◌≤◌, Bool, true, false, not, cond, ◌||◌, nat_le, List, [], ◌∷◌, ◌++◌, length, take, drop}
+use Rattle.std.proofs.lemmas.Bool.{and_from, and_parts}
 use Rattle.std.proofs.Common.{filter, Option, slice_index, refl, sym, ◌∙◌, ap, subst, arith}
 use Rattle.std.proofs.Common.{take-append-drop}
 use Rattle.std.specs.Prelude.{slice_get, if◌then◌else◌}
@@ -31,13 +32,13 @@ use Rattle.quilt_btree.proofs.lists.Rising.{all_follow}
 use Rattle.quilt_btree.proofs.removals.Takings.{key_at}
 use Rattle.quilt_btree.proofs.subtrees.Trees.{subtree_rises, ascending_first, ascending_rest}
 use Rattle.quilt_btree.proofs.growth.UnderGrowth.{LeadsToChild}
-use Rattle.quilt_btree.proofs.subtrees.Walks.{and_parts, and_both}
 
 -- what stays of a leaf is within its bounds
 kept_step : (p : Key → Bool) (q : Record → Bool) (r : Record) (rs : List Record) (b : Bool) → q r ≡ b → p r.key ≡ true
     → list_all p (keys_of (filter q rs)) ≡ true → list_all p (keys_of (cond (q r) (r ∷ filter q rs) (filter q rs))) ≡ true
 kept_step p q r rs true e h g =
-    ap (λ l. list_all p (keys_of l)) (filter_cond q r (filter q rs) (filter q rs) true e) ∙ and_both (p r.key) (list_all p (keys_of (filter q rs))) h g
+    ap (λ l. list_all p (keys_of l)) (filter_cond q r (filter q rs) (filter q rs) true e) ∙ and_from (p r.key) (list_all p (keys_of (filter q rs))) h
+    g
 kept_step p q r rs false e h g = ap (λ l. list_all p (keys_of l)) (filter_cond q r (filter q rs) (filter q rs) false e) ∙ g
 
 kept_filter : (p : Key → Bool) (q : Record → Bool) (rs : List Record) → list_all p (keys_of rs) ≡ true → list_all p (keys_of (filter q rs)) ≡ true
@@ -100,12 +101,12 @@ pub record AtRun (told then_told : Option (List (List ℕ))) (free then_free : �
   pub past : list_all (λ r. is_past next r.key) x.at.last ≡ true
   pub nearer_high : (m : Key) → is_below next m ≡ true → is_below b.high m ≡ true
 
-pub at_run : (told then_told : Option (List (List ℕ))) (free then_free : ℕ → Bool) (size then_size page height child i : ℕ) (k : Key) (inner : Inner)
-    (high next : Option Key) (is_root : Bool) (b : Bounds) (rs : List Record) (used : List ℕ)
+pub at_run : {told then_told : Option (List (List ℕ))} {free then_free : ℕ → Bool} {size then_size page height child i : ℕ} {k : Key} {inner : Inner}
+    (high next : Option Key) {is_root : Bool} {b : Bounds} {rs : List Record} {used : List ℕ}
     → LeadsToChild told then_told free then_free size then_size page height child i k inner → next ≡ option_or (slice_get inner.keys i) high
     → b.high ≡ high → CanEdit told free page height is_root b rs used
     → AtRun told then_told free then_free page height child i k inner next is_root b rs used
-at_run told then_told free then_free size then_size page height child i k inner high next is_root b rs used l is_next top can =
+at_run {told = told} {free = free} {page = page} {height = height} {child = child} {i = i} {k = k} {inner = inner} high next {is_root = is_root} {b = b} {rs = rs} {used = used} l is_next top can =
     let x = go_below told free page height is_root b k rs used inner i l.some l.above l.reads l.place can in
     let ka = take i inner.keys in
     let kb = drop i inner.keys in
@@ -137,7 +138,7 @@ at_run told then_told free then_free size then_size page height child i k inner 
 pub first_least : (run : List Key) → is_ascending run ≡ true → 1 ≤ length run → list_all (λ x. is_le (key_cmp (key_at run 0) x)) run ≡ true
 first_least [] a some = absurd (omega arith)
 first_least (k ∷ run) a some =
-    and_both (is_le (key_cmp k k)) (list_all (λ x. is_le (key_cmp k x)) run) (same_le k)
+    and_from (is_le (key_cmp k k)) (list_all (λ x. is_le (key_cmp k x)) run) (same_le k)
     (all_follow (λ m. is_lt (key_cmp k m)) (λ m. is_le (key_cmp k m)) (λ m h. lt_to_le (key_cmp k m) h) run (ascending_first k run a))
 
 -- how many records are left

@@ -1,5 +1,6 @@
 -- What becomes of a leaf when a record is taken out of it.
 use Rattle.std.proofs.Common.{◌≡◌, ℕ, zero, suc, ◌<◌, ◌≤◌, Bool, true, false, ◌||◌, ◌&&◌, nat_le, List, [], ◌∷◌, length, map, take, drop, Option, Some, None}
+use Rattle.std.proofs.lemmas.Bool.{leb-true, le-leb}
 use Rattle.std.proofs.Common.{IfSome, slice_index_or, slice_set, refl, sym, ◌∙◌, ap, subst, arith, get_or-set_same, take-append-drop}
 use Rattle.std.specs.List.{list_any, list_all, remove}
 use Rattle.std.proofs.lemmas.Bool.Decides.{nat_tests}
@@ -18,7 +19,6 @@ use Rattle.quilt_btree.proofs.lists.Counts.{times_here}
 use Rattle.quilt_btree.proofs.stores.Moves.{moves_written, used_account, used_not_free}
 use Rattle.quilt_btree.proofs.ways.Leaves.{gap_any, found_any, without_found}
 use Rattle.quilt_btree.proofs.lists.Rising.{all_parts, all_append}
-use Rattle.quilt_btree.proofs.subtrees.Trees.{nat_le_is}
 
 -- a store that tells goes on telling
 pub tells_on : (step : List (List ℕ) → List (List ℕ) → Type 0) (old new : Option (List (List ℕ))) (pages : List (List ℕ))
@@ -35,18 +35,15 @@ has_many told pages size page many e inside = let long : length pages ≡ size =
 -- a page with too few is the root
 pub few_root : (r : Bool) (least n : ℕ) → (r || nat_le least n) ≡ true → n < least → r ≡ true
 few_root true least n h few = refl
-few_root false least n h few = let g = nat_le_is least n h in absurd (omega arith)
+few_root false least n h few = let g = leb-true least n h in absurd (omega arith)
 
 pub not_root : (r : Bool) (least n : ℕ) → (r || nat_le least n) ≡ true → r ≡ false → least ≤ n
 not_root true least n h e = cc
-not_root false least n h e = nat_le_is least n h
-
-le_is : (m n : ℕ) → m ≤ n → nat_le m n ≡ true
-le_is m n h = grind (arith, nat_tests)
+not_root false least n h e = leb-true least n h
 
 pub many_enough : (r : Bool) (least n : ℕ) → least ≤ n → (r || nat_le least n) ≡ true
 many_enough true least n h = refl
-many_enough false least n h = le_is least n h
+many_enough false least n h = le-leb least n h
 
 pub all_removed : {X : Type 0} (p : X → Bool) (xs : List X) (i : ℕ) → list_all p xs ≡ true → list_all p (remove xs i) ≡ true
 all_removed {X = X} p xs i h =
@@ -63,7 +60,8 @@ map_remove f (x ∷ xs) zero = refl
 map_remove f (x ∷ xs) (suc i) = ap (λ l. f x ∷ l) (map_remove f xs i)
 
 -- the records that are left lie within the same bounds
-pub removed_within : (b : Bounds) (rs : List Record) (i : ℕ) → are_within b (map (λ r. r.key) rs) ≡ true → are_within b (map (λ r. r.key) (remove rs i)) ≡ true
+pub removed_within : (b : Bounds) (rs : List Record) (i : ℕ) → are_within b (map (λ r. r.key) rs) ≡ true
+    → are_within b (map (λ r. r.key) (remove rs i)) ≡ true
 removed_within b rs i h =
     subst (λ l. are_within b l ≡ true) (sym (map_remove (λ (r : Record). r.key) rs i))
     (all_removed (λ k. is_above b.low k && is_below b.high k) (map (λ r. r.key) rs) i h)
@@ -95,14 +93,6 @@ leaf_same told free page is_root b rs leaf used can reads =
     let mine = s.page in
     cc
 
-pub leaf_missing : (k : Key) (told now_told : Option (List (List ℕ))) (free now : ℕ → Bool) (page height i : ℕ) (is_root : Bool) (b : Bounds)
-    (rs leaf : List Record) (used : List ℕ) → height ≡ 1
-    → ReadsLeaf told page leaf → IsGap k leaf i → CanEdit told free page height is_root b rs used
-    → DidRemove k told now_told free now page height is_root b rs used removed.Missing
-leaf_missing k told now_told free now page height i is_root b rs leaf used one reads gap can =
-    subst (λ l. list_any (has_key k) l ≡ false)
-    (leaf_same told free page is_root b rs leaf used (subst (λ h. CanEdit told free page h is_root b rs used) one can) reads) (gap_any k leaf i gap)
-
 -- a leaf with one record alone
 no_one : {X : Type 0} (xs : List X) (i : ℕ) → i < length xs → length xs ≡ 1 → remove xs i ≡ []
 no_one [] i h e = absurd (omega arith)
@@ -110,34 +100,40 @@ no_one (x ∷ []) zero h e = refl
 no_one (x ∷ []) (suc i) h e = absurd (omega arith)
 no_one (x ∷ y ∷ xs) i h e = absurd (omega arith)
 
-pub leaf_emptied : (k : Key) (told now_told : Option (List (List ℕ))) (free now : ℕ → Bool) (page height i : ℕ) (is_root : Bool) (b : Bounds)
-    (rs leaf : List Record) (used : List ℕ) → height ≡ 1
-    → ReadsLeaf told page leaf → IsFound k leaf i → length leaf ≡ 1 → now_told ≡ told → now ≡ free → CanEdit told free page height is_root b rs used
-    → DidRemove k told now_told free now page height is_root b rs used removed.Emptied
-leaf_emptied k told now_told free now page height i is_root b rs leaf used one reads found alone t f can =
-    let can1 = subst (λ h. CanEdit told free page h is_root b rs used) one can in
-    let same = leaf_same told free page is_root b rs leaf used can1 reads in
-    let s : Subtree can1.pages 1 is_root (page, b) rs used = can1.subtree in
-    let few : length rs < 72 = subst (λ l. length l < 72) same (one_few (length leaf) alone) in (
-      subst (λ l. list_any (has_key k) l ≡ true) same (found_any k leaf i found.found found found.here),
-      record {
-        pages = can1.pages;
-        news = can1.pages;
-        was = can1.is_told;
-        is = t ∙ can1.is_told;
-        left = record {
-          root = few_root is_root 72 (length rs) s.enough few;
-          is_leaf = one;
-          none = ap (without k) (sym same) ∙ sym (without_found k leaf i found.found found found.here) ∙ no_one leaf i found.in_range alone;
-          stays = refl;
-          frees = f;
-          is_used = s.is_used;
-        };
-      },
-    )
-  where
-    one_few : (n : ℕ) → n ≡ 1 → n < 72
-    one_few n e = omega arith
+module _ (k : Key) (told now_told : Option (List (List ℕ))) (free now : ℕ → Bool) (page height i : ℕ) (is_root : Bool) (b : Bounds)
+    (rs leaf : List Record) (used : List ℕ) (one : height ≡ 1) (reads : ReadsLeaf told page leaf) where
+  pub leaf_missing : IsGap k leaf i → CanEdit told free page height is_root b rs used
+      → DidRemove k told now_told free now page height is_root b rs used removed.Missing
+  leaf_missing gap can =
+      subst (λ l. list_any (has_key k) l ≡ false)
+      (leaf_same told free page is_root b rs leaf used (subst (λ h. CanEdit told free page h is_root b rs used) one can) reads) (gap_any k leaf i gap)
+
+  pub leaf_emptied : IsFound k leaf i → length leaf ≡ 1 → now_told ≡ told → now ≡ free → CanEdit told free page height is_root b rs used
+      → DidRemove k told now_told free now page height is_root b rs used removed.Emptied
+  leaf_emptied found alone t f can =
+      let can1 = subst (λ h. CanEdit told free page h is_root b rs used) one can in
+      let same = leaf_same told free page is_root b rs leaf used can1 reads in
+      let s : Subtree can1.pages 1 is_root (page, b) rs used = can1.subtree in
+      let few : length rs < 72 = subst (λ l. length l < 72) same (one_few (length leaf) alone) in (
+        subst (λ l. list_any (has_key k) l ≡ true) same (found_any k leaf i found.found found found.here),
+        record {
+          pages = can1.pages;
+          news = can1.pages;
+          was = can1.is_told;
+          is = t ∙ can1.is_told;
+          left = record {
+            root = few_root is_root 72 (length rs) s.enough few;
+            is_leaf = one;
+            none = ap (without k) (sym same) ∙ sym (without_found k leaf i found.found found found.here) ∙ no_one leaf i found.in_range alone;
+            stays = refl;
+            frees = f;
+            is_used = s.is_used;
+          };
+        },
+      )
+    where
+      one_few : (n : ℕ) → n ≡ 1 → n < 72
+      one_few n e = omega arith
 
 -- what is known where a leaf was written without a record
 pub record LeafCut (k : Key) (told mid now_told : Option (List (List ℕ))) (free now : ℕ → Bool) (page size i : ℕ) (leaf all : List Record)
@@ -163,11 +159,11 @@ pub record LeafAfter (k : Key) (told now_told : Option (List (List ℕ))) (free 
   pub had : list_any (has_key k) rs ≡ true
   pub page_is : leaf_of (slice_index_or news page []) ≡ Some all
 
-pub leaf_after : (k : Key) (told mid now_told : Option (List (List ℕ))) (free now : ℕ → Bool) (page size i : ℕ) (is_root r : Bool) (b : Bounds)
-    (rs leaf all : List Record) (used bytes : List ℕ)
-    → LeafCut k told mid now_told free now page size i leaf all bytes → (r || nat_le 72 (length all)) ≡ true → CanEdit told free page 1 is_root b rs used
+pub leaf_after : {k : Key} {told mid now_told : Option (List (List ℕ))} {free now : ℕ → Bool} {page size i : ℕ} {is_root : Bool} (r : Bool)
+    {b : Bounds} {rs leaf all : List Record} {used bytes : List ℕ} → LeafCut k told mid now_told free now page size i leaf all bytes
+    → (r || nat_le 72 (length all)) ≡ true → CanEdit told free page 1 is_root b rs used
     → LeafAfter k told now_told free now page is_root r b rs all used bytes
-leaf_after k told mid now_told free now page size i is_root r b rs leaf all used bytes c enough can =
+leaf_after {k = k} {told = told} {mid = mid} {now_told = now_told} {free = free} {page = page} {size = size} {i = i} {is_root = is_root} r {b = b} {rs = rs} {leaf = leaf} {all = all} {used = used} {bytes = bytes} c enough can =
     let same = leaf_same told free page is_root b rs leaf used can c.reads in
     let s : Subtree can.pages 1 is_root (page, b) rs used = can.subtree in
     let on = tells_on (λ old new. new ≡ slice_set old page bytes) mid now_told can.pages (c.is_mid ∙ can.is_told) c.tells in
@@ -187,56 +183,53 @@ leaf_after k told mid now_told free now page size i is_root r b rs leaf all used
       page_is = ap leaf_of (get_or-set_same can.pages page bytes [] inside) ∙ c.written;
     }
 
-pub leaf_done : (k : Key) (told mid now_told : Option (List (List ℕ))) (free now : ℕ → Bool) (page height size i : ℕ) (is_root : Bool) (b : Bounds)
-    (rs leaf all : List Record) (used bytes : List ℕ)
-    → height ≡ 1 → LeafCut k told mid now_told free now page size i leaf all bytes → 72 ≤ length all → CanEdit told free page height is_root b rs used
-    → DidRemove k told now_told free now page height is_root b rs used removed.Done
-leaf_done k told mid now_told free now page height size i is_root b rs leaf all used bytes one c enough can =
-    let can1 = subst (λ h. CanEdit told free page h is_root b rs used) one can in
-    let a = leaf_after k told mid now_told free now page size i is_root is_root b rs leaf all used bytes c (many_enough is_root 72 (length all) enough) can1 in
-    subst (λ h. DidRemove k told now_told free now page h is_root b rs used removed.Done) (sym one)
-    (a.had, record { pages = a.pages; news = a.news; was = a.was; is = a.is; left = a.becomes })
-
 pub one_fewer : {X : Type 0} (xs : List X) (i : ℕ) → i < length xs → suc (length (remove xs i)) ≡ length xs
 one_fewer [] i h = absurd (omega arith)
 one_fewer (x ∷ xs) zero h = refl
 one_fewer (x ∷ xs) (suc i) h = ap suc (one_fewer xs i (omega arith))
 
-pub leaf_underfull : (k : Key) (told mid now_told : Option (List (List ℕ))) (free now : ℕ → Bool) (page height size i : ℕ) (is_root : Bool)
-    (b : Bounds) (rs leaf all : List Record) (used bytes : List ℕ)
-    → height ≡ 1 → LeafCut k told mid now_told free now page size i leaf all bytes → CanEdit told free page height is_root b rs used
-    → DidRemove k told now_told free now page height is_root b rs used removed.Underfull
-leaf_underfull k told mid now_told free now page height size i is_root b rs leaf all used bytes one c can =
-    let can1 = subst (λ h. CanEdit told free page h is_root b rs used) one can in
-    let a = leaf_after k told mid now_told free now page size i is_root true b rs leaf all used bytes c refl can1 in
-    let same = leaf_same told free page is_root b rs leaf used can1 c.reads in
-    let s : Subtree can1.pages 1 is_root (page, b) rs used = can1.subtree in
-    let fewer : suc (length all) ≡ length rs = ap (λ l. suc (length l)) c.all_is ∙ one_fewer leaf i c.found.in_range ∙ ap length same in
-    let nearly : is_root ≡ false → IsNearlyFull a.news 1 page = λ r ss e.
-    let many = not_root is_root 72 (length rs) s.enough r in
-    let is : ss ≡ all = some_same ss all (sym e ∙ a.page_is) in
-    subst (λ l. 71 ≤ length l) (sym is) (less (length all) (length rs) fewer many) in
-    subst (λ h. DidRemove k told now_told free now page h is_root b rs used removed.Underfull) (sym one)
-    (a.had, record { pages = a.pages; news = a.news; was = a.was; is = a.is; left = (nearly, a.becomes) })
-  where
-    less : (m n : ℕ) → suc m ≡ n → 72 ≤ n → 71 ≤ m
-    less m n e h = omega arith
+module _ (k : Key) (told mid now_told : Option (List (List ℕ))) (free now : ℕ → Bool) (page height size i : ℕ) (is_root : Bool) (b : Bounds)
+    (rs leaf all : List Record) (used bytes : List ℕ) (one : height ≡ 1) (c : LeafCut k told mid now_told free now page size i leaf all bytes) where
+  pub leaf_done : 72 ≤ length all → CanEdit told free page height is_root b rs used
+      → DidRemove k told now_told free now page height is_root b rs used removed.Done
+  leaf_done enough can =
+      let can1 = subst (λ h. CanEdit told free page h is_root b rs used) one can in
+      let a = leaf_after is_root c (many_enough is_root 72 (length all) enough) can1 in
+      subst (λ h. DidRemove k told now_told free now page h is_root b rs used removed.Done) (sym one)
+      (a.had, record { pages = a.pages; news = a.news; was = a.was; is = a.is; left = a.becomes })
 
-    some_same : (x y : List Record) → Some x ≡ Some y → x ≡ y
-    some_same x y e = cc
+  pub leaf_underfull : CanEdit told free page height is_root b rs used
+      → DidRemove k told now_told free now page height is_root b rs used removed.Underfull
+  leaf_underfull can =
+      let can1 = subst (λ h. CanEdit told free page h is_root b rs used) one can in
+      let a = leaf_after true c refl can1 in
+      let same = leaf_same told free page is_root b rs leaf used can1 c.reads in
+      let s : Subtree can1.pages 1 is_root (page, b) rs used = can1.subtree in
+      let fewer : suc (length all) ≡ length rs = ap (λ l. suc (length l)) c.all_is ∙ one_fewer leaf i c.found.in_range ∙ ap length same in
+      let nearly : is_root ≡ false → IsNearlyFull a.news 1 page = λ r ss e.
+      let many = not_root is_root 72 (length rs) s.enough r in
+      let is : ss ≡ all = some_same ss all (sym e ∙ a.page_is) in
+      subst (λ l. 71 ≤ length l) (sym is) (less (length all) (length rs) fewer many) in
+      subst (λ h. DidRemove k told now_told free now page h is_root b rs used removed.Underfull) (sym one)
+      (a.had, record { pages = a.pages; news = a.news; was = a.was; is = a.is; left = (nearly, a.becomes) })
+    where
+      less : (m n : ℕ) → suc m ≡ n → 72 ≤ n → 71 ≤ m
+      less m n e h = omega arith
 
--- the leaf is read, and is not free
-pub leaf_reads : (told : Option (List (List ℕ))) (free : ℕ → Bool) (page height : ℕ) (is_root : Bool) (b : Bounds) (rs : List Record) (used : List ℕ)
-    → CanEdit told free page height is_root b rs used → Spells told page height rs
-leaf_reads told free page height is_root b rs used can =
-    record { pages = can.pages; is_told = can.is_told; is_root = is_root; bounds = b; used = used; subtree = can.subtree }
+      some_same : (x y : List Record) → Some x ≡ Some y → x ≡ y
+      some_same x y e = cc
 
-pub leaf_taken : (told : Option (List (List ℕ))) (free : ℕ → Bool) (page height : ℕ) (is_root : Bool) (b : Bounds) (rs : List Record) (used : List ℕ)
-    → height ≡ 1 → CanEdit told free page height is_root b rs used → free page ≡ false
-leaf_taken told free page height is_root b rs used one can =
-    let can1 = subst (λ h. CanEdit told free page h is_root b rs used) one can in
-    let s : Subtree can1.pages 1 is_root (page, b) rs used = can1.subtree in
-    used_not_free free used page can1.apart (subst (λ l. 1 ≤ times page l) (sym s.is_used) (some page))
-  where
-    some : (page : ℕ) → 1 ≤ times page (page ∷ [])
-    some page = let e = times_here page [] in omega arith
+module _ (told : Option (List (List ℕ))) (free : ℕ → Bool) (page height : ℕ) (is_root : Bool) (b : Bounds) (rs : List Record) (used : List ℕ) where
+  -- the leaf is read, and is not free
+  pub leaf_reads : CanEdit told free page height is_root b rs used → Spells told page height rs
+  leaf_reads can =
+      record { pages = can.pages; is_told = can.is_told; is_root = is_root; bounds = b; used = used; subtree = can.subtree }
+
+  pub leaf_taken : height ≡ 1 → CanEdit told free page height is_root b rs used → free page ≡ false
+  leaf_taken one can =
+      let can1 = subst (λ h. CanEdit told free page h is_root b rs used) one can in
+      let s : Subtree can1.pages 1 is_root (page, b) rs used = can1.subtree in
+      used_not_free free used page can1.apart (subst (λ l. 1 ≤ times page l) (sym s.is_used) (some page))
+    where
+      some : (page : ℕ) → 1 ≤ times page (page ∷ [])
+      some page = let e = times_here page [] in omega arith

@@ -45,37 +45,6 @@ pub record AtInner (told : Option (List (List ℕ))) (free : ℕ → Bool) (page
   pub is_used : used ≡ under ++ page ∷ []
   pub apart : AreApart free used
 
-pub at_inner : (told : Option (List (List ℕ))) (free : ℕ → Bool) (page height : ℕ) (inner : Inner) (i : ℕ) (k : Key) (is_root : Bool) (b : Bounds)
-    (rs : List Record) (used : List ℕ) → 1 ≤ height → height ≢ 1 → ReadsInner told page inner → IsPlace inner.keys k i
-    → CanEdit told free page height is_root b rs used → AtInner told free page height inner i k is_root b rs used
-at_inner told free page height inner i k is_root b rs used some ne reads place can =
-    let e = height_above height some ne in
-    let s = subst (λ n. Subtree can.pages n is_root (page, b) rs used) e.1 can.subtree in
-    let there = reads can.pages can.is_told in
-    let same : s.inner ≡ inner = some_same s.inner inner (sym s.page ∙ there) in
-    let list = inner_list (length can.pages) (slice_index_or can.pages page []) inner there in
-    let within = subst (λ (x : Inner). are_within b x.keys ≡ true) same s.within in
-    let row = subst (λ (x : Inner). Row (Subtree can.pages (suc e.0) false) (bounded x.children x.keys b) rs s.under) same s.children in
-    record {
-      pages = can.pages;
-      is_told = can.is_told;
-      below = e.0;
-      is_height = e.1;
-      page_is = there;
-      list = list;
-      inner_height = ap (λ (x : Inner). x.height) (sym same) ∙ s.is_height;
-      enough = subst (λ (x : Inner). (is_root || nat_le 127 (length x.children)) ≡ true) same s.enough;
-      within = within;
-      under = s.under;
-      down = leads_down can.pages e.0 inner (slice_index_or can.pages page []) b i k rs s.under list within place row;
-      in_range = place_in inner k i place list.keys;
-      is_used = s.is_used;
-      apart = can.apart;
-    }
-  where
-    some_same : (x y : Inner) → Some x ≡ Some y → x ≡ y
-    some_same x y e = cc
-
 -- the places before, at and behind the child
 pub places_cut : (inner : Inner) (b : Bounds) (i : ℕ) → i < length inner.children → length inner.children ≡ length inner.keys + 1
     → bounded inner.children inner.keys b ≡ front (take i inner.children) (take i inner.keys) b
@@ -90,37 +59,46 @@ places_cut inner b i lt n =
 one_less : (height below : ℕ) → height ≡ suc (suc below) → height - 1 ≡ suc below
 one_less height below e = omega arith
 
-total : (p : ℕ) (used under l h f : List ℕ) (page : ℕ) → used ≡ under ++ page ∷ [] → under ≡ (l ++ h) ++ f
+total : (p : ℕ) {used under : List ℕ} (l h f : List ℕ) (page : ℕ) → used ≡ under ++ page ∷ [] → under ≡ (l ++ h) ++ f
     → times p used ≡ times p l + times p h + times p f + times p (page ∷ [])
-total p used under l h f page e g = ap (times p) e ∙ times-append p under (page ∷ []) ∙ ap (λ n. n + times p (page ∷ [])) (ap (times p) g ∙ times-three p l h f)
+total p {under = under} l h f page e g = ap (times p) e ∙ times-append p under (page ∷ []) ∙ ap (λ n. n + times p (page ∷ [])) (ap (times p) g ∙ times-three p l h f)
 
--- the child can be edited
-pub child_edit : (told mid : Option (List (List ℕ))) (free was : ℕ → Bool) (page height child i : ℕ) (inner : Inner) (k : Key) (is_root : Bool)
-    (b : Bounds) (rs : List Record) (used : List ℕ) → (a : AtInner told free page height inner i k is_root b rs used)
-    → mid ≡ told → was ≡ free → child ≡ slice_index inner.children i
-    → CanEdit mid was child (height - 1) false (child_bounds inner b i) a.down.at.here a.down.at.here_used
-child_edit told mid free was page height child i inner k is_root b rs used a t f c =
-    let at = a.down.at in
-    let s = one_row (Subtree a.pages (suc a.below) false) (slice_index inner.children i, child_bounds inner b i) at.here at.here_used at.row_here in
-    record {
-      pages = a.pages;
-      is_told = t ∙ a.is_told;
-      subtree = subst (λ n. Subtree a.pages n false (child, child_bounds inner b i) at.here at.here_used) (sym (one_less height a.below a.is_height))
-          (subst (λ n. Subtree a.pages (suc a.below) false (n, child_bounds inner b i) at.here at.here_used) (sym c) s);
-      apart =
-          apart_some was at.here_used used (λ p. inside (times p used) (times p at.last_used) (times p at.here_used) (times p at.first_used)
-          (times p (page ∷ [])) (total p used a.under at.last_used at.here_used at.first_used page a.is_used at.is_used))
-          (subst (λ g. AreApart g used) (sym f) a.apart);
-    }
-  where
-    inside : (u l h f p : ℕ) → u ≡ l + h + f + p → h ≤ u
-    inside u l h f p e = omega arith
+module _ (told : Option (List (List ℕ))) (free : ℕ → Bool) (page height : ℕ) where
+  pub at_inner : (inner : Inner) (i : ℕ) (k : Key) (is_root : Bool) (b : Bounds) (rs : List Record) (used : List ℕ) → 1 ≤ height → height ≢ 1
+      → ReadsInner told page inner → IsPlace inner.keys k i → CanEdit told free page height is_root b rs used
+      → AtInner told free page height inner i k is_root b rs used
+  at_inner inner i k is_root b rs used some ne reads place can =
+      let e = height_above height some ne in
+      let s = subst (λ n. Subtree can.pages n is_root (page, b) rs used) e.1 can.subtree in
+      let there = reads can.pages can.is_told in
+      let same : s.inner ≡ inner = some_same s.inner inner (sym s.page ∙ there) in
+      let list = inner_list (length can.pages) (slice_index_or can.pages page []) inner there in
+      let within = subst (λ (x : Inner). are_within b x.keys ≡ true) same s.within in
+      let row = subst (λ (x : Inner). Row (Subtree can.pages (suc e.0) false) (bounded x.children x.keys b) rs s.under) same s.children in
+      record {
+        pages = can.pages;
+        is_told = can.is_told;
+        below = e.0;
+        is_height = e.1;
+        page_is = there;
+        list = list;
+        inner_height = ap (λ (x : Inner). x.height) (sym same) ∙ s.is_height;
+        enough = subst (λ (x : Inner). (is_root || nat_le 127 (length x.children)) ≡ true) same s.enough;
+        within = within;
+        under = s.under;
+        down = leads_down inner b i rs s.under can.pages e.0 (slice_index_or can.pages page []) k list within place row;
+        in_range = place_in inner k i place list.keys;
+        is_used = s.is_used;
+        apart = can.apart;
+      }
+    where
+      some_same : (x y : Inner) → Some x ≡ Some y → x ≡ y
+      some_same x y e = cc
 
--- the key is among the child's records
-pub among_child : (told : Option (List (List ℕ))) (free : ℕ → Bool) (page height i : ℕ) (inner : Inner) (k : Key) (is_root : Bool) (b : Bounds)
-    (rs : List Record) (used : List ℕ) → (a : AtInner told free page height inner i k is_root b rs used)
-    → IsAmong k a.down.at.first a.down.at.here a.down.at.last rs
-among_child told free page height i inner k is_root b rs used a = record { records = a.down.at.records; lower = a.down.lower; higher = a.down.higher }
+  -- the key is among the child's records
+  pub among_child : (i : ℕ) (inner : Inner) (k : Key) (is_root : Bool) (b : Bounds) (rs : List Record) (used : List ℕ)
+      (a : AtInner told free page height inner i k is_root b rs used) → IsAmong k a.down.at.first a.down.at.here a.down.at.last rs
+  among_child i inner k is_root b rs used a = record { records = a.down.at.records; lower = a.down.lower; higher = a.down.higher }
 
 -- what is known where the child was edited
 pub record ChildEdited (k : Key) (told mid : Option (List (List ℕ))) (free was : ℕ → Bool) (page height child i : ℕ) (inner : Inner) : Type 0 where
@@ -137,24 +115,36 @@ Removes k mid now_told was now child height o =
     (is_root : Bool) (b : Bounds) (rs : List Record) (used : List ℕ) → CanEdit mid was child height is_root b rs used
     → DidRemove k mid now_told was now child height is_root b rs used o
 
-pub sound_child : (e : Stop) (k : Key) (told mid : Option (List (List ℕ))) (free was : ℕ → Bool) (page height child i : ℕ) (inner : Inner)
-    → ChildEdited k told mid free was page height child i inner
-    → ((is_root : Bool) (b : Bounds) (rs : List Record) (used : List ℕ) → CanEdit mid was child (height - 1) is_root b rs used → IsSound e)
-    → (is_root : Bool) (b : Bounds) (rs : List Record) (used : List ℕ) → CanEdit told free page height is_root b rs used → IsSound e
-sound_child e k told mid free was page height child i inner c f is_root b rs used can =
-    let a = at_inner told free page height inner i k is_root b rs used c.some c.above c.reads c.place can in
-    f false (child_bounds inner b i) a.down.at.here a.down.at.here_used
-    (child_edit told mid free was page height child i inner k is_root b rs used a c.is_mid c.is_free c.is_child)
+module _ (told mid : Option (List (List ℕ))) (free was : ℕ → Bool) (page height child i : ℕ) (inner : Inner) (k : Key) where
+  -- the child can be edited
+  pub child_edit : (is_root : Bool) (b : Bounds) (rs : List Record) (used : List ℕ) (a : AtInner told free page height inner i k is_root b rs used)
+      → mid ≡ told → was ≡ free → child ≡ slice_index inner.children i
+      → CanEdit mid was child (height - 1) false (child_bounds inner b i) a.down.at.here a.down.at.here_used
+  child_edit is_root b rs used a t f c =
+      let at = a.down.at in
+      let s = one_row (Subtree a.pages (suc a.below) false) (slice_index inner.children i, child_bounds inner b i) at.here at.here_used at.row_here in
+      record {
+        pages = a.pages;
+        is_told = t ∙ a.is_told;
+        subtree = subst (λ n. Subtree a.pages n false (child, child_bounds inner b i) at.here at.here_used)
+            (sym (one_less height a.below a.is_height))
+            (subst (λ n. Subtree a.pages (suc a.below) false (n, child_bounds inner b i) at.here at.here_used) (sym c) s);
+        apart =
+            apart_some was at.here_used used (λ p. inside (times p used) (times p at.last_used) (times p at.here_used) (times p at.first_used)
+            (times p (page ∷ [])) (total p at.last_used at.here_used at.first_used page a.is_used at.is_used))
+            (subst (λ g. AreApart g used) (sym f) a.apart);
+      }
+    where
+      inside : (u l h f p : ℕ) → u ≡ l + h + f + p → h ≤ u
+      inside u l h f p e = omega arith
 
-pub missing_child : (k : Key) (told mid between : Option (List (List ℕ))) (free was then : ℕ → Bool) (page height child i : ℕ) (inner : Inner)
-    → ChildEdited k told mid free was page height child i inner
-    → Removes k mid between was then child (height - 1) removed.Missing
-    → (is_root : Bool) (b : Bounds) (rs : List Record) (used : List ℕ) → CanEdit told free page height is_root b rs used → list_any (has_key k) rs ≡ false
-missing_child k told mid between free was then page height child i inner c f is_root b rs used can =
-    let a = at_inner told free page height inner i k is_root b rs used c.some c.above c.reads c.place can in
-    any_between k a.down.at.first a.down.at.here a.down.at.last rs (among_child told free page height i inner k is_root b rs used a)
-    ∙ f false (child_bounds inner b i) a.down.at.here a.down.at.here_used
-    (child_edit told mid free was page height child i inner k is_root b rs used a c.is_mid c.is_free c.is_child)
+  pub sound_child : (e : Stop) → ChildEdited k told mid free was page height child i inner
+      → ((is_root : Bool) (b : Bounds) (rs : List Record) (used : List ℕ) → CanEdit mid was child (height - 1) is_root b rs used → IsSound e)
+      → (is_root : Bool) (b : Bounds) (rs : List Record) (used : List ℕ) → CanEdit told free page height is_root b rs used → IsSound e
+  sound_child e c f is_root b rs used can =
+      let a = at_inner told free page height inner i k is_root b rs used c.some c.above c.reads c.place can in
+      f false (child_bounds inner b i) a.down.at.here a.down.at.here_used
+      (child_edit is_root b rs used a c.is_mid c.is_free c.is_child)
 
 -- what the children are where the child became another subtree
 pub record ChildLeft (k : Key) (between : Option (List (List ℕ))) (free then : ℕ → Bool) (page height i : ℕ) (inner : Inner) (is_root r : Bool)
@@ -191,42 +181,50 @@ same_subtree : (pages : List (List ℕ)) (h : ℕ) (c : ℕ × Bounds) (ss : Lis
     → Subtree pages (suc h) false c ss u
 same_subtree pages h c ss u s = s
 
-pub done_child : (k : Key) (told mid between : Option (List (List ℕ))) (free was then : ℕ → Bool) (page height child i : ℕ) (inner : Inner)
-    → ChildEdited k told mid free was page height child i inner
-    → Removes k mid between was then child (height - 1) removed.Done
-    → (is_root : Bool) (b : Bounds) (rs : List Record) (used : List ℕ) → CanEdit told free page height is_root b rs used
-    → DidRemove k told between free then page height is_root b rs used removed.Done
-done_child k told mid between free was then page height child i inner c f is_root b rs used can =
-    let a = at_inner told free page height inner i k is_root b rs used c.some c.above c.reads c.place can in
-    let at = a.down.at in
-    let among = among_child told free page height i inner k is_root b rs used a in
-    let did = f false (child_bounds inner b i) at.here at.here_used
-    (child_edit told mid free was page height child i inner k is_root b rs used a c.is_mid c.is_free c.is_child) in
-    let l = child_left k told mid between free was
-    then page height child i inner is_root false b rs used a c.is_mid c.is_free c.is_child did.1.pages did.1.news did.1.was did.1.is did.1.left in
-    let S = Subtree l.news (suc a.below) false in
-    let changed = middle_changed S a.pages l.news free
-    then a.below page (same_subtree l.news a.below) (front (take i inner.children) (take i inner.keys) b)
-    ((slice_index inner.children i, child_bounds inner b i) ∷ [])
-    (tail_places (drop (suc i) inner.children) (drop i inner.keys) (from_keys (take i inner.keys) b)) at.first
-    (without k at.here) at.last at.first_used at.here_used at.last_used l.uses a.under (subst (AreApart free) a.is_used a.apart) at.is_used
-    at.row_before at.row_behind (row_one S (slice_index inner.children i, child_bounds inner b i) (without k at.here) l.uses l.subtree) l.moves in
-    let row = subst (λ x. Row S x (at.first ++ (without k at.here ++ at.last)) changed.uses) (sym (places_cut inner b i a.in_range a.list.keys)) changed.row in
-    let becomes = parent_stays a.pages l.news free
-    then a.below page is_root b inner a.under (at.first ++ (without k at.here ++ at.last)) a.page_is a.inner_height a.enough a.within
-    (record { uses = changed.uses; row = row; moves = changed.moves; page_stays = changed.page_stays }) in (
-      any_between k at.first at.here at.last rs among ∙ did.0,
-      record {
-        pages = a.pages;
-        news = l.news;
-        was = a.is_told;
-        is = l.is;
-        left = subst (λ h. Becomes a.pages l.news free then page h is_root b used (without k rs)) (sym a.is_height)
-            (subst (λ u. Becomes a.pages l.news free then page (suc (suc a.below)) is_root b u (without k rs)) (sym a.is_used)
-            (subst (λ x. Becomes a.pages l.news free then page (suc (suc a.below)) is_root b (a.under ++ page ∷ []) x)
-            (sym (without_between k at.first at.here at.last rs among)) becomes));
-      },
-    )
+module _ (k : Key) (told mid between : Option (List (List ℕ))) (free was then : ℕ → Bool) (page height child i : ℕ) (inner : Inner)
+    (c : ChildEdited k told mid free was page height child i inner) where
+  pub missing_child : Removes k mid between was then child (height - 1) removed.Missing → (is_root : Bool) (b : Bounds) (rs : List Record)
+      (used : List ℕ) → CanEdit told free page height is_root b rs used → list_any (has_key k) rs ≡ false
+  missing_child f is_root b rs used can =
+      let a = at_inner told free page height inner i k is_root b rs used c.some c.above c.reads c.place can in
+      any_between k a.down.at.first a.down.at.here a.down.at.last rs (among_child told free page height i inner k is_root b rs used a)
+      ∙ f false (child_bounds inner b i) a.down.at.here a.down.at.here_used
+      (child_edit told mid free was page height child i inner k is_root b rs used a c.is_mid c.is_free c.is_child)
+
+  pub done_child : Removes k mid between was then child (height - 1) removed.Done → (is_root : Bool) (b : Bounds) (rs : List Record) (used : List ℕ)
+      → CanEdit told free page height is_root b rs used → DidRemove k told between free then page height is_root b rs used removed.Done
+  done_child f is_root b rs used can =
+      let a = at_inner told free page height inner i k is_root b rs used c.some c.above c.reads c.place can in
+      let at = a.down.at in
+      let among = among_child told free page height i inner k is_root b rs used a in
+      let did = f false (child_bounds inner b i) at.here at.here_used
+      (child_edit told mid free was page height child i inner k is_root b rs used a c.is_mid c.is_free c.is_child) in
+      let l = child_left k told mid between free was
+      then page height child i inner is_root false b rs used a c.is_mid c.is_free c.is_child did.1.pages did.1.news did.1.was did.1.is did.1.left in
+      let S = Subtree l.news (suc a.below) false in
+      let changed = middle_changed S
+      a.below page (same_subtree l.news a.below) (front (take i inner.children) (take i inner.keys) b)
+      ((slice_index inner.children i, child_bounds inner b i) ∷ [])
+      (tail_places (drop (suc i) inner.children) (drop i inner.keys) (from_keys (take i inner.keys) b)) at.first
+      (without k at.here) at.last at.first_used at.last_used (subst (AreApart free) a.is_used a.apart) at.is_used
+      at.row_before at.row_behind (row_one S (slice_index inner.children i, child_bounds inner b i) (without k at.here) l.uses l.subtree) l.moves in
+      let row = subst (λ x. Row S x (at.first ++ (without k at.here ++ at.last)) changed.uses) (sym (places_cut inner b i a.in_range a.list.keys))
+      changed.row in
+      let becomes = parent_stays a.pages l.news free
+      then a.below page is_root b inner a.under (at.first ++ (without k at.here ++ at.last)) a.page_is a.inner_height a.enough a.within
+      (record { uses = changed.uses; row = row; moves = changed.moves; page_stays = changed.page_stays }) in (
+        any_between k at.first at.here at.last rs among ∙ did.0,
+        record {
+          pages = a.pages;
+          news = l.news;
+          was = a.is_told;
+          is = l.is;
+          left = subst (λ h. Becomes a.pages l.news free then page h is_root b used (without k rs)) (sym a.is_height)
+              (subst (λ u. Becomes a.pages l.news free then page (suc (suc a.below)) is_root b u (without k rs)) (sym a.is_used)
+              (subst (λ x. Becomes a.pages l.news free then page (suc (suc a.below)) is_root b (a.under ++ page ∷ []) x)
+              (sym (without_between k at.first at.here at.last rs among)) becomes));
+        },
+      )
 
 to_partly : (pages : List (List ℕ)) (h underfull : ℕ) (c : ℕ × Bounds) (ss : List Record) (u : List ℕ) → Subtree pages (suc h) false c ss u
     → Partly pages (suc h) underfull c ss u
@@ -242,72 +240,17 @@ pub record UnderfullChild (k : Key) (between : Option (List (List ℕ))) (free t
   pub underfull : HasUnderfull between then page height inner i is_root b (without k rs) more
   pub moves : Moves pages mids free then used more
 
-pub underfull_child : (k : Key) (told mid between : Option (List (List ℕ))) (free was then : ℕ → Bool) (page height child i : ℕ) (inner : Inner)
-    → ChildEdited k told mid free was page height child i inner
-    → Removes k mid between was then child (height - 1) removed.Underfull
-    → (is_root : Bool) (b : Bounds) (rs : List Record) (used : List ℕ) → (can : CanEdit told free page height is_root b rs used)
-    → UnderfullChild k between free then page height i inner is_root b rs used can.pages
-unfolding child_left
-underfull_child k told mid between free was then page height child i inner c f is_root b rs used can =
-    let a = at_inner told free page height inner i k is_root b rs used c.some c.above c.reads c.place can in
-    let at = a.down.at in
-    let among = among_child told free page height i inner k is_root b rs used a in
-    let underfull = slice_index inner.children i in
-    let did = f false (child_bounds inner b i) at.here at.here_used
-    (child_edit told mid free was page height child i inner k is_root b rs used a c.is_mid c.is_free c.is_child) in
-    let left = did.1.left in
-    let l = child_left k told mid between free was
-    then page height child i inner is_root true b rs used a c.is_mid c.is_free c.is_child did.1.pages did.1.news did.1.was did.1.is left.1 in
-    let nearly : IsNearlyFull l.news (suc a.below) underfull = subst (λ n. IsNearlyFull l.news (suc a.below) n) c.is_child
-    (subst (λ n. IsNearlyFull l.news n child) (one_less height a.below a.is_height) (left.0 refl)) in
-    let T = Partly l.news (suc a.below) underfull in
-    let here : T (underfull, child_bounds inner b i) (without k at.here) l.uses =
-    subst (λ r. Subtree l.news (suc a.below) r (underfull, child_bounds inner b i) (without k at.here) l.uses) (sym (self_test underfull)) l.subtree in
-    let changed = middle_changed T a.pages l.news free
-    then a.below page (to_partly l.news a.below underfull) (front (take i inner.children) (take i inner.keys) b) ((underfull, child_bounds inner b i) ∷ [])
-    (tail_places (drop (suc i) inner.children) (drop i inner.keys) (from_keys (take i inner.keys) b)) at.first
-    (without k at.here) at.last at.first_used at.here_used at.last_used l.uses a.under (subst (AreApart free) a.is_used a.apart) at.is_used
-    at.row_before at.row_behind (row_one T (underfull, child_bounds inner b i) (without k at.here) l.uses here) l.moves in
-    let row = subst (λ x. Row T x (at.first ++ (without k at.here ++ at.last)) changed.uses) (sym (places_cut inner b i a.in_range a.list.keys)) changed.row in
-    let same : a.pages ≡ can.pages = some_same a.pages can.pages (sym a.is_told ∙ can.is_told) in
-    let moves = subst (λ u. Moves a.pages l.news free then u (changed.uses ++ page ∷ [])) (sym a.is_used) changed.moves in
-    record {
-      more = changed.uses ++ page ∷ [];
-      mids = l.news;
-      is = l.is;
-      had = any_between k at.first at.here at.last rs among ∙ did.0;
-      underfull = record {
-        pages = l.news;
-        is_told = l.is;
-        below = a.below;
-        is_height = a.is_height;
-        page_is = ap (λ n. inner_of n (slice_index_or l.news page [])) moves.size ∙ ap (inner_of (length a.pages)) changed.page_stays ∙ a.page_is;
-        inner_height = a.inner_height ∙ sym a.is_height;
-        enough = a.enough;
-        within = a.within;
-        under = changed.uses;
-        children = subst (λ x. Row T (bounded inner.children inner.keys b) x changed.uses) (sym (without_between k at.first at.here at.last rs among)) row;
-        nearly = nearly;
-        is_used = refl;
-        apart = apart_then a.pages l.news free then used (changed.uses ++ page ∷ []) moves a.apart;
-      };
-      moves = subst (λ p. Moves p l.news free then used (changed.uses ++ page ∷ [])) same moves;
-    }
-  where
-    some_same : (x y : List (List ℕ)) → Some x ≡ Some y → x ≡ y
-    some_same x y e = cc
-
 -- what is left behind two edits
-left_then : (pages mids news : List (List ℕ)) (free then now : ℕ → Bool) (page height : ℕ) (is_root : Bool) (b : Bounds) (used more : List ℕ)
-    (all : List Record) (o : Removed) → height ≢ 1 → Moves pages mids free then used more
+left_then : {pages mids : List (List ℕ)} (news : List (List ℕ)) {free then : ℕ → Bool} (now : ℕ → Bool) (page height : ℕ) (is_root : Bool)
+    (b : Bounds) {used more : List ℕ} (all : List Record) (o : Removed) → height ≢ 1 → Moves pages mids free then used more
     → HasLeft mids news then now page height is_root b more all o → HasLeft pages news free now page height is_root b used all o
-left_then pages mids news free then now page height is_root b used more all removed.Missing ne m l = l
-left_then pages mids news free then now page height is_root b used more all removed.Done ne m l = becomes_then pages mids news free
-    then now page height is_root b used more all m l
-left_then pages mids news free then now page height is_root b used more all removed.Underfull ne m l =
-    (l.0, becomes_then pages mids news free then now page height true b used more all m l.1)
-left_then pages mids news free then now page height is_root b used more all removed.Emptied ne m l = absurd (ne l.is_leaf)
-left_then pages mids news free then now page height is_root b used more all (removed.Only child) ne m l =
+left_then news now page height is_root b all removed.Missing ne m l = l
+left_then news now page height is_root b all removed.Done ne m l = becomes_then
+    m l
+left_then news now page height is_root b all removed.Underfull ne m l =
+    (l.0, becomes_then m l.1)
+left_then news now page height is_root b all removed.Emptied ne m l = absurd (ne l.is_leaf)
+left_then news now page height is_root b all (removed.Only child) ne m l =
     let c = l.1 in (
       l.0,
       record {
@@ -315,84 +258,139 @@ left_then pages mids news free then now page height is_root b used more all (rem
         is_height = c.is_height;
         uses = c.uses;
         subtree = c.subtree;
-        moves = moves_then pages mids news free
-            then now used more (c.uses ++ page ∷ []) m c.moves;
+        moves = moves_then
+            m c.moves;
       },
     )
 
-did_leave : (told between now_told : Option (List (List ℕ))) (free then now : ℕ → Bool) (page height : ℕ) (is_root : Bool) (b : Bounds)
-    (used more : List ℕ) (all : List Record) (o : Removed) (pages mids : List (List ℕ)) → height ≢ 1
-    → told ≡ Some pages → between ≡ Some mids → Moves pages mids free then used more → DidLeave between now_told
-    then now page height is_root b more all o → DidLeave told now_told free now page height is_root b used all o
-did_leave told between now_told free then now page height is_root b used more all o pages mids ne e g m d =
+did_leave : (told : Option (List (List ℕ))) {between now_told : Option (List (List ℕ))} {free then now : ℕ → Bool} {page height : ℕ} {is_root : Bool}
+    {b : Bounds} {used more : List ℕ} {all : List Record} {o : Removed} {pages mids : List (List ℕ)} → height ≢ 1 → told ≡ Some pages
+    → between ≡ Some mids → Moves pages mids free then used more → DidLeave between now_told then now page height is_root b more all o
+    → DidLeave told now_told free now page height is_root b used all o
+did_leave told {then = then} {now = now} {page = page} {height = height} {is_root = is_root} {b = b} {more = more} {all = all} {o = o} {pages = pages} {mids = mids} ne e g m d =
     let same : d.pages ≡ mids = some_same d.pages mids (sym d.was ∙ g) in
     record {
       pages = pages;
       news = d.news;
       was = e;
       is = d.is;
-      left = left_then pages mids d.news free
-          then now page height is_root b used more all o ne m (subst (λ p. HasLeft p d.news then now page height is_root b more all o) same d.left);
+      left = left_then d.news
+          now page height is_root b all o ne m (subst (λ p. HasLeft p d.news then now page height is_root b more all o) same d.left);
     }
   where
     some_same : (x y : List (List ℕ)) → Some x ≡ Some y → x ≡ y
     some_same x y e = cc
 
 -- what became of it
-removed_as : (k : Key) (told now_told : Option (List (List ℕ))) (free now : ℕ → Bool) (page height : ℕ) (is_root : Bool) (b : Bounds)
-    (rs : List Record) (used : List ℕ) (o : Removed) → (o ≡ removed.Missing → ⊥) → list_any (has_key k) rs ≡ true
+removed_as : (k : Key) {told now_told : Option (List (List ℕ))} {free now : ℕ → Bool} {page height : ℕ} {is_root : Bool} {b : Bounds}
+    (rs : List Record) {used : List ℕ} {o : Removed} → (o ≡ removed.Missing → ⊥) → list_any (has_key k) rs ≡ true
     → DidLeave told now_told free now page height is_root b used (without k rs) o → DidRemove k told now_told free now page height is_root b rs used o
-removed_as k told now_told free now page height is_root b rs used removed.Missing some had d = absurd (some refl)
-removed_as k told now_told free now page height is_root b rs used removed.Done some had d = (had, d)
-removed_as k told now_told free now page height is_root b rs used removed.Underfull some had d = (had, d)
-removed_as k told now_told free now page height is_root b rs used removed.Emptied some had d = (had, d)
-removed_as k told now_told free now page height is_root b rs used (removed.Only child) some had d = (had, d)
+removed_as k rs {o = removed.Missing} some had d = absurd (some refl)
+removed_as k rs {o = removed.Done} some had d = (had, d)
+removed_as k rs {o = removed.Underfull} some had d = (had, d)
+removed_as k rs {o = removed.Emptied} some had d = (had, d)
+removed_as k rs {o = (removed.Only child)} some had d = (had, d)
 
-pub rebalanced_child : (r : Result Removed Stop) (k : Key) (told mid between now_told : Option (List (List ℕ))) (free was then now : ℕ → Bool)
-    (page height child i : ℕ) (inner : Inner) → ChildEdited k told mid free was page height child i inner
-    → Removes k mid between was then child (height - 1) removed.Underfull → IfOk r (λ o. o ≡ removed.Missing → ⊥)
-    → IfOk r (λ o. (is_root : Bool) (b : Bounds) (rs : List Record) (used : List ℕ) → HasUnderfull between then page height inner i is_root b rs used
-    → DidLeave between now_told then now page height is_root b used rs o)
-    → IfOk r (λ o. (is_root : Bool) (b : Bounds) (rs : List Record) (used : List ℕ) → CanEdit told free page height is_root b rs used
-    → DidRemove k told now_told free now page height is_root b rs used o)
-rebalanced_child (Err e) k told mid between now_told free was then now page height child i inner c f some l = l
-rebalanced_child (Ok o) k told mid between now_told free was then now page height child i inner c f some l = λ is_root b rs used can.
-    let s = underfull_child k told mid between free was then page height child i inner c f is_root b rs used can in
-    removed_as k told now_told free now page height is_root b rs used o some s.had
-    (did_leave told between now_told free
-    then now page height is_root b used s.more (without k rs) o can.pages s.mids c.above can.is_told s.is s.moves
-    (l is_root b (without k rs) s.more s.underfull))
+module _ (k : Key) (told mid between : Option (List (List ℕ))) (free was then : ℕ → Bool) (page height child i : ℕ) (inner : Inner) where
+  pub underfull_child : ChildEdited k told mid free was page height child i inner
+      → Removes k mid between was then child (height - 1) removed.Underfull → (is_root : Bool) (b : Bounds) (rs : List Record) (used : List ℕ)
+      (can : CanEdit told free page height is_root b rs used) → UnderfullChild k between free then page height i inner is_root b rs used can.pages
+  unfolding child_left
+  underfull_child c f is_root b rs used can =
+      let a = at_inner told free page height inner i k is_root b rs used c.some c.above c.reads c.place can in
+      let at = a.down.at in
+      let among = among_child told free page height i inner k is_root b rs used a in
+      let underfull = slice_index inner.children i in
+      let did = f false (child_bounds inner b i) at.here at.here_used
+      (child_edit told mid free was page height child i inner k is_root b rs used a c.is_mid c.is_free c.is_child) in
+      let left = did.1.left in
+      let l = child_left k told mid between free was
+      then page height child i inner is_root true b rs used a c.is_mid c.is_free c.is_child did.1.pages did.1.news did.1.was did.1.is left.1 in
+      let nearly : IsNearlyFull l.news (suc a.below) underfull = subst (λ n. IsNearlyFull l.news (suc a.below) n) c.is_child
+      (subst (λ n. IsNearlyFull l.news n child) (one_less height a.below a.is_height) (left.0 refl)) in
+      let T = Partly l.news (suc a.below) underfull in
+      let here : T (underfull, child_bounds inner b i) (without k at.here) l.uses =
+      subst (λ r. Subtree l.news (suc a.below) r (underfull, child_bounds inner b i) (without k at.here) l.uses) (sym (self_test underfull))
+      l.subtree in
+      let changed = middle_changed T
+      a.below page (to_partly l.news a.below underfull) (front (take i inner.children) (take i inner.keys) b)
+      ((underfull, child_bounds inner b i) ∷ [])
+      (tail_places (drop (suc i) inner.children) (drop i inner.keys) (from_keys (take i inner.keys) b)) at.first
+      (without k at.here) at.last at.first_used at.last_used (subst (AreApart free) a.is_used a.apart) at.is_used
+      at.row_before at.row_behind (row_one T (underfull, child_bounds inner b i) (without k at.here) l.uses here) l.moves in
+      let row = subst (λ x. Row T x (at.first ++ (without k at.here ++ at.last)) changed.uses) (sym (places_cut inner b i a.in_range a.list.keys))
+      changed.row in
+      let same : a.pages ≡ can.pages = some_same a.pages can.pages (sym a.is_told ∙ can.is_told) in
+      let moves = subst (λ u. Moves a.pages l.news free then u (changed.uses ++ page ∷ [])) (sym a.is_used) changed.moves in
+      record {
+        more = changed.uses ++ page ∷ [];
+        mids = l.news;
+        is = l.is;
+        had = any_between k at.first at.here at.last rs among ∙ did.0;
+        underfull = record {
+          pages = l.news;
+          is_told = l.is;
+          below = a.below;
+          is_height = a.is_height;
+          page_is = ap (λ n. inner_of n (slice_index_or l.news page [])) moves.size ∙ ap (inner_of (length a.pages)) changed.page_stays ∙ a.page_is;
+          inner_height = a.inner_height ∙ sym a.is_height;
+          enough = a.enough;
+          within = a.within;
+          under = changed.uses;
+          children = subst (λ x. Row T (bounded inner.children inner.keys b) x changed.uses)
+              (sym (without_between k at.first at.here at.last rs among)) row;
+          nearly = nearly;
+          is_used = refl;
+          apart = apart_then a.pages l.news free then used (changed.uses ++ page ∷ []) moves a.apart;
+        };
+        moves = subst (λ p. Moves p l.news free then used (changed.uses ++ page ∷ [])) same moves;
+      }
+    where
+      some_same : (x y : List (List ℕ)) → Some x ≡ Some y → x ≡ y
+      some_same x y e = cc
 
-pub rebalanced_sound : (r : Result Removed Stop) (k : Key) (told mid between : Option (List (List ℕ))) (free was then : ℕ → Bool)
-    (page height child i : ℕ) (inner : Inner) → ChildEdited k told mid free was page height child i inner
-    → Removes k mid between was then child (height - 1) removed.Underfull
-    → IfErr r (λ e. (is_root : Bool) (b : Bounds) (rs : List Record) (used : List ℕ)
-    → HasUnderfull between then page height inner i is_root b rs used → IsSound e)
-    → IfErr r (λ e. (is_root : Bool) (b : Bounds) (rs : List Record) (used : List ℕ) → CanEdit told free page height is_root b rs used → IsSound e)
-rebalanced_sound (Ok v) k told mid between free was then page height child i inner c f l = l
-rebalanced_sound (Err e) k told mid between free was then page height child i inner c f l = λ is_root b rs used can.
-    let s = underfull_child k told mid between free was then page height child i inner c f is_root b rs used can in
-    l is_root b (without k rs) s.more s.underfull
+  pub rebalanced_child : (r : Result Removed Stop) (now_told : Option (List (List ℕ))) (now : ℕ → Bool)
+      → ChildEdited k told mid free was page height child i inner → Removes k mid between was then child (height - 1) removed.Underfull
+      → IfOk r (λ o. o ≡ removed.Missing → ⊥)
+      → IfOk r (λ o. (is_root : Bool) (b : Bounds) (rs : List Record) (used : List ℕ) → HasUnderfull between then page height inner i is_root b rs used
+      → DidLeave between now_told then now page height is_root b used rs o)
+      → IfOk r (λ o. (is_root : Bool) (b : Bounds) (rs : List Record) (used : List ℕ) → CanEdit told free page height is_root b rs used
+      → DidRemove k told now_told free now page height is_root b rs used o)
+  rebalanced_child (Err e) now_told now c f some l = l
+  rebalanced_child (Ok o) now_told now c f some l = λ is_root b rs used can.
+      let s = underfull_child c f is_root b rs used can in
+      removed_as k rs some s.had
+      (did_leave told
+      c.above can.is_told s.is s.moves
+      (l is_root b (without k rs) s.more s.underfull))
 
--- no child is emptied, or has one child alone
-pub emptied_child : (e : Stop) (k : Key) (told mid between : Option (List (List ℕ))) (free was then : ℕ → Bool) (page height child i : ℕ)
-    (inner : Inner) → ChildEdited k told mid free was page height child i inner
-    → Removes k mid between was then child (height - 1) removed.Emptied → (is_root : Bool) (b : Bounds) (rs : List Record) (used : List ℕ)
-    → CanEdit told free page height is_root b rs used → IsSound e
-emptied_child e k told mid between free was then page height child i inner c f is_root b rs used can =
-    let a = at_inner told free page height inner i k is_root b rs used c.some c.above c.reads c.place can in
-    let did = f false (child_bounds inner b i) a.down.at.here a.down.at.here_used
-    (child_edit told mid free was page height child i inner k is_root b rs used a c.is_mid c.is_free c.is_child) in
-    absurd (never did.1.left.root)
-  where
-    never : false ≡ true → ⊥
-    never e = cc
+  pub rebalanced_sound : (r : Result Removed Stop) → ChildEdited k told mid free was page height child i inner
+      → Removes k mid between was then child (height - 1) removed.Underfull
+      → IfErr r (λ e. (is_root : Bool) (b : Bounds) (rs : List Record) (used : List ℕ) → HasUnderfull between then page height inner i is_root b rs used → IsSound e)
+      → IfErr r (λ e. (is_root : Bool) (b : Bounds) (rs : List Record) (used : List ℕ) → CanEdit told free page height is_root b rs used → IsSound e)
+  rebalanced_sound (Ok v) c f l = l
+  rebalanced_sound (Err e) c f l = λ is_root b rs used can.
+      let s = underfull_child c f is_root b rs used can in
+      l is_root b (without k rs) s.more s.underfull
 
-pub only_child : (only : ℕ) (e : Stop) (k : Key) (told mid between : Option (List (List ℕ))) (free was then : ℕ → Bool) (page height child i : ℕ)
-    (inner : Inner) → ChildEdited k told mid free was page height child i inner
-    → Removes k mid between was then child (height - 1) (removed.Only only) → (is_root : Bool) (b : Bounds) (rs : List Record) (used : List ℕ)
-    → CanEdit told free page height is_root b rs used → IsSound e
-only_child only e k told mid between free was then page height child i inner c f is_root b rs used can =
+  -- no child is emptied, or has one child alone
+  pub emptied_child : (e : Stop) → ChildEdited k told mid free was page height child i inner
+      → Removes k mid between was then child (height - 1) removed.Emptied → (is_root : Bool) (b : Bounds) (rs : List Record) (used : List ℕ)
+      → CanEdit told free page height is_root b rs used → IsSound e
+  emptied_child e c f is_root b rs used can =
+      let a = at_inner told free page height inner i k is_root b rs used c.some c.above c.reads c.place can in
+      let did = f false (child_bounds inner b i) a.down.at.here a.down.at.here_used
+      (child_edit told mid free was page height child i inner k is_root b rs used a c.is_mid c.is_free c.is_child) in
+      absurd (never did.1.left.root)
+    where
+      never : false ≡ true → ⊥
+      never e = cc
+
+pub only_child : (only : ℕ) (e : Stop) {k : Key} {told mid between : Option (List (List ℕ))} {free was then : ℕ → Bool} {page height child : ℕ}
+    (i : ℕ) (inner : Inner) → ChildEdited k told mid free was page height child i inner → Removes k mid between was then child (height - 1)
+    (removed.Only only) → {is_root : Bool} {b : Bounds} {rs : List Record} {used : List ℕ} → CanEdit told free page height is_root b rs used
+    → IsSound e
+only_child only e {k = k} {told = told} {mid = mid} {free = free} {was = was} {page = page} {height = height} {child = child} i inner c f {is_root = is_root} {b = b} {rs = rs} {used = used} can =
     let a = at_inner told free page height inner i k is_root b rs used c.some c.above c.reads c.place can in
     let did = f false (child_bounds inner b i) a.down.at.here a.down.at.here_used
     (child_edit told mid free was page height child i inner k is_root b rs used a c.is_mid c.is_free c.is_child) in

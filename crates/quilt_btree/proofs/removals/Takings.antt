@@ -1,5 +1,6 @@
 -- A run of keys whose records are taken out one after the other.
 use Rattle.std.proofs.Common.{◌≡◌, ℕ, Bool, true, false, not, cond, ◌||◌, ◌&&◌, List, [], ◌∷◌, filter}
+use Rattle.std.proofs.lemmas.Bool.{and_parts}
 use Rattle.std.proofs.Common.{get_or, refl, sym, ◌∙◌, ap, subst, Less, Equal, Greater, Ordering}
 use Rattle.std.specs.List.{list_any, list_all}
 use Rattle.std.specs.Ordering.{is_lt, is_eq, is_le, ordering_reverse}
@@ -10,7 +11,6 @@ use Rattle.quilt_record.specs.Lists.{has_key, without}
 use Rattle.quilt_btree.specs.Runs.{without_all, has_each}
 use Rattle.quilt_btree.proofs.lists.Lists.{filter_cond}
 use Rattle.quilt_record.proofs.Orders.{key_total, key_equal, lt_le, lt_not_eq, gt_not_eq}
-use Rattle.quilt_btree.proofs.subtrees.Walks.{and_parts}
 
 -- a record with another key stays
 other_key : (j k : Key) (r : Record) → is_lt (key_cmp j k) ≡ true → has_key k r ≡ true → has_key j r ≡ false
@@ -21,16 +21,17 @@ other_key j k r lt h = gt_not_eq j r.key (lt_le j k r.key lt (turned (key_cmp r.
     turned Equal p e h = ap is_le e
     turned Greater p e h = cc
 
-other_step : (p q : Record → Bool) (r : Record) (rs : List Record) (b c : Bool) → q r ≡ b → p r ≡ c → (p r ≡ true → q r ≡ true)
-    → list_any p (filter q rs) ≡ list_any p rs → list_any p (cond (q r) (r ∷ filter q rs) (filter q rs)) ≡ (p r || list_any p rs)
-other_step p q r rs true c e g f h = ap (λ l. list_any p l) (filter_cond q r (filter q rs) (filter q rs) true e) ∙ ap (λ b. p r || b) h
-other_step p q r rs false true e g f h = let k = f g in cc
-other_step p q r rs false false e g f h =
-    ap (λ l. list_any p l) (filter_cond q r (filter q rs) (filter q rs) false e) ∙ h ∙ sym (ap (λ b. b || list_any p rs) g)
+module _ (p q : Record → Bool) where
+  other_step : (r : Record) (rs : List Record) (b c : Bool) → q r ≡ b → p r ≡ c → (p r ≡ true → q r ≡ true) → list_any p (filter q rs) ≡ list_any p rs
+      → list_any p (cond (q r) (r ∷ filter q rs) (filter q rs)) ≡ (p r || list_any p rs)
+  other_step r rs true c e g f h = ap (λ l. list_any p l) (filter_cond q r (filter q rs) (filter q rs) true e) ∙ ap (λ b. p r || b) h
+  other_step r rs false true e g f h = let k = f g in cc
+  other_step r rs false false e g f h =
+      ap (λ l. list_any p l) (filter_cond q r (filter q rs) (filter q rs) false e) ∙ h ∙ sym (ap (λ b. b || list_any p rs) g)
 
-any_filter_other : (p q : Record → Bool) (rs : List Record) → ((r : Record) → p r ≡ true → q r ≡ true) → list_any p (filter q rs) ≡ list_any p rs
-any_filter_other p q [] f = refl
-any_filter_other p q (r ∷ rs) f = other_step p q r rs (q r) (p r) refl refl (f r) (any_filter_other p q rs f)
+  any_filter_other : (rs : List Record) → ((r : Record) → p r ≡ true → q r ≡ true) → list_any p (filter q rs) ≡ list_any p rs
+  any_filter_other [] f = refl
+  any_filter_other (r ∷ rs) f = other_step r rs (q r) (p r) refl refl (f r) (any_filter_other rs f)
 
 any_without_other : (j k : Key) (rs : List Record) → is_lt (key_cmp j k) ≡ true → list_any (has_key k) (without j rs) ≡ list_any (has_key k) rs
 unfolding without
@@ -47,7 +48,8 @@ any_without_above j k rs lt = any_filter_other (has_key k) (λ r. not (has_key j
     equal Greater h = cc
 
     earlier_key : (j k : Key) (r : Record) → is_lt (key_cmp k j) ≡ true → has_key k r ≡ true → has_key j r ≡ false
-    earlier_key j k r lt h = lt_not_eq (key_cmp r.key j) (subst (λ l. is_lt (key_cmp l j) ≡ true) (sym (key_equal r.key k (equal (key_cmp r.key k) h))) lt)
+    earlier_key j k r lt h = lt_not_eq (key_cmp r.key j)
+        (subst (λ l. is_lt (key_cmp l j) ≡ true) (sym (key_equal r.key k (equal (key_cmp r.key k) h))) lt)
 
 pub any_without_below : (k : Key) (xs : List Key) (rs : List Record) → list_all (λ m. is_lt (key_cmp m k)) xs ≡ true
     → list_any (has_key k) (without_all xs rs) ≡ list_any (has_key k) rs

@@ -1,5 +1,6 @@
 -- A subtree with one record or child too few among others that are whole.
 use Rattle.std.proofs.Common.{◌≡◌, ◌⊎◌, inl, inr, ℕ, zero, suc, ◌+◌, ◌<◌, ◌≤◌, Bool, true, false, ◌||◌, ◌&&◌, ◌==◌, nat_le, List, [], ◌∷◌, ◌++◌, length, Option}
+use Rattle.std.proofs.lemmas.Bool.{and_parts}
 use Rattle.std.proofs.Common.{Some, slice_index, slice_index_or, refl, sym, ◌∙◌, ap, subst, arith}
 use Rattle.std.specs.Prelude.{slice_get}
 use Rattle.std.specs.List.{list_all}
@@ -19,7 +20,6 @@ use Rattle.quilt_btree.proofs.rows.Places.{front, from_keys, high_from, at_place
 use Rattle.quilt_btree.proofs.subtrees.Descents.{keys_behind}
 use Rattle.quilt_btree.proofs.subtrees.Trees.{inner_list, ascending_first}
 use Rattle.quilt_btree.proofs.rows.Middles.{rear, gap_bounds, bounded_two, CutTwo, cut_two, two_rows}
-use Rattle.quilt_btree.proofs.subtrees.Walks.{and_parts}
 
 pub weaker : (pages : List (List ℕ)) (height : ℕ) (r : Bool) (at : ℕ × Bounds) (rs : List Record) (used : List ℕ) → Subtree pages height r at rs used
     → Subtree pages height true at rs used
@@ -66,16 +66,17 @@ full_nearly pages (suc (suc h)) at rs used s = λ inner e.
     less_one : (n : ℕ) → 127 ≤ n → 126 ≤ n
     less_one n h = omega arith
 
-near_case : (pages : List (List ℕ)) (height underfull : ℕ) (at : ℕ × Bounds) (rs : List Record) (used : List ℕ) (r : Bool) → (at.0 == underfull) ≡ r
-    → Subtree pages height r at rs used → IsNearlyFull pages height underfull → IsNear pages height at rs used
-near_case pages height underfull at rs used true e s n =
-    record { subtree = s; nearly = subst (IsNearlyFull pages height) (sym (equal_pages at.0 underfull e)) n }
-near_case pages height underfull at rs used false e s n =
-    record { subtree = weaker pages height false at rs used s; nearly = full_nearly pages height at rs used s }
+module _ (pages : List (List ℕ)) (height underfull : ℕ) where
+  near_case : (at : ℕ × Bounds) (rs : List Record) (used : List ℕ) (r : Bool) → (at.0 == underfull) ≡ r → Subtree pages height r at rs used
+      → IsNearlyFull pages height underfull → IsNear pages height at rs used
+  near_case at rs used true e s n =
+      record { subtree = s; nearly = subst (IsNearlyFull pages height) (sym (equal_pages at.0 underfull e)) n }
+  near_case at rs used false e s n =
+      record { subtree = weaker pages height false at rs used s; nearly = full_nearly pages height at rs used s }
 
-pub near_partly : (pages : List (List ℕ)) (height underfull : ℕ) (at : ℕ × Bounds) (rs : List Record) (used : List ℕ)
-    → Partly pages height underfull at rs used → IsNearlyFull pages height underfull → IsNear pages height at rs used
-near_partly pages height underfull at rs used s n = near_case pages height underfull at rs used (at.0 == underfull) refl s n
+  pub near_partly : (at : ℕ × Bounds) (rs : List Record) (used : List ℕ) → Partly pages height underfull at rs used
+      → IsNearlyFull pages height underfull → IsNear pages height at rs used
+  near_partly at rs used s n = near_case at rs used (at.0 == underfull) refl s n
 
 -- a subtree uses its own page
 pub page_used : (pages : List (List ℕ)) (height : ℕ) (r : Bool) (at : ℕ × Bounds) (rs : List Record) (used : List ℕ)
@@ -90,42 +91,43 @@ page_used pages (suc (suc h)) r at rs used s = subst (λ u. 1 ≤ times at.0 u) 
     last : (p : ℕ) (under : List ℕ) → 1 ≤ times p (under ++ p ∷ [])
     last p under = let e = times_here p [] in let f = times-append p under (p ∷ []) in omega arith
 
-whole_case : (pages : List (List ℕ)) (height underfull : ℕ) (at : ℕ × Bounds) (rs : List Record) (used : List ℕ) (r : Bool) → (at.0 == underfull) ≡ r
-    → times underfull used ≡ 0 → Subtree pages height r at rs used → Subtree pages height false at rs used
-whole_case pages height underfull at rs used true e none s =
-    let some = page_used pages height true at rs used s in
-    absurd (never (times at.0 used) some (ap (λ p. times p used) (equal_pages at.0 underfull e) ∙ none))
-  where
-    never : (n : ℕ) → 1 ≤ n → n ≡ 0 → ⊥
-    never n h e = omega arith
-whole_case pages height underfull at rs used false e none s = s
+module _ (pages : List (List ℕ)) (height underfull : ℕ) where
+  whole_case : (at : ℕ × Bounds) (rs : List Record) (used : List ℕ) (r : Bool) → (at.0 == underfull) ≡ r → times underfull used ≡ 0
+      → Subtree pages height r at rs used → Subtree pages height false at rs used
+  whole_case at rs used true e none s =
+      let some = page_used pages height true at rs used s in
+      absurd (never (times at.0 used) some (ap (λ p. times p used) (equal_pages at.0 underfull e) ∙ none))
+    where
+      never : (n : ℕ) → 1 ≤ n → n ≡ 0 → ⊥
+      never n h e = omega arith
+  whole_case at rs used false e none s = s
 
--- where the underfull page is not used, all is whole
-pub whole_row : (pages : List (List ℕ)) (height underfull : ℕ) (cs : List (ℕ × Bounds)) (rs : List Record) (used : List ℕ) → times underfull used ≡ 0
-    → Row (Partly pages height underfull) cs rs used → Row (Subtree pages height false) cs rs used
-whole_row pages height underfull [] rs used none row = row
-whole_row pages height underfull (c ∷ cs) rs used none row =
-    let total = ap (times underfull) row.is_used ∙ times-append underfull row.rest_used row.first_used in
-    let none_first : times underfull row.first_used ≡ 0 =
-    zero_first (times underfull used) (times underfull row.rest_used) (times underfull row.first_used) total none in
-    let none_rest : times underfull row.rest_used ≡ 0 =
-    zero_rest (times underfull used) (times underfull row.rest_used) (times underfull row.first_used) total none in
-    record {
-      first = row.first;
-      rest = row.rest;
-      first_used = row.first_used;
-      rest_used = row.rest_used;
-      here = whole_case pages height underfull c row.first row.first_used (c.0 == underfull) refl none_first row.here;
-      after = whole_row pages height underfull cs row.rest row.rest_used none_rest row.after;
-      records = row.records;
-      is_used = row.is_used;
-    }
-  where
-    zero_first : (u r f : ℕ) → u ≡ r + f → u ≡ 0 → f ≡ 0
-    zero_first u r f e h = omega arith
+  -- where the underfull page is not used, all is whole
+  pub whole_row : (cs : List (ℕ × Bounds)) (rs : List Record) (used : List ℕ) → times underfull used ≡ 0
+      → Row (Partly pages height underfull) cs rs used → Row (Subtree pages height false) cs rs used
+  whole_row [] rs used none row = row
+  whole_row (c ∷ cs) rs used none row =
+      let total = ap (times underfull) row.is_used ∙ times-append underfull row.rest_used row.first_used in
+      let none_first : times underfull row.first_used ≡ 0 =
+      zero_first (times underfull used) (times underfull row.rest_used) (times underfull row.first_used) total none in
+      let none_rest : times underfull row.rest_used ≡ 0 =
+      zero_rest (times underfull used) (times underfull row.rest_used) (times underfull row.first_used) total none in
+      record {
+        first = row.first;
+        rest = row.rest;
+        first_used = row.first_used;
+        rest_used = row.rest_used;
+        here = whole_case c row.first row.first_used (c.0 == underfull) refl none_first row.here;
+        after = whole_row cs row.rest row.rest_used none_rest row.after;
+        records = row.records;
+        is_used = row.is_used;
+      }
+    where
+      zero_first : (u r f : ℕ) → u ≡ r + f → u ≡ 0 → f ≡ 0
+      zero_first u r f e h = omega arith
 
-    zero_rest : (u r f : ℕ) → u ≡ r + f → u ≡ 0 → r ≡ 0
-    zero_rest u r f e h = omega arith
+      zero_rest : (u r f : ℕ) → u ≡ r + f → u ≡ 0 → r ≡ 0
+      zero_rest u r f e h = omega arith
 
 -- the key between two neighbours lies within the bounds of both
 pub gap_low : (ka : List Key) (key : Key) (kb : List Key) (b : Bounds) → is_ascending (ka ++ key ∷ kb) ≡ true → are_within b (ka ++ key ∷ kb) ≡ true
@@ -172,29 +174,30 @@ pub record Neighbours (told : Option (List (List ℕ))) (free : ℕ → Bool) (p
   pub is_used : used ≡ under ++ page ∷ []
   pub apart : AreApart free used
 
--- one of the two is the underfull one
-one_underfull : (underfull left right : ℕ) (l r hu : List ℕ) → (underfull ≡ left) ⊎ (underfull ≡ right) → hu ≡ r ++ l → 1 ≤ times left l
-    → 1 ≤ times right r → 1 ≤ times underfull hu
-one_underfull underfull left right l r hu (inl e) is p q =
-    let t : times left hu ≡ times left r + times left l = ap (times left) is ∙ times-append left r l in
-    subst (λ n. 1 ≤ times n hu) (sym e) (omega arith)
-one_underfull underfull left right l r hu (inr e) is p q =
-    let t : times right hu ≡ times right r + times right l = ap (times right) is ∙ times-append right r l in
-    subst (λ n. 1 ≤ times n hu) (sym e) (omega arith)
+module _ (left right : ℕ) where
+  -- one of the two is the underfull one
+  one_underfull : (underfull : ℕ) (l r hu : List ℕ) → (underfull ≡ left) ⊎ (underfull ≡ right) → hu ≡ r ++ l → 1 ≤ times left l → 1 ≤ times right r
+      → 1 ≤ times underfull hu
+  one_underfull underfull l r hu (inl e) is p q =
+      let t : times left hu ≡ times left r + times left l = ap (times left) is ∙ times-append left r l in
+      subst (λ n. 1 ≤ times n hu) (sym e) (omega arith)
+  one_underfull underfull l r hu (inr e) is p q =
+      let t : times right hu ≡ times right r + times right l = ap (times right) is ∙ times-append right r l in
+      subst (λ n. 1 ≤ times n hu) (sym e) (omega arith)
 
-pub which_underfull : (cs : List ℕ) (i j next left right : ℕ) → (j ≡ i) ⊎ (j + 1 ≡ i) → next ≡ suc j → left ≡ slice_index cs j
-    → right ≡ slice_index cs next → (slice_index cs i ≡ left) ⊎ (slice_index cs i ≡ right)
-which_underfull cs i j next left right (inl e) n l r = inl (ap (slice_index cs) (sym e) ∙ sym l)
-which_underfull cs i j next left right (inr e) n l r = let f : i ≡ next = omega arith in inr (ap (slice_index cs) f ∙ sym r)
+  pub which_underfull : (cs : List ℕ) (i j next : ℕ) → (j ≡ i) ⊎ (j + 1 ≡ i) → next ≡ suc j → left ≡ slice_index cs j → right ≡ slice_index cs next
+      → (slice_index cs i ≡ left) ⊎ (slice_index cs i ≡ right)
+  which_underfull cs i j next (inl e) n l r = inl (ap (slice_index cs) (sym e) ∙ sym l)
+  which_underfull cs i j next (inr e) n l r = let f : i ≡ next = omega arith in inr (ap (slice_index cs) f ∙ sym r)
 
-pub neighbours : (told : Option (List (List ℕ))) (free : ℕ → Bool) (page height : ℕ) (inner : Inner) (i : ℕ) (is_root : Bool) (b : Bounds)
-    (rs : List Record) (used : List ℕ) (s : HasUnderfull told free page height inner i is_root b rs used)
-    → (j next left : ℕ) (key : Key) (right : ℕ) → j + 1 < length inner.children → (j ≡ i) ⊎ (j + 1 ≡ i) → next ≡ suc j
-    → left ≡ slice_index inner.children j → right ≡ slice_index inner.children next → slice_get inner.keys j ≡ Some key
+pub neighbours : {told : Option (List (List ℕ))} {free : ℕ → Bool} {page height : ℕ} {inner : Inner} {i : ℕ} {is_root : Bool} {b : Bounds}
+    {rs : List Record} {used : List ℕ} (s : HasUnderfull told free page height inner i is_root b rs used) (j : ℕ) {next left : ℕ} (key : Key)
+    {right : ℕ} → j + 1 < length inner.children → (j ≡ i) ⊎ (j + 1 ≡ i) → next ≡ suc j → left ≡ slice_index inner.children j
+    → right ≡ slice_index inner.children next → slice_get inner.keys j ≡ Some key
     → Neighbours told free page s.below inner j left key right is_root b rs used
-neighbours told free page height inner i is_root b rs used s j next left key right lt one nx l r k =
+neighbours {free = free} {page = page} {inner = inner} {i = i} {b = b} {rs = rs} {used = used} s j {next = next} {left = left} key {right = right} lt one nx l r k =
     let list = inner_list (length s.pages) (slice_index_or s.pages page []) inner s.page_is in
-    let cut = cut_two inner.children inner.keys j next left key right list.keys lt nx l r k in
+    let cut = cut_two inner.children inner.keys j key list.keys lt nx l r k in
     let underfull = slice_index inner.children i in
     let P = Partly s.pages (suc s.below) underfull in
     let gap = gap_bounds cut.ka cut.kb b in
@@ -211,7 +214,8 @@ neighbours told free page height inner i is_root b rs used s j next left key rig
     λ p. ap (times p) s.is_used ∙ times-append p s.under (page ∷ [])
     ∙ ap (λ n. n + times p (page ∷ [])) (ap (times p) at.is_used ∙ times-three p at.last_used at.here_used at.first_used) in
     let some =
-    one_underfull underfull left right two.first_used two.rest_used at.here_used (which_underfull inner.children i j next left right one nx l r) two.is_used
+    one_underfull left right underfull two.first_used two.rest_used at.here_used (which_underfull left right inner.children i j next one nx l r)
+    two.is_used
     (page_used s.pages (suc s.below) (left == underfull) low two.first two.first_used two.here)
     (page_used s.pages (suc s.below) (right == underfull) high two.rest two.rest_used two.after) in
     let bound = least free used underfull s.apart in

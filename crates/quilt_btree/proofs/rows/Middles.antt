@@ -36,23 +36,24 @@ bounded_rear c [] [] b n = refl
 bounded_rear c (d ∷ cb) [] b n = absurd (omega arith)
 bounded_rear c [] (k ∷ kb) b n = absurd (omega arith)
 bounded_rear c (d ∷ cb) (k ∷ kb) b n =
-    ap (λ l. (c, record { low = b.low; high = Some k }) ∷ l) (bounded_rear d cb kb (record { low = Some k; high = b.high }) (fewer (length cb) (length kb) n))
+    ap (λ l. (c, record { low = b.low; high = Some k }) ∷ l)
+    (bounded_rear d cb kb (record { low = Some k; high = b.high }) (fewer (length cb) (length kb) n))
 
 -- the bounds of what stands between
 abbrev pub gap_bounds : List Key → List Key → Bounds → Bounds
 gap_bounds ka kb b = record { low = (from_keys ka b).low; high = head_or kb b.high }
 
-pub bounded_one : (ca : List ℕ) (c : ℕ) (cb : List ℕ) (ka kb : List Key) (b : Bounds) → length ca ≡ length ka → length cb ≡ length kb
-    → bounded (ca ++ c ∷ cb) (ka ++ kb) b ≡ front ca ka b ++ (((c, gap_bounds ka kb b) ∷ []) ++ rear cb kb b.high)
-bounded_one ca c cb ka kb b n m =
-    bounded_front ca (c ∷ cb) ka kb b n ∙ ap (λ l. front ca ka b ++ l) (bounded_rear c cb kb (from_keys ka b) m
-    ∙ ap (λ h. (c, record { low = (from_keys ka b).low; high = head_or kb h }) ∷ rear cb kb h) (high_from ka b))
+module _ (ca : List ℕ) (c : ℕ) where
+  pub bounded_one : (cb : List ℕ) (ka kb : List Key) (b : Bounds) → length ca ≡ length ka → length cb ≡ length kb → bounded (ca ++ c ∷ cb)
+      (ka ++ kb) b ≡ front ca ka b ++ (((c, gap_bounds ka kb b) ∷ []) ++ rear cb kb b.high)
+  bounded_one cb ka kb b n m =
+      bounded_front ca (c ∷ cb) ka kb b n ∙ ap (λ l. front ca ka b ++ l) (bounded_rear c cb kb (from_keys ka b) m
+      ∙ ap (λ h. (c, record { low = (from_keys ka b).low; high = head_or kb h }) ∷ rear cb kb h) (high_from ka b))
 
-pub bounded_two : (ca : List ℕ) (c d : ℕ) (cb : List ℕ) (ka : List Key) (key : Key) (kb : List Key) (b : Bounds) → length ca ≡ length ka → length cb ≡ length kb
-    → bounded (ca ++ c ∷ d ∷ cb) (ka ++ key ∷ kb) b
-    ≡ front ca ka b ++ (((c, record { low = (gap_bounds ka kb b).low; high = Some key })
-    ∷ (d, record { low = Some key; high = (gap_bounds ka kb b).high }) ∷ []) ++ rear cb kb b.high)
-bounded_two ca c d cb ka key kb b n m = bounded_one ca c (d ∷ cb) ka (key ∷ kb) b n (ap suc m)
+  pub bounded_two : (d : ℕ) (cb : List ℕ) (ka : List Key) (key : Key) (kb : List Key) (b : Bounds) → length ca ≡ length ka → length cb ≡ length kb
+      → bounded (ca ++ c ∷ d ∷ cb)
+      (ka ++ key ∷ kb) b ≡ front ca ka b ++ (((c, record { low = (gap_bounds ka kb b).low; high = Some key }) ∷ (d, record { low = Some key; high = (gap_bounds ka kb b).high }) ∷ []) ++ rear cb kb b.high)
+  bounded_two d cb ka key kb b n m = bounded_one (d ∷ cb) ka (key ∷ kb) b n (ap suc m)
 
 -- a list of children and one of keys, cut at two neighbours
 pub record CutTwo (cs : List ℕ) (ks : List Key) (j left : ℕ) (key : Key) (right : ℕ) : Type 0 where
@@ -66,10 +67,9 @@ pub record CutTwo (cs : List ℕ) (ks : List Key) (j left : ℕ) (key : Key) (ri
   pub behind : length cb ≡ length kb
   pub place : length ka ≡ j
 
-pub cut_two : (cs : List ℕ) (ks : List Key) (j next left : ℕ) (key : Key) (right : ℕ) → length cs ≡ length ks + 1 → j + 1 < length cs → next ≡ suc j
-    → left ≡ slice_index cs j → right ≡ slice_index cs next → slice_get ks j ≡ Some key
-    → CutTwo cs ks j left key right
-cut_two cs ks j next left key right n lt nx l r k =
+pub cut_two : (cs : List ℕ) (ks : List Key) (j : ℕ) {next left : ℕ} (key : Key) {right : ℕ} → length cs ≡ length ks + 1 → j + 1 < length cs
+    → next ≡ suc j → left ≡ slice_index cs j → right ≡ slice_index cs next → slice_get ks j ≡ Some key → CutTwo cs ks j left key right
+cut_two cs ks j {left = left} key n lt nx l r k =
     let here : j < length cs = omega arith in
     let there : suc j < length cs = omega arith in
     let low : j ≤ length cs = omega arith in
@@ -80,7 +80,8 @@ cut_two cs ks j next left key right n lt nx l r k =
       cb = drop (suc (suc j)) cs;
       ka = take j ks;
       kb = drop (suc j) ks;
-      children = cut_children cs j here ∙ ap (λ x. take j cs ++ x ∷ drop (suc j) cs) (sym l) ∙ ap (λ x. take j cs ++ left ∷ x) (drop-cons cs (suc j) 0 there)
+      children = cut_children cs j here ∙ ap (λ x. take j cs ++ x ∷ drop (suc j) cs) (sym l) ∙ ap (λ x. take j cs ++ left ∷ x)
+          (drop-cons cs (suc j) 0 there)
           ∙ ap (λ x. take j cs ++ left ∷ x ∷ drop (suc (suc j)) cs) (sym (r ∙ ap (slice_index cs) nx));
       keys = cut_at ks j key k;
       before = length-take-le j cs low ∙ sym ka;
@@ -158,14 +159,13 @@ pub record RowChanged (T : Reading) (pages news : List (List ℕ)) (free now : �
   pub page_stays : slice_index_or news page [] ≡ slice_index_or pages page []
 
 -- The children before and behind stay, and those in the middle become others by an edit of their pages.
-pub middle_changed : (T : Reading) (pages news : List (List ℕ)) (free now : ℕ → Bool) (h page : ℕ)
-    → ((c : ℕ × Bounds) (ss : List Record) (u : List ℕ) → Subtree news (suc h) false c ss u → T c ss u)
-    → (before others behind : List (ℕ × Bounds)) (first all last : List Record) (fu hu lu uses under : List ℕ) → AreApart free (under ++ page ∷ [])
-    → under ≡ (lu ++ hu) ++ fu
-    → Row (Subtree pages (suc h) false) before first fu → Row (Subtree pages (suc h) false) behind last lu → Row T others all uses
-    → Moves pages news free now hu uses
-    → RowChanged T pages news free now page (before ++ (others ++ behind)) (first ++ (all ++ last)) under
-middle_changed T pages news free now h page embed before others behind first all last fu hu lu uses under apart is row_before row_behind row moves =
+pub middle_changed : (T : Reading) {pages news : List (List ℕ)} {free now : ℕ → Bool} (h page : ℕ)
+    → ((c : ℕ × Bounds) (ss : List Record) (u : List ℕ) → Subtree news (suc h) false c ss u → T c ss u) → (before others behind : List (ℕ × Bounds))
+    (first all last : List Record) (fu : List ℕ) {hu : List ℕ} (lu : List ℕ) {uses under : List ℕ} → AreApart free (under ++ page ∷ [])
+    → under ≡ (lu ++ hu) ++ fu → Row (Subtree pages (suc h) false) before first fu → Row (Subtree pages (suc h) false) behind last lu
+    → Row T others all uses → Moves pages news free now hu uses → RowChanged T pages news free now page (before ++ (others ++ behind))
+    (first ++ (all ++ last)) under
+middle_changed T {pages = pages} {news = news} {free = free} {now = now} h page embed before others behind first all last fu {hu = hu} lu {uses = uses} {under = under} apart is row_before row_behind row moves =
     let total : (p : ℕ) → times p (under ++ page ∷ []) ≡ times p lu + times p hu + times p fu + times p (page ∷ []) =
     λ p. times-append p under (page ∷ []) ∙ ap (λ n. n + times p (page ∷ [])) (ap (times p) is ∙ times-three p lu hu fu) in
     let total_now : (p : ℕ) → times p (((lu ++ uses) ++ fu) ++ page ∷ []) ≡ times p lu + times p uses + times p fu + times p (page ∷ []) =
@@ -174,16 +174,18 @@ middle_changed T pages news free now h page embed before others behind first all
     λ others parts. stays_on pages news free now hu uses others (under ++ page ∷ []) moves apart parts in
     let same_first = stay fu (λ p. in_first (times p (under ++ page ∷ [])) (times p lu) (times p hu) (times p fu) (times p (page ∷ [])) (total p)) in
     let same_last = stay lu (λ p. in_last (times p (under ++ page ∷ [])) (times p lu) (times p hu) (times p fu) (times p (page ∷ [])) (total p)) in
-    let same_page = stay (page ∷ []) (λ p. in_page (times p (under ++ page ∷ [])) (times p lu) (times p hu) (times p fu) (times p (page ∷ [])) (total p)) in
+    let same_page = stay (page ∷ [])
+    (λ p. in_page (times p (under ++ page ∷ [])) (times p lu) (times p hu) (times p fu) (times p (page ∷ [])) (total p)) in
     let one : (c : ℕ × Bounds) (ss : List Record) (u : List ℕ) → SameOn pages news u → Subtree pages (suc h) false c ss u → T c ss u =
     λ c ss u e t. embed c ss u (subtree_stays pages news moves.size (suc h) false c ss u e t) in
     record {
       uses = (lu ++ uses) ++ fu;
       row = place_back T before others behind first all last fu uses lu
-          (row_stays (Subtree pages (suc h) false) T pages news one before first fu same_first row_before) row
-          (row_stays (Subtree pages (suc h) false) T pages news one behind last lu same_last row_behind);
+          (row_stays pages news (Subtree pages (suc h) false) T one before first fu same_first row_before) row
+          (row_stays pages news (Subtree pages (suc h) false) T one behind last lu same_last row_behind);
       moves =
-          moves_among pages news free now hu uses (under ++ page ∷ []) (((lu ++ uses) ++ fu) ++ page ∷ []) (λ p. times p lu + times p fu + times p (page ∷ []))
+          moves_among pages news free now hu uses (under ++ page ∷ []) (((lu ++ uses) ++ fu) ++ page ∷ [])
+          (λ p. times p lu + times p fu + times p (page ∷ []))
           (λ p. order (times p (under ++ page ∷ [])) (times p lu) (times p hu) (times p fu) (times p (page ∷ [])) (total p))
           (λ p. order (times p (((lu ++ uses) ++ fu) ++ page ∷ [])) (times p lu) (times p uses) (times p fu) (times p (page ∷ [])) (total_now p)) moves;
       page_stays = same_page page (self page);

@@ -1,5 +1,6 @@
 -- A child's place among the others of its page.
 use Rattle.std.proofs.Common.{◌≡◌, ℕ, suc, ◌+◌, Bool, true, false, not, ◌&&◌, List, [], ◌∷◌, ◌++◌, length, map, Some, refl, sym, ◌∙◌, ap, subst, arith}
+use Rattle.std.proofs.lemmas.Bool.{and_parts}
 use Rattle.std.specs.List.{list_all}
 use Rattle.std.specs.Ordering.{is_lt, is_le}
 use Rattle.std.proofs.lemmas.List.{append-nil}
@@ -12,7 +13,6 @@ use Rattle.quilt_btree.specs.Subtree.{Reading, Row}
 use Rattle.quilt_btree.proofs.lists.Rising.{IsRising, all_follow, all_append, all_map}
 use Rattle.quilt_btree.proofs.lists.Rows.{row_parts, row_join}
 use Rattle.quilt_btree.proofs.subtrees.Trees.{row_rises, ascending_rest, within_rest}
-use Rattle.quilt_btree.proofs.subtrees.Walks.{and_parts}
 
 -- children that each have a key behind them, with their bounds
 abbrev pub front : List ℕ → List Key → Bounds → List (ℕ × Bounds)
@@ -138,40 +138,39 @@ pub record IsSide (past before : Key → Bool) : Type 0 where
 abbrev pub Rises : Reading → Type 0
 Rises S = (c : ℕ × Bounds) (rs : List Record) (used : List ℕ) → S c rs used → IsRising c.1 (map (λ r. r.key) rs)
 
--- records before keys that are passed
-pub front_before : (S : Reading) → Rises S → (past before : Key → Bool) → IsSide past before
-    → (ca : List ℕ) (ka : List Key) (b : Bounds) (rs : List Record) (used : List ℕ)
-    → list_all past ka ≡ true → Row S (front ca ka b) rs used → list_all (λ r. before r.key) rs ≡ true
-front_before S one past before side [] ka b rs used h row = subst (λ l. list_all (λ (r : Record). before r.key) l ≡ true) (sym row.0) refl
-front_before S one past before side (c ∷ ca) [] b rs used h row = subst (λ l. list_all (λ (r : Record). before r.key) l ≡ true) (sym row.0) refl
-front_before S one past before side (c ∷ ca) (k ∷ ka) b rs used h row =
-    let t = and_parts (past k) (list_all past ka) h in
-    let first = one (c, record { low = b.low; high = Some k }) row.first row.first_used row.here in
-    subst (λ l. list_all (λ (r : Record). before r.key) l ≡ true) (sym row.records)
-    (all_append (λ (r : Record). before r.key) row.first row.rest
-    (all_map (λ (r : Record). r.key) before row.first
-    (all_follow (λ m. is_above b.low m && is_lt (key_cmp m k)) before
-    (λ m g. side.down k m t.0 (and_parts (is_above b.low m) (is_lt (key_cmp m k)) g).1) (map (λ r. r.key) row.first) first.within))
-    (front_before S one past before side ca ka (record { low = Some k; high = b.high }) row.rest row.rest_used t.1 row.after))
+module _ (S : Reading) (one : Rises S) (past before : Key → Bool) (side : IsSide past before) where
+  -- records before keys that are passed
+  pub front_before : (ca : List ℕ) (ka : List Key) (b : Bounds) (rs : List Record) (used : List ℕ) → list_all past ka ≡ true
+      → Row S (front ca ka b) rs used → list_all (λ r. before r.key) rs ≡ true
+  front_before [] ka b rs used h row = subst (λ l. list_all (λ (r : Record). before r.key) l ≡ true) (sym row.0) refl
+  front_before (c ∷ ca) [] b rs used h row = subst (λ l. list_all (λ (r : Record). before r.key) l ≡ true) (sym row.0) refl
+  front_before (c ∷ ca) (k ∷ ka) b rs used h row =
+      let t = and_parts (past k) (list_all past ka) h in
+      let first = one (c, record { low = b.low; high = Some k }) row.first row.first_used row.here in
+      subst (λ l. list_all (λ (r : Record). before r.key) l ≡ true) (sym row.records)
+      (all_append (λ (r : Record). before r.key) row.first row.rest
+      (all_map (λ (r : Record). r.key) before row.first
+      (all_follow (λ m. is_above b.low m && is_lt (key_cmp m k)) before
+      (λ m g. side.down k m t.0 (and_parts (is_above b.low m) (is_lt (key_cmp m k)) g).1) (map (λ r. r.key) row.first) first.within))
+      (front_before ca ka (record { low = Some k; high = b.high }) row.rest row.rest_used t.1 row.after))
 
--- records behind keys that are not passed
-pub tail_behind : (S : Reading) → Rises S → (past before : Key → Bool) → IsSide past before
-    → (cs : List ℕ) (ks : List Key) (b : Bounds) (rs : List Record) (used : List ℕ)
-    → length cs ≡ length ks → is_ascending ks ≡ true → are_within b ks ≡ true
-    → list_all (λ l. not (past l)) ks ≡ true → Row S (tail_places cs ks b) rs used → list_all (λ r. not (past r.key)) rs ≡ true
-tail_behind S one past before side [] [] b rs used n a w h row = subst (λ l. list_all (λ (r : Record). not (past r.key)) l ≡ true) (sym row.0) refl
-tail_behind S one past before side (c ∷ cs) [] b rs used n a w h row = absurd (omega arith)
-tail_behind S one past before side cs (k ∷ ks) b rs used n a w h row =
-    let t = and_parts (not (past k)) (list_all (λ l. not (past l)) ks) h in
-    let rises = row_rises S one cs ks (record { low = Some k; high = b.high }) rs used (more (length cs) (length ks) n) (ascending_rest k ks a)
-    (within_rest b k ks a w) row in
-    all_map (λ (r : Record). r.key) (λ m. not (past m)) rs
-    (all_follow (λ m. is_le (key_cmp k m) && is_below b.high m) (λ m. not (past m))
-    (λ m g. ap not (side.up k m (turned (past k) t.0) (and_parts (is_le (key_cmp k m)) (is_below b.high m) g).0)) (map (λ r. r.key) rs) rises.within)
-  where
-    more : (m n : ℕ) → m ≡ suc n → m ≡ n + 1
-    more m n h = omega arith
+  -- records behind keys that are not passed
+  pub tail_behind : (cs : List ℕ) (ks : List Key) (b : Bounds) (rs : List Record) (used : List ℕ) → length cs ≡ length ks → is_ascending ks ≡ true
+      → are_within b ks ≡ true → list_all (λ l. not (past l)) ks ≡ true → Row S (tail_places cs ks b) rs used
+      → list_all (λ r. not (past r.key)) rs ≡ true
+  tail_behind [] [] b rs used n a w h row = subst (λ l. list_all (λ (r : Record). not (past r.key)) l ≡ true) (sym row.0) refl
+  tail_behind (c ∷ cs) [] b rs used n a w h row = absurd (omega arith)
+  tail_behind cs (k ∷ ks) b rs used n a w h row =
+      let t = and_parts (not (past k)) (list_all (λ l. not (past l)) ks) h in
+      let rises = row_rises S one cs ks (record { low = Some k; high = b.high }) rs used (more (length cs) (length ks) n) (ascending_rest k ks a)
+      (within_rest b k ks a w) row in
+      all_map (λ (r : Record). r.key) (λ m. not (past m)) rs
+      (all_follow (λ m. is_le (key_cmp k m) && is_below b.high m) (λ m. not (past m))
+      (λ m g. ap not (side.up k m (turned (past k) t.0) (and_parts (is_le (key_cmp k m)) (is_below b.high m) g).0)) (map (λ r. r.key) rs) rises.within)
+    where
+      more : (m n : ℕ) → m ≡ suc n → m ≡ n + 1
+      more m n h = omega arith
 
-    turned : (x : Bool) → not x ≡ true → x ≡ false
-    turned true h = cc
-    turned false h = refl
+      turned : (x : Bool) → not x ≡ true → x ≡ false
+      turned true h = cc
+      turned false h = refl

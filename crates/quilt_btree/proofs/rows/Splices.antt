@@ -26,14 +26,6 @@ bounded_join (c ∷ ca) cb (k ∷ ka) kb key b n =
     fewer : (m n : ℕ) → suc m ≡ suc (suc n) → m ≡ suc n
     fewer m n h = omega arith
 
--- a row stays as it is where its pages do
-pub rows_stay : (pages news : List (List ℕ)) (h : ℕ) → length news ≡ length pages
-    → (cs : List (ℕ × Bounds)) (rs : List Record) (used : List ℕ) → SameOn pages news used
-    → Row (Subtree pages (suc h) false) cs rs used → Row (Subtree news (suc h) false) cs rs used
-rows_stay pages news h size cs rs used same row =
-    row_stays (Subtree pages (suc h) false) (Subtree news (suc h) false) pages news
-    (λ c ss u e t. subtree_stays pages news size (suc h) false c ss u e t) cs rs used same row
-
 -- what the children of a page are behind an edit that leaves the page itself
 pub record RowMoved (pages news : List (List ℕ)) (free now : ℕ → Bool) (h page : ℕ) (cs : List (ℕ × Bounds)) (rs : List Record) (under : List ℕ) : Type 0 where
   pub uses : List ℕ
@@ -41,77 +33,84 @@ pub record RowMoved (pages news : List (List ℕ)) (free now : ℕ → Bool) (h 
   pub moves : Moves pages news free now (under ++ page ∷ []) (uses ++ page ∷ [])
   pub page_stays : slice_index_or news page [] ≡ slice_index_or pages page []
 
--- Children in the middle of a row become others by an edit of their pages.
-pub middle_moved : (pages news : List (List ℕ)) (free now : ℕ → Bool) (h page : ℕ) (before middle behind others : List (ℕ × Bounds))
-    (rs : List Record) (under : List ℕ) (all : List Record) (uses : List ℕ)
-    → AreApart free (under ++ page ∷ []) → (at : AtPlace (Subtree pages (suc h) false) before middle behind rs under)
-    → Row (Subtree news (suc h) false) others all uses → Moves pages news free now at.here_used uses
-    → RowMoved pages news free now h page (before ++ (others ++ behind)) (at.first ++ (all ++ at.last)) under
-middle_moved pages news free now h page before middle behind others rs under all uses apart at row moves =
-    let total : (p : ℕ) → times p (under ++ page ∷ []) ≡ times p at.last_used + times p at.here_used + times p at.first_used + times p (page ∷ []) =
-    λ p. times-append p under (page ∷ [])
-    ∙ ap (λ n. n + times p (page ∷ [])) (ap (times p) at.is_used ∙ times-three p at.last_used at.here_used at.first_used) in
-    let total_now : (p : ℕ)
-    → times p (((at.last_used ++ uses) ++ at.first_used) ++ page ∷ []) ≡ times p at.last_used + times p uses + times p at.first_used + times p (page ∷ []) =
-    λ p. times-append p ((at.last_used ++ uses) ++ at.first_used) (page ∷ [])
-    ∙ ap (λ n. n + times p (page ∷ [])) (times-three p at.last_used uses at.first_used) in
-    let stay : (others : List ℕ) → ((p : ℕ) → times p at.here_used + times p others ≤ times p (under ++ page ∷ [])) → SameOn pages news others =
-    λ others parts. stays_on pages news free now at.here_used uses others (under ++ page ∷ []) moves apart parts in
-    let same_first = stay at.first_used
-    (λ p. in_first (times p (under ++ page ∷ [])) (times p at.last_used) (times p at.here_used) (times p at.first_used) (times p (page ∷ [])) (total p)) in
-    let same_last = stay at.last_used
-    (λ p. in_last (times p (under ++ page ∷ [])) (times p at.last_used) (times p at.here_used) (times p at.first_used) (times p (page ∷ [])) (total p)) in
-    let same_page = stay (page ∷ [])
-    (λ p. in_page (times p (under ++ page ∷ [])) (times p at.last_used) (times p at.here_used) (times p at.first_used) (times p (page ∷ [])) (total p)) in
-    record {
-      uses = (at.last_used ++ uses) ++ at.first_used;
-      row = place_back (Subtree news (suc h) false) before others behind at.first all at.last at.first_used uses at.last_used
-          (rows_stay pages news h moves.size before at.first at.first_used same_first at.row_before) row
-          (rows_stay pages news h moves.size behind at.last at.last_used same_last at.row_behind);
-      moves = moves_among pages news free now at.here_used uses (under ++ page ∷ []) (((at.last_used ++ uses) ++ at.first_used) ++ page ∷ [])
-          (λ p. times p at.last_used + times p at.first_used + times p (page ∷ []))
-          (λ p. order (times p (under ++ page ∷ [])) (times p at.last_used) (times p at.here_used) (times p at.first_used) (times p (page ∷ [])) (total p))
-          (λ p. order (times p (((at.last_used ++ uses) ++ at.first_used) ++ page ∷ [])) (times p at.last_used) (times p uses)
-          (times p at.first_used) (times p (page ∷ [])) (total_now p)) moves;
-      page_stays = same_page page (self page);
-    }
-  where
-    in_first : (u l h f p : ℕ) → u ≡ l + h + f + p → h + f ≤ u
-    in_first u l h f p e = omega arith
+module _ (pages news : List (List ℕ)) where
+  -- a row stays as it is where its pages do
+  pub rows_stay : (h : ℕ) → length news ≡ length pages → (cs : List (ℕ × Bounds)) (rs : List Record) (used : List ℕ) → SameOn pages news used
+      → Row (Subtree pages (suc h) false) cs rs used → Row (Subtree news (suc h) false) cs rs used
+  rows_stay h size cs rs used same row =
+      row_stays pages news (Subtree pages (suc h) false) (Subtree news (suc h) false)
+      (λ c ss u e t. subtree_stays pages news size (suc h) false c ss u e t) cs rs used same row
 
-    in_last : (u l h f p : ℕ) → u ≡ l + h + f + p → h + l ≤ u
-    in_last u l h f p e = omega arith
+  -- Children in the middle of a row become others by an edit of their pages.
+  pub middle_moved : (free now : ℕ → Bool) (h page : ℕ) (before middle behind others : List (ℕ × Bounds)) (rs : List Record) (under : List ℕ)
+      (all : List Record) (uses : List ℕ) → AreApart free (under ++ page ∷ [])
+      → (at : AtPlace (Subtree pages (suc h) false) before middle behind rs under) → Row (Subtree news (suc h) false) others all uses
+      → Moves pages news free now at.here_used uses → RowMoved pages news free now h page (before ++ (others ++ behind))
+      (at.first ++ (all ++ at.last)) under
+  middle_moved free now h page before middle behind others rs under all uses apart at row moves =
+      let total : (p : ℕ) → times p (under ++ page ∷ []) ≡ times p at.last_used + times p at.here_used + times p at.first_used + times p (page ∷ []) =
+      λ p. times-append p under (page ∷ [])
+      ∙ ap (λ n. n + times p (page ∷ [])) (ap (times p) at.is_used ∙ times-three p at.last_used at.here_used at.first_used) in
+      let total_now : (p : ℕ)
+      → times p (((at.last_used ++ uses) ++ at.first_used) ++ page ∷ []) ≡ times p at.last_used + times p uses + times p at.first_used + times p (page ∷ []) =
+      λ p. times-append p ((at.last_used ++ uses) ++ at.first_used) (page ∷ [])
+      ∙ ap (λ n. n + times p (page ∷ [])) (times-three p at.last_used uses at.first_used) in
+      let stay : (others : List ℕ) → ((p : ℕ) → times p at.here_used + times p others ≤ times p (under ++ page ∷ [])) → SameOn pages news others =
+      λ others parts. stays_on pages news free now at.here_used uses others (under ++ page ∷ []) moves apart parts in
+      let same_first = stay at.first_used
+      (λ p. in_first (times p (under ++ page ∷ [])) (times p at.last_used) (times p at.here_used) (times p at.first_used) (times p (page ∷ [])) (total p)) in
+      let same_last = stay at.last_used
+      (λ p. in_last (times p (under ++ page ∷ [])) (times p at.last_used) (times p at.here_used) (times p at.first_used) (times p (page ∷ [])) (total p)) in
+      let same_page = stay (page ∷ [])
+      (λ p. in_page (times p (under ++ page ∷ [])) (times p at.last_used) (times p at.here_used) (times p at.first_used) (times p (page ∷ [])) (total p)) in
+      record {
+        uses = (at.last_used ++ uses) ++ at.first_used;
+        row = place_back (Subtree news (suc h) false) before others behind at.first all at.last at.first_used uses at.last_used
+            (rows_stay h moves.size before at.first at.first_used same_first at.row_before) row
+            (rows_stay h moves.size behind at.last at.last_used same_last at.row_behind);
+        moves = moves_among pages news free now at.here_used uses (under ++ page ∷ []) (((at.last_used ++ uses) ++ at.first_used) ++ page ∷ [])
+            (λ p. times p at.last_used + times p at.first_used + times p (page ∷ []))
+            (λ p. order (times p (under ++ page ∷ [])) (times p at.last_used) (times p at.here_used) (times p at.first_used) (times p (page ∷ [])) (total p))
+            (λ p. order (times p (((at.last_used ++ uses) ++ at.first_used) ++ page ∷ [])) (times p at.last_used) (times p uses)
+            (times p at.first_used) (times p (page ∷ [])) (total_now p)) moves;
+        page_stays = same_page page (self page);
+      }
+    where
+      in_first : (u l h f p : ℕ) → u ≡ l + h + f + p → h + f ≤ u
+      in_first u l h f p e = omega arith
 
-    in_page : (u l h f p : ℕ) → u ≡ l + h + f + p → h + p ≤ u
-    in_page u l h f p e = omega arith
+      in_last : (u l h f p : ℕ) → u ≡ l + h + f + p → h + l ≤ u
+      in_last u l h f p e = omega arith
 
-    order : (u l h f p : ℕ) → u ≡ l + h + f + p → u ≡ l + f + p + h
-    order u l h f p e = omega arith
+      in_page : (u l h f p : ℕ) → u ≡ l + h + f + p → h + p ≤ u
+      in_page u l h f p e = omega arith
 
-    self : (p : ℕ) → is_in p (p ∷ []) ≡ true
-    self p = grind arith
+      order : (u l h f p : ℕ) → u ≡ l + h + f + p → u ≡ l + f + p + h
+      order u l h f p e = omega arith
 
--- The page is as it was, and so a subtree whose children have become others.
-pub parent_stays : (pages news : List (List ℕ)) (free now : ℕ → Bool) (h page : ℕ) (is_root : Bool) (b : Bounds) (inner : Inner)
-    (under : List ℕ) (all : List Record)
-    → inner_of (length pages) (slice_index_or pages page []) ≡ Some inner → inner.height ≡ suc (suc h)
-    → (is_root || nat_le 127 (length inner.children)) ≡ true → are_within b inner.keys ≡ true
-    → RowMoved pages news free now h page (bounded inner.children inner.keys b) all under
-    → Becomes pages news free now page (suc (suc h)) is_root b (under ++ page ∷ []) all
-parent_stays pages news free now h page is_root b inner under all is height enough within moved = record {
-  uses = moved.uses ++ page ∷ [];
-  subtree = record {
-    inner = inner;
-    page = ap (λ n. inner_of n (slice_index_or news page [])) moved.moves.size ∙ ap (inner_of (length pages)) moved.page_stays ∙ is;
-    is_height = height;
-    enough = enough;
-    within = within;
-    under = moved.uses;
-    children = moved.row;
-    is_used = refl;
-  };
-  moves = moved.moves;
-}
+      self : (p : ℕ) → is_in p (p ∷ []) ≡ true
+      self p = grind arith
+
+  -- The page is as it was, and so a subtree whose children have become others.
+  pub parent_stays : (free now : ℕ → Bool) (h page : ℕ) (is_root : Bool) (b : Bounds) (inner : Inner) (under : List ℕ) (all : List Record)
+      → inner_of (length pages) (slice_index_or pages page []) ≡ Some inner → inner.height ≡ suc (suc h)
+      → (is_root || nat_le 127 (length inner.children)) ≡ true → are_within b inner.keys ≡ true
+      → RowMoved pages news free now h page (bounded inner.children inner.keys b) all under
+      → Becomes pages news free now page (suc (suc h)) is_root b (under ++ page ∷ []) all
+  parent_stays free now h page is_root b inner under all is height enough within moved = record {
+    uses = moved.uses ++ page ∷ [];
+    subtree = record {
+      inner = inner;
+      page = ap (λ n. inner_of n (slice_index_or news page [])) moved.moves.size ∙ ap (inner_of (length pages)) moved.page_stays ∙ is;
+      is_height = height;
+      enough = enough;
+      within = within;
+      under = moved.uses;
+      children = moved.row;
+      is_used = refl;
+    };
+    moves = moved.moves;
+  }
 
 pub page_in : (p : ℕ) (under : List ℕ) → 1 ≤ times p (under ++ p ∷ [])
 page_in p under = some (times p (under ++ p ∷ [])) (times p under) (times p (p ∷ [])) (times-append p under (p ∷ [])) (times_here p [])
@@ -120,7 +119,8 @@ page_in p under = some (times p (under ++ p ∷ [])) (times p under) (times p (p
     some t u m e f = omega arith
 
 -- writing a page leaves those that are used apart from it
-pub written_same : (pages : List (List ℕ)) (page : ℕ) (bytes : List ℕ) (used : List ℕ) → times page used ≡ 0 → SameOn pages (slice_set pages page bytes) used
+pub written_same : (pages : List (List ℕ)) (page : ℕ) (bytes : List ℕ) (used : List ℕ) → times page used ≡ 0
+    → SameOn pages (slice_set pages page bytes) used
 written_same pages page bytes used none p inside =
     get_or-set_other pages page p bytes [] (λ e. nothing (times page used) (subst (λ q. 1 ≤ times q used) e (in_times p used inside)) none)
   where
@@ -163,12 +163,11 @@ parent_written pages free h page is_root b inner bytes under all inside is heigh
 }
 
 -- an edit, and then one by which the subtree becomes what it is
-pub becomes_then : (pages mid news : List (List ℕ)) (free between now : ℕ → Bool) (page height : ℕ) (is_root : Bool) (b : Bounds)
-    (used more : List ℕ) (all : List Record)
-    → Moves pages mid free between used more → Becomes mid news between now page height is_root b more all
+pub becomes_then : {pages mid news : List (List ℕ)} {free between now : ℕ → Bool} {page height : ℕ} {is_root : Bool} {b : Bounds} {used more : List ℕ}
+    {all : List Record} → Moves pages mid free between used more → Becomes mid news between now page height is_root b more all
     → Becomes pages news free now page height is_root b used all
-becomes_then pages mid news free between now page height is_root b used more all m o = record {
+becomes_then m o = record {
   uses = o.uses;
   subtree = o.subtree;
-  moves = moves_then pages mid news free between now used more o.uses m o.moves;
+  moves = moves_then m o.moves;
 }

@@ -55,7 +55,8 @@ nearer p q (suc n) (x ∷ xs) ne h = by_test (x == p) refl (nearer p q n xs ne)
     by_test false e f = either_way (x == q) (is_in q (take n xs)) (is_in q (take n (but p xs))) h f
 
 -- a page of the first comes to the front, and the others stay among these
-pub stays : (p q n : ℕ) (xs : List ℕ) → q ≢ p → is_in p (take (suc n) xs) ≡ true → is_in q (take (suc n) xs) ≡ true → is_in q (take n (but p xs)) ≡ true
+pub stays : (p q n : ℕ) (xs : List ℕ) → q ≢ p → is_in p (take (suc n) xs) ≡ true → is_in q (take (suc n) xs) ≡ true
+    → is_in q (take n (but p xs)) ≡ true
 stays p q n [] ne hp hq = cc
 stays p q zero (x ∷ xs) ne hp hq = by_test (x == p) refl
   where
@@ -170,15 +171,6 @@ one_turn ps page (Some old) None e t = t
 one_turn ps page None (Some new) e t = t
 one_turn ps page None None e t = t
 
-pub more_turns : (ps qs rest : List ℕ) (a b c : Option (List ℕ)) → ps ≡ qs ++ rest → Goes (TouchesEach qs) a b → Goes (TouchesEach rest) b c
-    → Goes (TouchesEach ps) a c
-more_turns ps qs rest (Some a) (Some b) (Some c) e s t = subst (λ l. TouchesEach l a c) (sym e) (turns_append qs rest a b c s t)
-more_turns ps qs rest (Some a) (Some b) None e s t = t
-more_turns ps qs rest (Some a) None c e s t = absurd s
-more_turns ps qs rest None (Some b) c e s t = absurd s
-more_turns ps qs rest None None (Some c) e s t = t
-more_turns ps qs rest None None None e s t = t
-
 -- the device below is not read where the pages are among the first
 abbrev pub Free : List ℕ → Option (List ℕ) → Option ℕ → Option ℕ → Type 0
 Free ps held old new = IfSome held (λ first. AreAmongFirst ps first → Goes (λ before now. now ≤ before) old new)
@@ -206,11 +198,20 @@ part_free ps qs rest None a b e f = f
 part_free ps qs rest (Some held) a b e f = λ h.
     f (record { each = part_first qs rest held (subst (λ l. all_first l held ≡ true) e h.each) })
 
-pub more_free : (ps qs rest : List ℕ) (held now : Option (List ℕ)) (a b c : Option ℕ) → ps ≡ qs ++ rest → Goes (TouchesEach qs) held now
-    → Free qs held a b → Free rest now b c → Free ps held a c
-more_free ps qs rest None None a b c e t f g = f
-more_free ps qs rest None (Some now) a b c e t f g = absurd t
-more_free ps qs rest (Some held) None a b c e t f g = absurd t
-more_free ps qs rest (Some held) (Some now) a b c e t f g = λ h.
-    let all = subst (λ l. all_first l held ≡ true) e h.each in
-    no_more a b c (f (record { each = part_first qs rest held all })) (g (record { each = rest_first qs rest held now t all }))
+module _ (ps qs rest : List ℕ) where
+  pub more_turns : (a b c : Option (List ℕ)) → ps ≡ qs ++ rest → Goes (TouchesEach qs) a b → Goes (TouchesEach rest) b c → Goes (TouchesEach ps) a c
+  more_turns (Some a) (Some b) (Some c) e s t = subst (λ l. TouchesEach l a c) (sym e) (turns_append qs rest a b c s t)
+  more_turns (Some a) (Some b) None e s t = t
+  more_turns (Some a) None c e s t = absurd s
+  more_turns None (Some b) c e s t = absurd s
+  more_turns None None (Some c) e s t = t
+  more_turns None None None e s t = t
+
+  pub more_free : (held now : Option (List ℕ)) (a b c : Option ℕ) → ps ≡ qs ++ rest → Goes (TouchesEach qs) held now → Free qs held a b
+      → Free rest now b c → Free ps held a c
+  more_free None None a b c e t f g = f
+  more_free None (Some now) a b c e t f g = absurd t
+  more_free (Some held) None a b c e t f g = absurd t
+  more_free (Some held) (Some now) a b c e t f g = λ h.
+      let all = subst (λ l. all_first l held ≡ true) e h.each in
+      no_more a b c (f (record { each = part_first qs rest held all })) (g (record { each = rest_first qs rest held now t all }))

@@ -38,16 +38,28 @@ used_account free used page h = at_least (cond {A = ℕ} (free page) 1 0) (times
     at_least : (a b : ℕ) → 1 ≤ b → 1 ≤ a + b
     at_least a b h = omega arith
 
-taken_step : (free now : ℕ → Bool) (page p : ℕ) (used : List ℕ) (b : Bool) → FreesOnly page false free now → free page ≡ true → (page == p) ≡ b
-    → cond (now p) 1 0 + (cond b 1 0 + times p used) ≡ account free used p
-taken_step free now page p used true f t e =
-    let same : page ≡ p = equal_pages page p e in
-    let now_not : cond {A = ℕ} (now p) 1 0 ≡ 0 = none_if (now p) (ap now (sym same) ∙ f.here) in
-    let was : cond {A = ℕ} (free p) 1 0 ≡ 1 = one_if (free p) (ap free (sym same) ∙ t) in
-    omega arith
-taken_step free now page p used false f t e =
-    let still : cond {A = ℕ} (now p) 1 0 ≡ cond {A = ℕ} (free p) 1 0 = ap (λ b. cond {A = ℕ} b 1 0) (f.others p (other_pages page p e)) in
-    omega arith
+module _ (free now : ℕ → Bool) (page p : ℕ) (used : List ℕ) where
+  taken_step : (b : Bool) → FreesOnly page false free now → free page ≡ true → (page == p) ≡ b
+      → cond (now p) 1 0 + (cond b 1 0 + times p used) ≡ account free used p
+  taken_step true f t e =
+      let same : page ≡ p = equal_pages page p e in
+      let now_not : cond {A = ℕ} (now p) 1 0 ≡ 0 = none_if (now p) (ap now (sym same) ∙ f.here) in
+      let was : cond {A = ℕ} (free p) 1 0 ≡ 1 = one_if (free p) (ap free (sym same) ∙ t) in
+      omega arith
+  taken_step false f t e =
+      let still : cond {A = ℕ} (now p) 1 0 ≡ cond {A = ℕ} (free p) 1 0 = ap (λ b. cond {A = ℕ} b 1 0) (f.others p (other_pages page p e)) in
+      omega arith
+
+  given_step : (b : Bool) → FreesOnly page true free now → free page ≡ false → (page == p) ≡ b
+      → account now used p ≡ cond (free p) 1 0 + (cond b 1 0 + times p used)
+  given_step true f t e =
+      let same : page ≡ p = equal_pages page p e in
+      let is_now : cond {A = ℕ} (now p) 1 0 ≡ 1 = one_if (now p) (ap now (sym same) ∙ f.here) in
+      let was_not : cond {A = ℕ} (free p) 1 0 ≡ 0 = none_if (free p) (ap free (sym same) ∙ t) in
+      omega arith
+  given_step false f t e =
+      let still : cond {A = ℕ} (now p) 1 0 ≡ cond {A = ℕ} (free p) 1 0 = ap (λ b. cond {A = ℕ} b 1 0) (f.others p (other_pages page p e)) in
+      omega arith
 
 -- a free page is taken, and counts as used
 pub moves_taken : (pages : List (List ℕ)) (free now : ℕ → Bool) (used : List ℕ) (page : ℕ) → free page ≡ true → FreesOnly page false free now
@@ -58,67 +70,40 @@ moves_taken pages free now used page t f = record {
   balance = λ p. taken_step free now page p used (page == p) f t refl;
 }
 
-given_step : (free now : ℕ → Bool) (page p : ℕ) (used : List ℕ) (b : Bool) → FreesOnly page true free now → free page ≡ false → (page == p) ≡ b
-    → account now used p ≡ cond (free p) 1 0 + (cond b 1 0 + times p used)
-given_step free now page p used true f t e =
-    let same : page ≡ p = equal_pages page p e in
-    let is_now : cond {A = ℕ} (now p) 1 0 ≡ 1 = one_if (now p) (ap now (sym same) ∙ f.here) in
-    let was_not : cond {A = ℕ} (free p) 1 0 ≡ 0 = none_if (free p) (ap free (sym same) ∙ t) in
-    omega arith
-given_step free now page p used false f t e =
-    let still : cond {A = ℕ} (now p) 1 0 ≡ cond {A = ℕ} (free p) 1 0 = ap (λ b. cond {A = ℕ} b 1 0) (f.others p (other_pages page p e)) in
-    omega arith
-
--- a used page is given back, and may hold anything
-pub moves_given : (pages news : List (List ℕ)) (free now : ℕ → Bool) (used : List ℕ) (page : ℕ) → length news ≡ length pages
-    → ((q : ℕ) → q ≢ page → slice_index_or news q [] ≡ slice_index_or pages q [])
-    → free page ≡ false → FreesOnly page true free now → Moves pages news free now (page ∷ used) used
-moves_given pages news free now used page size same t f = record {
-  size = size;
-  others =
-      λ p none. same p (is_other free (page ∷ used) p page
-      (used_account free (page ∷ used) page (some (times page used) (times page (page ∷ used)) (times_here page used))) none);
-  balance = λ p. given_step free now page p used (page == p) f t refl;
-}
-  where
-    some : (n m : ℕ) → m ≡ 1 + n → 1 ≤ m
-    some n m e = omega arith
-
 -- one edit behind the other
-pub moves_then : (pages mid news : List (List ℕ)) (free between now : ℕ → Bool) (used more uses : List ℕ) → Moves pages mid free between used more
+pub moves_then : {pages mid news : List (List ℕ)} {free between now : ℕ → Bool} {used more uses : List ℕ} → Moves pages mid free between used more
     → Moves mid news between now more uses → Moves pages news free now used uses
-moves_then pages mid news free between now used more uses a b = record {
+moves_then a b = record {
   size = b.size ∙ a.size;
   others = λ p none. b.others p (a.balance p ∙ none) ∙ a.others p none;
   balance = λ p. b.balance p ∙ a.balance p;
 }
 
--- The same edit among further used pages: each page is used as often more often, before and after.
-pub moves_among : (pages news : List (List ℕ)) (free now : ℕ → Bool) (used uses all alls : List ℕ) (more : ℕ → ℕ)
-    → ((p : ℕ) → times p all ≡ more p + times p used) → ((p : ℕ) → times p alls ≡ more p + times p uses)
-    → Moves pages news free now used uses → Moves pages news free now all alls
-moves_among pages news free now used uses all alls more e f m = record {
-  size = m.size;
-  others = λ p none. m.others p (fewer (cond {A = ℕ} (free p) 1 0) (times p used) (times p all) (more p) (e p) none);
-  balance = λ p. summed (cond {A = ℕ} (now p) 1 0) (cond {A = ℕ} (free p) 1 0) (times p uses) (times p used) (times p alls) (times p all) (more p)
-      (f p) (e p) (m.balance p);
-}
-  where
-    fewer : (c u a m : ℕ) → a ≡ m + u → c + a ≡ 0 → c + u ≡ 0
-    fewer c u a m e h = omega arith
+module _ (pages news : List (List ℕ)) (free now : ℕ → Bool) (used uses all alls : List ℕ) where
+  -- The same edit among further used pages: each page is used as often more often, before and after.
+  pub moves_among : (more : ℕ → ℕ) → ((p : ℕ) → times p all ≡ more p + times p used) → ((p : ℕ) → times p alls ≡ more p + times p uses)
+      → Moves pages news free now used uses → Moves pages news free now all alls
+  moves_among more e f m = record {
+    size = m.size;
+    others = λ p none. m.others p (fewer (cond {A = ℕ} (free p) 1 0) (times p used) (times p all) (more p) (e p) none);
+    balance = λ p. summed (cond {A = ℕ} (now p) 1 0) (cond {A = ℕ} (free p) 1 0) (times p uses) (times p used) (times p alls) (times p all) (more p)
+        (f p) (e p) (m.balance p);
+  }
+    where
+      fewer : (c u a m : ℕ) → a ≡ m + u → c + a ≡ 0 → c + u ≡ 0
+      fewer c u a m e h = omega arith
 
-    summed : (n c v u b a m : ℕ) → b ≡ m + v → a ≡ m + u → n + v ≡ c + u → n + b ≡ c + a
-    summed n c v u b a m e f h = omega arith
+      summed : (n c v u b a m : ℕ) → b ≡ m + v → a ≡ m + u → n + v ≡ c + u → n + b ≡ c + a
+      summed n c v u b a m e f h = omega arith
 
--- the used pages in another order
-pub moves_order : (pages news : List (List ℕ)) (free now : ℕ → Bool) (used uses all alls : List ℕ) → ((p : ℕ) → times p all ≡ times p used)
-    → ((p : ℕ) → times p alls ≡ times p uses)
-    → Moves pages news free now used uses → Moves pages news free now all alls
-moves_order pages news free now used uses all alls e f m =
-    moves_among pages news free now used uses all alls (λ p. 0) (λ p. e p ∙ nothing (times p used)) (λ p. f p ∙ nothing (times p uses)) m
-  where
-    nothing : (n : ℕ) → n ≡ 0 + n
-    nothing n = omega arith
+  -- the used pages in another order
+  pub moves_order : ((p : ℕ) → times p all ≡ times p used) → ((p : ℕ) → times p alls ≡ times p uses) → Moves pages news free now used uses
+      → Moves pages news free now all alls
+  moves_order e f m =
+      moves_among (λ p. 0) (λ p. e p ∙ nothing (times p used)) (λ p. f p ∙ nothing (times p uses)) m
+    where
+      nothing : (n : ℕ) → n ≡ 0 + n
+      nothing n = omega arith
 
 -- behind an edit no page is used twice or free either
 pub apart_then : (pages news : List (List ℕ)) (free now : ℕ → Bool) (used uses : List ℕ) → Moves pages news free now used uses
@@ -132,14 +117,31 @@ apart_some free here used inside apart p = less (cond {A = ℕ} (free p) 1 0) (t
     less : (c h u : ℕ) → h ≤ u → c + u ≤ 1 → c + h ≤ 1
     less c h u a b = omega arith
 
--- an edit of some of the used pages leaves the others as they are
-pub stays_on : (pages news : List (List ℕ)) (free now : ℕ → Bool) (here uses others used : List ℕ) → Moves pages news free now here uses → AreApart free used
-    → ((p : ℕ) → times p here + times p others ≤ times p used) → SameOn pages news others
-stays_on pages news free now here uses others used moves apart parts p inside =
-    moves.others p (nothing (cond {A = ℕ} (free p) 1 0) (times p here) (times p others) (times p used) (in_times p others inside) (apart p) (parts p))
-  where
-    nothing : (f h o u : ℕ) → 1 ≤ o → f + u ≤ 1 → h + o ≤ u → f + h ≡ 0
-    nothing f h o u a b c = omega arith
+module _ (pages news : List (List ℕ)) (free now : ℕ → Bool) where
+  -- a used page is given back, and may hold anything
+  pub moves_given : (used : List ℕ) (page : ℕ) → length news ≡ length pages
+      → ((q : ℕ) → q ≢ page → slice_index_or news q [] ≡ slice_index_or pages q []) → free page ≡ false → FreesOnly page true free now
+      → Moves pages news free now (page ∷ used) used
+  moves_given used page size same t f = record {
+    size = size;
+    others =
+        λ p none. same p (is_other free (page ∷ used) p page
+        (used_account free (page ∷ used) page (some (times page used) (times page (page ∷ used)) (times_here page used))) none);
+    balance = λ p. given_step free now page p used (page == p) f t refl;
+  }
+    where
+      some : (n m : ℕ) → m ≡ 1 + n → 1 ≤ m
+      some n m e = omega arith
+
+  -- an edit of some of the used pages leaves the others as they are
+  pub stays_on : (here uses others used : List ℕ) → Moves pages news free now here uses → AreApart free used
+      → ((p : ℕ) → times p here + times p others ≤ times p used) → SameOn pages news others
+  stays_on here uses others used moves apart parts p inside =
+      moves.others p
+      (nothing (cond {A = ℕ} (free p) 1 0) (times p here) (times p others) (times p used) (in_times p others inside) (apart p) (parts p))
+    where
+      nothing : (f h o u : ℕ) → 1 ≤ o → f + u ≤ 1 → h + o ≤ u → f + h ≡ 0
+      nothing f h o u a b c = omega arith
 
 -- a page that is used is not free, and one that is free is not used
 pub used_not_free : (free : ℕ → Bool) (used : List ℕ) (page : ℕ) → AreApart free used → 1 ≤ times page used → free page ≡ false

@@ -45,17 +45,6 @@ pub record IsJoined (pages news : List (List ℕ)) (free now : ℕ → Bool) (le
   pub here : slice_index_or news left [] ≡ bytes
   pub moves : Moves pages news free now (right ∷ left ∷ []) (left ∷ [])
 
-pub is_joined : (pages news : List (List ℕ)) (free now : ℕ → Bool) (left right : ℕ) (bytes : List ℕ) → AreApart free (right ∷ left ∷ [])
-    → left < length pages → HasGiven right (slice_set pages left bytes) news → FreesOnly right true free now
-    → IsJoined pages news free now left right bytes
-is_joined pages news free now left right bytes apart inside given frees = record {
-  size = given.size ∙ length-set pages left bytes;
-  here = given.others left (two_apart free left right apart) ∙ get_or-set_same pages left bytes [] inside;
-  moves = moves_then pages (slice_set pages left bytes) news free free now (right ∷ left ∷ []) (right ∷ left ∷ []) (left ∷ [])
-      (moves_written pages free (right ∷ left ∷ []) left bytes (used_account free (right ∷ left ∷ []) left (left_used left right)))
-      (moves_given (slice_set pages left bytes) news free now (left ∷ []) right given.size given.others (right_taken free left right apart) frees);
-}
-
 -- what both pages are given
 pub record AreWritten (pages news : List (List ℕ)) (free : ℕ → Bool) (left right : ℕ) (bytes others : List ℕ) : Type 0 where
   pub size : length news ≡ length pages
@@ -63,35 +52,44 @@ pub record AreWritten (pages news : List (List ℕ)) (free : ℕ → Bool) (left
   pub there : slice_index_or news right [] ≡ others
   pub moves : Moves pages news free free (right ∷ left ∷ []) (right ∷ left ∷ [])
 
-pub are_written : (pages : List (List ℕ)) (free : ℕ → Bool) (left right : ℕ) (bytes others : List ℕ) → AreApart free (right ∷ left ∷ [])
-    → left < length pages → right < length pages
-    → AreWritten pages (slice_set (slice_set pages left bytes) right others) free left right bytes others
-are_written pages free left right bytes others apart inside also =
-    let mid = slice_set pages left bytes in
-    let long : length mid ≡ length pages = length-set pages left bytes in
-    record {
-      size = length-set mid right others ∙ long;
-      here = get_or-set_other mid right left others [] (two_apart free left right apart) ∙ get_or-set_same pages left bytes [] inside;
-      there = get_or-set_same mid right others [] (subst (λ n. right < n) (sym long) also);
-      moves = moves_then pages mid (slice_set mid right others) free free free (right ∷ left ∷ []) (right ∷ left ∷ []) (right ∷ left ∷ [])
-          (moves_written pages free (right ∷ left ∷ []) left bytes (used_account free (right ∷ left ∷ []) left (left_used left right)))
-          (moves_written mid free (right ∷ left ∷ []) right others (used_account free (right ∷ left ∷ []) right (right_used left right)));
-    }
+module _ (pages : List (List ℕ)) (free : ℕ → Bool) (left right : ℕ) (bytes : List ℕ) where
+  pub is_joined : (news : List (List ℕ)) (now : ℕ → Bool) → AreApart free (right ∷ left ∷ []) → left < length pages
+      → HasGiven right (slice_set pages left bytes) news → FreesOnly right true free now → IsJoined pages news free now left right bytes
+  is_joined news now apart inside given frees = record {
+    size = given.size ∙ length-set pages left bytes;
+    here = given.others left (two_apart free left right apart) ∙ get_or-set_same pages left bytes [] inside;
+    moves = moves_then
+        (moves_written pages free (right ∷ left ∷ []) left bytes (used_account free (right ∷ left ∷ []) left (left_used left right)))
+        (moves_given (slice_set pages left bytes) news free now (left ∷ []) right given.size given.others (right_taken free left right apart) frees);
+  }
 
--- the pages below the two stay as they are
-pub under_stays : (pages news : List (List ℕ)) (free now : ℕ → Bool) (left right : ℕ) (uses under used : List ℕ)
-    → ArePair left right under used → AreApart free used
-    → Moves pages news free now (right ∷ left ∷ []) uses → SameOn pages news under
-under_stays pages news free now left right uses under used pair apart moves =
-    stays_on pages news free now (right ∷ left ∷ []) uses under used moves apart
-    (λ p. parts (times p used) (times p under) (times p (right ∷ left ∷ [])) (pair.count p))
-  where
-    parts : (u n t : ℕ) → u ≡ n + t → t + n ≤ u
-    parts u n t e = omega arith
+  pub are_written : (others : List ℕ) → AreApart free (right ∷ left ∷ []) → left < length pages → right < length pages
+      → AreWritten pages (slice_set (slice_set pages left bytes) right others) free left right bytes others
+  are_written others apart inside also =
+      let mid = slice_set pages left bytes in
+      let long : length mid ≡ length pages = length-set pages left bytes in
+      record {
+        size = length-set mid right others ∙ long;
+        here = get_or-set_other mid right left others [] (two_apart free left right apart) ∙ get_or-set_same pages left bytes [] inside;
+        there = get_or-set_same mid right others [] (subst (λ n. right < n) (sym long) also);
+        moves = moves_then
+            (moves_written pages free (right ∷ left ∷ []) left bytes (used_account free (right ∷ left ∷ []) left (left_used left right)))
+            (moves_written mid free (right ∷ left ∷ []) right others (used_account free (right ∷ left ∷ []) right (right_used left right)));
+      }
 
--- and count as before
-pub pair_moves : (pages news : List (List ℕ)) (free now : ℕ → Bool) (left right : ℕ) (here under used uses : List ℕ) → ArePair left right under used
-    → ((p : ℕ) → times p uses ≡ times p under + times p here)
-    → Moves pages news free now (right ∷ left ∷ []) here → Moves pages news free now used uses
-pair_moves pages news free now left right here under used uses pair also moves =
-    moves_among pages news free now (right ∷ left ∷ []) here used uses (λ p. times p under) pair.count also moves
+module _ (pages news : List (List ℕ)) (free now : ℕ → Bool) (left right : ℕ) where
+  -- the pages below the two stay as they are
+  pub under_stays : (uses under used : List ℕ) → ArePair left right under used → AreApart free used
+      → Moves pages news free now (right ∷ left ∷ []) uses → SameOn pages news under
+  under_stays uses under used pair apart moves =
+      stays_on pages news free now (right ∷ left ∷ []) uses under used moves apart
+      (λ p. parts (times p used) (times p under) (times p (right ∷ left ∷ [])) (pair.count p))
+    where
+      parts : (u n t : ℕ) → u ≡ n + t → t + n ≤ u
+      parts u n t e = omega arith
+
+  -- and count as before
+  pub pair_moves : (here under used uses : List ℕ) → ArePair left right under used → ((p : ℕ) → times p uses ≡ times p under + times p here)
+      → Moves pages news free now (right ∷ left ∷ []) here → Moves pages news free now used uses
+  pair_moves here under used uses pair also moves =
+      moves_among pages news free now (right ∷ left ∷ []) here used uses (λ p. times p under) pair.count also moves

@@ -32,41 +32,40 @@ pub record IsBoth (pages news : List (List ℕ)) (free now : ℕ → Bool) (used
   pub moves : Moves pages news free now used (new ∷ used)
   pub unused : times new used ≡ 0
 
-pub both_written : (pages : List (List ℕ)) (free now : ℕ → Bool) (used : List ℕ) (page new : ℕ) (left right : List ℕ) → AreApart free used
-    → 1 ≤ times page used → page < length pages → new < length pages
-    → free new ≡ true → FreesOnly new false free now → IsBoth pages (slice_set (slice_set pages page left) new right) free now used page new left right
-both_written pages free now used page new left right apart some inside inside_new t f =
-    let one = slice_set pages page left in
-    let unused = free_not_used free used new apart t in
-    let ne : page ≢ new = λ e. nothing (times new used) (subst (λ p. 1 ≤ times p used) e some) unused in
-    let lt : new < length one = subst (λ n. new < n) (sym (length-set pages page left)) inside_new in
-    let taken = moves_taken pages free now used new t f in
-    let here : 1 ≤ times page (new ∷ used) = subst (λ n. 1 ≤ n) (sym (times_other page new used ne)) some in
-    let there : 1 ≤ times new (new ∷ used) = first (times new (new ∷ used)) (times new used) (times_here new used) in
-    record {
-      is_left = get_or-set_other one new page right [] ne ∙ get_or-set_same pages page left [] inside;
-      is_right = get_or-set_same one new right [] lt;
-      others = λ q p n. get_or-set_other one new q right [] n ∙ get_or-set_other pages page q left [] p;
-      moves = moves_then pages one (slice_set one new right) free now now used (new ∷ used) (new ∷ used)
-          (moves_then pages pages one free now now used (new ∷ used) (new ∷ used) taken
-          (moves_written pages now (new ∷ used) page left (used_account now (new ∷ used) page here)))
-          (moves_written one now (new ∷ used) new right (used_account now (new ∷ used) new there));
-      unused = unused;
-    }
-  where
-    nothing : (n : ℕ) → 1 ≤ n → n ≡ 0 → ⊥
-    nothing n h g = omega arith
+module _ (pages : List (List ℕ)) (free now : ℕ → Bool) (used : List ℕ) (page new : ℕ) (left right : List ℕ) where
+  pub both_written : AreApart free used → 1 ≤ times page used → page < length pages → new < length pages → free new ≡ true
+      → FreesOnly new false free now → IsBoth pages (slice_set (slice_set pages page left) new right) free now used page new left right
+  both_written apart some inside inside_new t f =
+      let one = slice_set pages page left in
+      let unused = free_not_used free used new apart t in
+      let ne : page ≢ new = λ e. nothing (times new used) (subst (λ p. 1 ≤ times p used) e some) unused in
+      let lt : new < length one = subst (λ n. new < n) (sym (length-set pages page left)) inside_new in
+      let taken = moves_taken pages free now used new t f in
+      let here : 1 ≤ times page (new ∷ used) = subst (λ n. 1 ≤ n) (sym (times_other page new used ne)) some in
+      let there : 1 ≤ times new (new ∷ used) = first (times new (new ∷ used)) (times new used) (times_here new used) in
+      record {
+        is_left = get_or-set_other one new page right [] ne ∙ get_or-set_same pages page left [] inside;
+        is_right = get_or-set_same one new right [] lt;
+        others = λ q p n. get_or-set_other one new q right [] n ∙ get_or-set_other pages page q left [] p;
+        moves = moves_then
+            (moves_then taken
+            (moves_written pages now (new ∷ used) page left (used_account now (new ∷ used) page here)))
+            (moves_written one now (new ∷ used) new right (used_account now (new ∷ used) new there));
+        unused = unused;
+      }
+    where
+      nothing : (n : ℕ) → 1 ≤ n → n ≡ 0 → ⊥
+      nothing n h g = omega arith
 
-    first : (m n : ℕ) → m ≡ 1 + n → 1 ≤ m
-    first m n e = omega arith
+      first : (m n : ℕ) → m ≡ 1 + n → 1 ≤ m
+      first m n e = omega arith
 
--- pages that are neither of the two stay
-pub both_same : (pages news : List (List ℕ)) (free now : ℕ → Bool) (used : List ℕ) (page new : ℕ) (left right some : List ℕ)
-    → IsBoth pages news free now used page new left right
-    → times page some ≡ 0 → times new some ≡ 0 → SameOn pages news some
-both_same pages news free now used page new left right some both none none_new p inside =
-    both.others p (λ e. nothing (times page some) (subst (λ q. 1 ≤ times q some) e (in_times p some inside)) none)
-    (λ e. nothing (times new some) (subst (λ q. 1 ≤ times q some) e (in_times p some inside)) none_new)
-  where
-    nothing : (n : ℕ) → 1 ≤ n → n ≡ 0 → ⊥
-    nothing n h g = omega arith
+  -- pages that are neither of the two stay
+  pub both_same : (news : List (List ℕ)) (some : List ℕ) → IsBoth pages news free now used page new left right → times page some ≡ 0
+      → times new some ≡ 0 → SameOn pages news some
+  both_same news some both none none_new p inside =
+      both.others p (λ e. nothing (times page some) (subst (λ q. 1 ≤ times q some) e (in_times p some inside)) none)
+      (λ e. nothing (times new some) (subst (λ q. 1 ≤ times q some) e (in_times p some inside)) none_new)
+    where
+      nothing : (n : ℕ) → 1 ≤ n → n ≡ 0 → ⊥
+      nothing n h g = omega arith

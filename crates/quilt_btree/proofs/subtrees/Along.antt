@@ -14,22 +14,21 @@ pub record IsSame (told then_told : Option (List (List ℕ))) (free then_free : 
   pub same_free : then_free ≡ free
   pub same_size : then_size ≡ size
 
-pub can_along : (told then_told : Option (List (List ℕ))) (free then_free : ℕ → Bool) (size then_size page height : ℕ) (is_root : Bool) (b : Bounds)
-    (k : Key) (rs : List Record) (used : List ℕ)
-    → IsSame told then_told free then_free size then_size → CanInsert told free size page height is_root b k rs used
-    → CanInsert then_told then_free then_size page height is_root b k rs used
-can_along told then_told free then_free size then_size page height is_root b k rs used is can =
-    subst (λ t. CanInsert t then_free then_size page height is_root b k rs used) (sym is.same_pages)
-    (subst (λ f. CanInsert told f then_size page height is_root b k rs used) (sym is.same_free)
-    (subst (λ n. CanInsert told free n page height is_root b k rs used) (sym is.same_size) can))
+module _ (told then_told : Option (List (List ℕ))) (free then_free : ℕ → Bool) (size then_size page height : ℕ) (is_root : Bool) (b : Bounds)
+    (rs : List Record) (used : List ℕ) where
+  pub can_along : (k : Key) → IsSame told then_told free then_free size then_size → CanInsert told free size page height is_root b k rs used
+      → CanInsert then_told then_free then_size page height is_root b k rs used
+  can_along k is can =
+      subst (λ t. CanInsert t then_free then_size page height is_root b k rs used) (sym is.same_pages)
+      (subst (λ f. CanInsert told f then_size page height is_root b k rs used) (sym is.same_free)
+      (subst (λ n. CanInsert told free n page height is_root b k rs used) (sym is.same_size) can))
 
-pub did_along : (r : Record) (told then_told now_told : Option (List (List ℕ))) (free then_free now : ℕ → Bool) (size then_size page height : ℕ)
-    (is_root : Bool) (b : Bounds) (rs : List Record) (used : List ℕ) (o : Inserted)
-    → IsSame told then_told free then_free size then_size → DidInsert r then_told now_told then_free now page height is_root b rs used o
-    → DidInsert r told now_told free now page height is_root b rs used o
-did_along r told then_told now_told free then_free now size then_size page height is_root b rs used o is did =
-    subst (λ t. DidInsert r t now_told free now page height is_root b rs used o) is.same_pages
-    (subst (λ f. DidInsert r then_told now_told f now page height is_root b rs used o) is.same_free did)
+  pub did_along : (r : Record) (now_told : Option (List (List ℕ))) (now : ℕ → Bool) (o : Inserted)
+      → IsSame told then_told free then_free size then_size → DidInsert r then_told now_told then_free now page height is_root b rs used o
+      → DidInsert r told now_told free now page height is_root b rs used o
+  did_along r now_told now o is did =
+      subst (λ t. DidInsert r t now_told free now page height is_root b rs used o) is.same_pages
+      (subst (λ f. DidInsert r then_told now_told f now page height is_root b rs used o) is.same_free did)
 
 -- an error behind a call that changed nothing
 pub sound_along : {T : Type 0} (result : Result T Stop) (told then_told : Option (List (List ℕ))) (free then_free : ℕ → Bool)
@@ -41,4 +40,4 @@ pub sound_along : {T : Type 0} (result : Result T Stop) (told then_told : Option
     → CanInsert told free size page height is_root b k rs used → IsSound e)
 sound_along (Ok x) told then_told free then_free size then_size page height k is f = f
 sound_along (Err e) told then_told free then_free size then_size page height k is f =
-    λ is_root b rs used can. f is_root b rs used (can_along told then_told free then_free size then_size page height is_root b k rs used is can)
+    λ is_root b rs used can. f is_root b rs used (can_along told then_told free then_free size then_size page height is_root b rs used k is can)

@@ -1,5 +1,6 @@
 -- The child to which a key leads, and what stands before and behind it.
 use Rattle.std.proofs.Common.{◌≡◌, ℕ, suc, ◌+◌, ◌-◌, ◌<◌, ◌≤◌, Bool, true, false, ◌&&◌, not, List, [], ◌∷◌, ◌++◌, length, map, take, drop, Option, Some, None}
+use Rattle.std.proofs.lemmas.Bool.{and_parts}
 use Rattle.std.proofs.Common.{slice_index, refl, sym, ◌∙◌, ap, subst, arith, take-append-drop, length-take-le, length-drop, drop-cons}
 use Rattle.std.specs.List.{list_all}
 use Rattle.std.specs.Ordering.{is_lt, is_le}
@@ -16,7 +17,6 @@ use Rattle.quilt_btree.proofs.lists.Rising.{all_follow, all_map}
 use Rattle.quilt_btree.proofs.subtrees.Trees.{IsInnerList, subtree_rises, row_rises, ascending_rest, within_rest}
 use Rattle.quilt_btree.proofs.rows.Places.{front, from_keys, head_bounds, tail_places, bounded_at, AtPlace, at_place, IsSide, Rises, front_before, tail_behind}
 use Rattle.quilt_btree.proofs.lists.Lists.{AreBelow, AreAbove, gt_not_le}
-use Rattle.quilt_btree.proofs.subtrees.Walks.{and_parts}
 
 -- the keys behind some of them ascend, and lie within the bounds there
 pub record AreBehind (ka kb : List Key) (b : Bounds) : Type 0 where
@@ -49,20 +49,6 @@ as_long inner i lt n =
     let b = length-take-le i inner.keys (omega arith) in
     a ∙ sym b
 
-pub at_child : (S : Reading) (inner : Inner) (b : Bounds) (i : ℕ) (rs : List Record) (used : List ℕ) → i < length inner.children
-    → length inner.children ≡ length inner.keys + 1
-    → Row S (bounded inner.children inner.keys b) rs used → AtChild S inner b i rs used
-at_child S inner b i rs used lt n row =
-    let ca = take i inner.children in
-    let ka = take i inner.keys in
-    let kb = drop i inner.keys in
-    let c = slice_index inner.children i in
-    let cb = drop (suc i) inner.children in
-    let cut : bounded inner.children inner.keys b ≡ front ca ka b ++ (c, child_bounds inner b i) ∷ tail_places cb kb (from_keys ka b) =
-    ap (λ l. bounded l inner.keys b) (cut_children inner.children i lt) ∙ ap (λ l. bounded (ca ++ c ∷ cb) l b) (sym (take-append-drop i inner.keys))
-    ∙ bounded_at ca c cb ka kb b (as_long inner i lt n) in
-    at_place S (front ca ka b) ((c, child_bounds inner b i) ∷ []) (tail_places cb kb (from_keys ka b)) rs used (subst (λ l. Row S l rs used) cut row)
-
 -- keys up to one
 pub key_side : (k : Key) → IsSide (λ l. is_le (key_cmp l k)) (λ m. is_lt (key_cmp m k))
 key_side k = record {
@@ -88,33 +74,48 @@ behind_many cs ks i n = length-drop (suc i) cs ∙ less (length cs) (length ks) 
     less : (m n i : ℕ) → m ≡ n + 1 → m - suc i ≡ n - i
     less m n i e = omega arith
 
-pub leads_down : (pages : List (List ℕ)) (h : ℕ) (inner : Inner) (bytes : List ℕ) (b : Bounds) (i : ℕ) (k : Key) (rs : List Record) (used : List ℕ)
-    → IsInnerList (length pages) bytes inner → are_within b inner.keys ≡ true → IsPlace inner.keys k i
-    → Row (Subtree pages (suc h) false) (bounded inner.children inner.keys b) rs used → LeadsDown (Subtree pages (suc h) false) inner b i k rs used
-leads_down pages h inner bytes b i k rs used page w p row =
-    let S = Subtree pages (suc h) false in
-    let rises : Rises S = λ c ss u t. subtree_rises pages (suc h) false c ss u t in
-    let lt = place_in inner k i p page.keys in
-    let at = at_child S inner b i rs used lt page.keys row in
-    let ka = take i inner.keys in
-    let kb = drop i inner.keys in
-    let behind = keys_behind ka kb b (subst (λ l. is_ascending l ≡ true) (sym (take-append-drop i inner.keys)) page.ascends)
-    (subst (λ l. are_within b l ≡ true) (sym (take-append-drop i inner.keys)) w) in
-    record {
-      at = at;
-      lower = front_before S rises (λ l. is_le (key_cmp l k)) (λ m. is_lt (key_cmp m k)) (key_side k)
-          (take i inner.children) ka b at.first at.first_used p.before at.row_before;
-      higher = all_follow (λ (r : Record). not (is_le (key_cmp r.key k))) (λ r. is_lt (key_cmp k r.key))
-          (λ r h. not_le r.key k (turned (is_le (key_cmp r.key k)) h)) at.last
-          (tail_behind S rises (λ l. is_le (key_cmp l k)) (λ m. is_lt (key_cmp m k)) (key_side k) (drop (suc i) inner.children) kb
-          (from_keys ka b) at.last at.last_used
-          (behind_many inner.children inner.keys i page.keys) behind.ascend behind.within
-          (all_follow (λ l. is_lt (key_cmp k l)) (λ l. not (is_le (key_cmp l k))) (λ l g. ap not (gt_not_le k l g)) kb p.behind) at.row_behind);
-    }
-  where
-    turned : (x : Bool) → not x ≡ true → x ≡ false
-    turned true h = cc
-    turned false h = refl
+module _ (inner : Inner) (b : Bounds) (i : ℕ) (rs : List Record) (used : List ℕ) where
+  pub at_child : (S : Reading) → i < length inner.children → length inner.children ≡ length inner.keys + 1
+      → Row S (bounded inner.children inner.keys b) rs used → AtChild S inner b i rs used
+  at_child S lt n row =
+      let ca = take i inner.children in
+      let ka = take i inner.keys in
+      let kb = drop i inner.keys in
+      let c = slice_index inner.children i in
+      let cb = drop (suc i) inner.children in
+      let cut : bounded inner.children inner.keys b ≡ front ca ka b ++ (c, child_bounds inner b i) ∷ tail_places cb kb (from_keys ka b) =
+      ap (λ l. bounded l inner.keys b) (cut_children inner.children i lt) ∙ ap (λ l. bounded (ca ++ c ∷ cb) l b) (sym (take-append-drop i inner.keys))
+      ∙ bounded_at ca c cb ka kb b (as_long inner i lt n) in
+      at_place S (front ca ka b) ((c, child_bounds inner b i) ∷ []) (tail_places cb kb (from_keys ka b)) rs used
+      (subst (λ l. Row S l rs used) cut row)
+
+  pub leads_down : (pages : List (List ℕ)) (h : ℕ) (bytes : List ℕ) (k : Key) → IsInnerList (length pages) bytes inner
+      → are_within b inner.keys ≡ true → IsPlace inner.keys k i → Row (Subtree pages (suc h) false) (bounded inner.children inner.keys b) rs used
+      → LeadsDown (Subtree pages (suc h) false) inner b i k rs used
+  leads_down pages h bytes k page w p row =
+      let S = Subtree pages (suc h) false in
+      let rises : Rises S = λ c ss u t. subtree_rises pages (suc h) false c ss u t in
+      let lt = place_in inner k i p page.keys in
+      let at = at_child S lt page.keys row in
+      let ka = take i inner.keys in
+      let kb = drop i inner.keys in
+      let behind = keys_behind ka kb b (subst (λ l. is_ascending l ≡ true) (sym (take-append-drop i inner.keys)) page.ascends)
+      (subst (λ l. are_within b l ≡ true) (sym (take-append-drop i inner.keys)) w) in
+      record {
+        at = at;
+        lower = front_before S rises (λ l. is_le (key_cmp l k)) (λ m. is_lt (key_cmp m k)) (key_side k)
+            (take i inner.children) ka b at.first at.first_used p.before at.row_before;
+        higher = all_follow (λ (r : Record). not (is_le (key_cmp r.key k))) (λ r. is_lt (key_cmp k r.key))
+            (λ r h. not_le r.key k (turned (is_le (key_cmp r.key k)) h)) at.last
+            (tail_behind S rises (λ l. is_le (key_cmp l k)) (λ m. is_lt (key_cmp m k)) (key_side k) (drop (suc i) inner.children) kb
+            (from_keys ka b) at.last at.last_used
+            (behind_many inner.children inner.keys i page.keys) behind.ascend behind.within
+            (all_follow (λ l. is_lt (key_cmp k l)) (λ l. not (is_le (key_cmp l k))) (λ l g. ap not (gt_not_le k l g)) kb p.behind) at.row_behind);
+      }
+    where
+      turned : (x : Bool) → not x ≡ true → x ≡ false
+      turned true h = cc
+      turned false h = refl
 
 -- the records behind the first child are from its upper bound on
 pub tail_past : (S : Reading) → Rises S → (cs : List ℕ) (ks : List Key) (b : Bounds) (rs : List Record) (used : List ℕ)
@@ -133,7 +134,8 @@ tail_past S one cs (k ∷ ks) b rs used n a w row =
     more m n h = omega arith
 
 -- and that bound is at most the page's own
-pub head_nearer : (ks : List Key) (b : Bounds) → are_within b ks ≡ true → (m : Key) → is_past b.high m ≡ true → is_past (head_bounds ks b).high m ≡ true
+pub head_nearer : (ks : List Key) (b : Bounds) → are_within b ks ≡ true → (m : Key) → is_past b.high m ≡ true
+    → is_past (head_bounds ks b).high m ≡ true
 head_nearer [] b w m h = h
 head_nearer (k ∷ ks) b w m h =
     let t = and_parts (is_above b.low k && is_below b.high k) (are_within b ks) w in

@@ -1,5 +1,6 @@
 -- A key that parts two children leads to a leaf whose records are all from it on.
 use Rattle.std.proofs.Common.{◌≡◌, ◌⊎◌, inl, inr, ℕ, zero, suc, ◌-◌, Bool, true, List, [], ◌∷◌, ◌++◌, length, take, drop, Option, Some, None, slice_index}
+use Rattle.std.proofs.lemmas.Bool.{and_from, and_parts}
 use Rattle.std.proofs.Common.{slice_index_or, refl, sym, ◌∙◌, ap, subst, arith}
 use Rattle.std.specs.Prelude.{slice_get}
 use Rattle.std.specs.List.{list_all}
@@ -18,7 +19,6 @@ use Rattle.quilt_btree.proofs.subtrees.Trees.{ascending_first, ascending_rest}
 use Rattle.quilt_btree.proofs.lists.Rising.{all_follow, all_parts, below_on}
 use Rattle.quilt_btree.proofs.lists.Lists.{gt_not_le}
 use Rattle.quilt_btree.proofs.ways.Leaves.{same_le}
-use Rattle.quilt_btree.proofs.subtrees.Walks.{and_parts, and_both}
 use Rattle.quilt_btree.proofs.subtrees.Descending.{AtFloor, leads_below, height_above}
 
 -- a key has one place
@@ -56,14 +56,14 @@ place_behind (l ∷ ks) zero k a h =
     let same : l ≡ k = cc in
     record {
       in_range = omega arith;
-      before = and_both (is_le (key_cmp l k)) true (subst (λ m. is_le (key_cmp l m) ≡ true) same (same_le l)) refl;
+      before = and_from (is_le (key_cmp l k)) true (subst (λ m. is_le (key_cmp l m) ≡ true) same (same_le l)) refl;
       behind = subst (λ m. list_all (λ n. is_lt (key_cmp m n)) ks ≡ true) same (ascending_first l ks a);
     }
 place_behind (l ∷ ks) (suc i) k a h =
     let more = place_behind ks i k (ascending_rest l ks a) h in
     record {
       in_range = let m = more.in_range in omega arith;
-      before = and_both (is_le (key_cmp l k)) (list_all (λ m. is_le (key_cmp m k)) (take (suc i) ks))
+      before = and_from (is_le (key_cmp l k)) (list_all (λ m. is_le (key_cmp m k)) (take (suc i) ks))
           (lt_to_le (key_cmp l k) (member (λ m. is_lt (key_cmp l m)) ks i k h (ascending_first l ks a))) more.before;
       behind = more.behind;
     }
@@ -88,7 +88,7 @@ behind_all : (ks : List Key) (i : ℕ) (d : Key) → is_ascending ks ≡ true �
     → list_all (λ l. is_lt (key_cmp d l)) (drop i ks) ≡ true
 behind_all [] zero d a h = refl
 behind_all [] (suc i) d a h = refl
-behind_all (k ∷ ks) zero d a h = and_both (is_lt (key_cmp d k)) (list_all (λ l. is_lt (key_cmp d l)) ks) h
+behind_all (k ∷ ks) zero d a h = and_from (is_lt (key_cmp d k)) (list_all (λ l. is_lt (key_cmp d l)) ks) h
     (all_follow (λ l. is_lt (key_cmp k l)) (λ l. is_lt (key_cmp d l)) (λ l g. lt_le d k l h (lt_to_le (key_cmp k l) g)) ks (ascending_first k ks a))
 behind_all (k ∷ ks) (suc i) d a h = behind_all ks i d (ascending_rest k ks a) h
 
@@ -102,59 +102,59 @@ below_start [] i start d w h = h
 below_start (k ∷ ks) zero start d w h = below_on start k d (and_parts (is_below start k) (list_all (is_below start) ks) w).0 h
 below_start (k ∷ ks) (suc i) start d w h = below_start ks i start d (and_parts (is_below start k) (list_all (is_below start) ks) w).1 h
 
-bound_here : (pages : List (List ℕ)) (h page i : ℕ) (inner : Inner) (start high : Option Key) (o : Option Key)
-    → inner_of (length pages) (slice_index_or pages page []) ≡ Some inner → is_ascending inner.keys ≡ true
-    → list_all (is_below start) inner.keys ≡ true → slice_get inner.keys i ≡ o → high ≡ option_or o start → IsBound pages (suc (suc h)) page start high
-bound_here pages h page i inner start high None there a w e is = inl is
-bound_here pages h page i inner start high (Some d) there a w e is =
-    inr (
-      d,
-      is,
-      record { inner = inner; page_is = there; place = suc i; is_place = place_behind inner.keys i d a e; parts = inl (i, refl, e) },
-      member (is_below start) inner.keys i d e w,
-    )
+module _ (pages : List (List ℕ)) (h page i : ℕ) (inner : Inner) (start high : Option Key) where
+  bound_here : (o : Option Key) → inner_of (length pages) (slice_index_or pages page []) ≡ Some inner → is_ascending inner.keys ≡ true
+      → list_all (is_below start) inner.keys ≡ true → slice_get inner.keys i ≡ o → high ≡ option_or o start
+      → IsBound pages (suc (suc h)) page start high
+  bound_here None there a w e is = inl is
+  bound_here (Some d) there a w e is =
+      inr (
+        d,
+        is,
+        record { inner = inner; page_is = there; place = suc i; is_place = place_behind inner.keys i d a e; parts = inl (i, refl, e) },
+        member (is_below start) inner.keys i d e w,
+      )
 
-bound_up : (pages : List (List ℕ)) (h page i : ℕ) (k : Key) (inner : Inner) (start high : Option Key)
-    → inner_of (length pages) (slice_index_or pages page []) ≡ Some inner → is_ascending inner.keys ≡ true
-    → list_all (is_below start) inner.keys ≡ true → IsPlace inner.keys k i → is_below high k ≡ true
-    → IsBound pages (suc h) (slice_index inner.children i) (option_or (slice_get inner.keys i) start) high → IsBound pages (suc (suc h)) page start high
-bound_up pages h page i k inner start high there a w p under (inl e) = bound_here pages h page i inner start high (slice_get inner.keys i) there a w refl e
-bound_up pages h page i k inner start high there a w p under (inr q) =
-    let d = q.0 in
-    let le : is_le (key_cmp k d) ≡ true = lt_to_le (key_cmp k d) (subst (λ o. is_below o k ≡ true) q.1 under) in
-    inr (
-      d,
-      q.1,
-      record {
-        inner = inner;
-        page_is = there;
-        place = i;
-        is_place = place_same inner.keys k d i p le (behind_all inner.keys i d a (below_next (slice_get inner.keys i) start d q.3));
-        parts = inr q.2;
-      },
-      below_start inner.keys i start d w q.3,
-    )
+  bound_up : (k : Key) → inner_of (length pages) (slice_index_or pages page []) ≡ Some inner → is_ascending inner.keys ≡ true
+      → list_all (is_below start) inner.keys ≡ true → IsPlace inner.keys k i → is_below high k ≡ true → IsBound pages (suc h)
+      (slice_index inner.children i) (option_or (slice_get inner.keys i) start) high → IsBound pages (suc (suc h)) page start high
+  bound_up k there a w p under (inl e) = bound_here (slice_get inner.keys i) there a w refl e
+  bound_up k there a w p under (inr q) =
+      let d = q.0 in
+      let le : is_le (key_cmp k d) ≡ true = lt_to_le (key_cmp k d) (subst (λ o. is_below o k ≡ true) q.1 under) in
+      inr (
+        d,
+        q.1,
+        record {
+          inner = inner;
+          page_is = there;
+          place = i;
+          is_place = place_same inner.keys k d i p le (behind_all inner.keys i d a (below_next (slice_get inner.keys i) start d q.3));
+          parts = inr q.2;
+        },
+        below_start inner.keys i start d w q.3,
+      )
 
-starts_case : (pages : List (List ℕ)) (h height place i child : ℕ) (k : Key) (inner : Inner) (here leaf : List Record) → place ≡ i
+starts_case : (pages : List (List ℕ)) (h height : ℕ) {place i child : ℕ} (k : Key) (inner : Inner) (here leaf : List Record) → place ≡ i
     → child ≡ slice_index inner.children i → height - 1 ≡ suc h
     → ((j : ℕ) (d : Key) → i ≡ suc j → slice_get inner.keys j ≡ Some d → list_all (λ (r : Record). is_le (key_cmp d r.key)) here ≡ true)
     → (list_all (λ (r : Record). is_le (key_cmp k r.key)) here ≡ true → list_all (λ (r : Record). is_le (key_cmp k r.key)) leaf ≡ true)
     → (Divides pages (height - 1) child k → list_all (λ (r : Record). is_le (key_cmp k r.key)) leaf ≡ true)
     → ((j : ℕ) × (place ≡ suc j) × (slice_get inner.keys j ≡ Some k)) ⊎ Divides pages (suc h) (slice_index inner.children place) k
     → list_all (λ (r : Record). is_le (key_cmp k r.key)) leaf ≡ true
-starts_case pages h height place i child k inner here leaf e is n low inside below (inl q) = inside (low q.0 k (sym e ∙ q.1) q.2)
-starts_case pages h height place i child k inner here leaf e is n low inside below (inr d) =
+starts_case pages h height k inner here leaf e is n low inside below (inl q) = inside (low q.0 k (sym e ∙ q.1) q.2)
+starts_case pages h height {child = child} k inner here leaf e is n low inside below (inr d) =
     below (subst (λ m. Divides pages m child k) (sym n) (subst (λ c. Divides pages (suc h) c k) (ap (slice_index inner.children) e ∙ sym is) d))
 
 one_less : (height h : ℕ) → height ≡ suc (suc h) → height - 1 ≡ suc h
 one_less height h e = omega arith
 
-pub cut_up : (old new : Option (List (List ℕ))) (page height child i : ℕ) (k : Key) (inner : Inner) (start next : Option Key) (leaf : List Record)
-    (high : Option Key) → AtFloor old new page height child i k inner
+pub cut_up : (old : Option (List (List ℕ))) {new : Option (List (List ℕ))} (page height : ℕ) {child : ℕ} (i : ℕ) {k : Key} (inner : Inner)
+    (start : Option Key) {next : Option Key} {leaf : List Record} {high : Option Key} → AtFloor old new page height child i k inner
     → next ≡ option_or (slice_get inner.keys i) start
     → ((rs : List Record) (s : Spells new child (height - 1) rs) → s.bounds.high ≡ next → LeadsTo k rs leaf next high)
     → IsCut new child (height - 1) k next leaf high → IsCut old page height k start leaf high
-cut_up old new page height child i k inner start next leaf high a is leads cut = record {
+cut_up old {new = new} page height {child = child} i {k = k} inner start {next = next} {leaf = leaf} {high = high} a is leads cut = record {
   starts = λ pages rs t s e d.
       let at = leads_below old page height rs inner i k a.some a.above s a.reads a.place in
       let here : Spells new child (height - 1) at.here = record {
@@ -164,7 +164,8 @@ cut_up old new page height child i k inner start next leaf high a is leads cut =
         bounds = at.spells.bounds;
         used = at.spells.used;
         subtree =
-            subst (λ c. Subtree at.spells.pages (height - 1) at.spells.is_root (c, at.spells.bounds) at.here at.spells.used) (sym a.is_child) at.spells.subtree;
+            subst (λ c. Subtree at.spells.pages (height - 1) at.spells.is_root (c, at.spells.bounds) at.here at.spells.used) (sym a.is_child)
+            at.spells.subtree;
       } in
       let n = height_above height a.some a.above in
       let div = subst (λ m. Divides pages m page k) n.1 d in
@@ -180,9 +181,10 @@ cut_up old new page height child i k inner start next leaf high a is leads cut =
         bounds = at.spells.bounds;
         used = at.spells.used;
         subtree =
-            subst (λ c. Subtree at.spells.pages (height - 1) at.spells.is_root (c, at.spells.bounds) at.here at.spells.used) (sym a.is_child) at.spells.subtree;
+            subst (λ c. Subtree at.spells.pages (height - 1) at.spells.is_root (c, at.spells.bounds) at.here at.spells.used) (sym a.is_child)
+            at.spells.subtree;
       }) high_is in
-      starts_case pages n.0 height div.place i child k inner at.here leaf place a.is_child (one_less height n.0 n.1) at.from_low
+      starts_case pages n.0 height k inner at.here leaf place a.is_child (one_less height n.0 n.1) at.from_low
       (λ h. (all_parts (λ (r : Record). is_le (key_cmp k r.key)) leaf lead.behind
       (all_parts (λ (r : Record). is_le (key_cmp k r.key)) lead.before (leaf ++ lead.behind)
       (subst (λ l. list_all (λ (r : Record). is_le (key_cmp k r.key)) l ≡ true) lead.records h)).1).0)
@@ -193,7 +195,8 @@ cut_up old new page height child i k inner start next leaf high a is leads cut =
         bounds = at.spells.bounds;
         used = at.spells.used;
         subtree =
-            subst (λ c. Subtree at.spells.pages (height - 1) at.spells.is_root (c, at.spells.bounds) at.here at.spells.used) (sym a.is_child) at.spells.subtree;
+            subst (λ c. Subtree at.spells.pages (height - 1) at.spells.is_root (c, at.spells.bounds) at.here at.spells.used) (sym a.is_child)
+            at.spells.subtree;
       }) high_is g)
       (subst (λ (x : Inner). ((j : ℕ) × (div.place ≡ suc j) × (slice_get x.keys j ≡ Some k))
       ⊎ Divides pages (suc n.0) (slice_index x.children div.place) k) same div.parts);
@@ -210,7 +213,8 @@ cut_up old new page height child i k inner start next leaf high a is leads cut =
         bounds = at.spells.bounds;
         used = at.spells.used;
         subtree =
-            subst (λ c. Subtree at.spells.pages (height - 1) at.spells.is_root (c, at.spells.bounds) at.here at.spells.used) (sym a.is_child) at.spells.subtree;
+            subst (λ c. Subtree at.spells.pages (height - 1) at.spells.is_root (c, at.spells.bounds) at.here at.spells.used) (sym a.is_child)
+            at.spells.subtree;
       }) high_is in
       let bound : IsBound pages (height - 1) child next high = cut.ends pages at.here (record {
         pages = at.spells.pages;
@@ -219,12 +223,13 @@ cut_up old new page height child i k inner start next leaf high a is leads cut =
         bounds = at.spells.bounds;
         used = at.spells.used;
         subtree =
-            subst (λ c. Subtree at.spells.pages (height - 1) at.spells.is_root (c, at.spells.bounds) at.here at.spells.used) (sym a.is_child) at.spells.subtree;
+            subst (λ c. Subtree at.spells.pages (height - 1) at.spells.is_root (c, at.spells.bounds) at.here at.spells.used) (sym a.is_child)
+            at.spells.subtree;
       }) (a.told ∙ t) high_is under in
       let lower = subst (λ m. IsBound pages m child next high) (one_less height n.0 n.1) bound in
       let there = subst (λ c. IsBound pages (suc n.0) c next high) a.is_child lower in
       subst (λ m. IsBound pages m page start high) (sym n.1)
-      (bound_up pages n.0 page i k inner start high (a.reads pages t) at.ascend
+      (bound_up pages n.0 page i inner start high k (a.reads pages t) at.ascend
       (subst (λ o. list_all (is_below o) inner.keys ≡ true) e at.keys_under) a.place (lead.key_under under)
       (subst (λ o. IsBound pages (suc n.0) (slice_index inner.children i) o high) is there));
 }

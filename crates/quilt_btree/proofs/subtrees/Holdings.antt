@@ -1,5 +1,6 @@
 -- Each subtree has a record, and so the keys between children ascend strictly from the bound below.
 use Rattle.std.proofs.Common.{◌≡◌, ℕ, zero, suc, ◌≤◌, Bool, true, false, ◌&&◌, List, [], ◌∷◌, ◌++◌, length, map, Option, Some, slice_index_or, refl, ◌∙◌, ap}
+use Rattle.std.proofs.lemmas.Bool.{and_from, and_parts}
 use Rattle.std.proofs.Common.{subst, arith}
 use Rattle.std.specs.Ordering.{is_lt, is_le}
 use Rattle.quilt_record.specs.declared.key.Key.{Key}
@@ -10,7 +11,6 @@ use Rattle.quilt_node.specs.Tree.{Bounds, bounded, are_within}
 use Rattle.quilt_btree.specs.Subtree.{Reading, Row, Subtree}
 use Rattle.quilt_record.proofs.Orders.{le_lt}
 use Rattle.quilt_btree.proofs.subtrees.Trees.{leaf_list, inner_list, subtree_rises}
-use Rattle.quilt_btree.proofs.subtrees.Walks.{and_parts, and_both}
 
 -- a list with a first record
 pub record HasSome (rs : List Record) : Type 0 where
@@ -61,5 +61,5 @@ ascends_from pages height (c ∷ cs) [] low high rs used some a row = refl
 ascends_from pages height (c ∷ cs) (k ∷ ks) low high rs used some a row =
     let at : ℕ × Bounds = (c, record { low = Some low; high = Some k }) in
     let rises = subtree_rises pages (suc height) false at row.first row.first_used row.here in
-    and_both (is_lt (key_cmp low k)) (is_ascending (k ∷ ks))
+    and_from (is_lt (key_cmp low k)) (is_ascending (k ∷ ks))
     (low_strict low k row.first (subtree_some pages (suc height) false at row.first row.first_used row.here) rises.within) a

@@ -1,5 +1,6 @@
 -- What pages are where they are well formed, and that the records of a subtree ascend.
 use Rattle.std.proofs.Common.{◌≡◌, ℕ, zero, suc, ◌+◌, ◌-◌, ◌*◌, ◌≤◌, Bool, true, false, ◌&&◌, nat_le, nat_lt, List, [], ◌∷◌, ◌++◌, length, map, Some, None}
+use Rattle.std.proofs.lemmas.Bool.{and_from, and_parts, leb-true}
 use Rattle.std.proofs.Common.{slice_index_or, refl, sym, ◌∙◌, ap, subst, arith}
 use Rattle.std.specs.Prelude.{if◌then◌else◌}
 use Rattle.std.specs.List.{list_all}
@@ -17,7 +18,6 @@ use Rattle.quilt_node.specs.Tree.{Bounds, bounded, are_within, is_above, is_belo
 use Rattle.quilt_btree.specs.Subtree.{Reading, Row, Subtree}
 use Rattle.quilt_record.proofs.Orders.{lt_le, lt_to_le}
 use Rattle.quilt_btree.proofs.lists.Rising.{IsRising, rising_join, all_follow}
-use Rattle.quilt_btree.proofs.subtrees.Walks.{and_parts, and_both}
 
 -- what a well formed leaf is
 pub record IsLeafList (bytes : List ℕ) (rs : List Record) : Type 0 where
@@ -36,9 +36,6 @@ pub record IsInnerList (pages : ℕ) (bytes : List ℕ) (inner : Inner) : Type 0
   pub ascends : is_ascending inner.keys ≡ true
   pub keys : length inner.children ≡ length inner.keys + 1
   pub written : inner_bytes inner.height inner.children inner.keys ≡ bytes
-
-pub nat_le_is : (m n : ℕ) → nat_le m n ≡ true → m ≤ n
-nat_le_is m n h = grind (arith, nat_tests)
 
 pub some_if : {X : Type 0} (b : Bool) (x y : X) → (if b then Some x else None) ≡ Some y → (b ≡ true) × (x ≡ y)
 some_if true x y h = (refl, cc)
@@ -60,8 +57,8 @@ leaf_list bytes rs h =
     let t2 = and_parts (a && b) c t3.0 in
     let t1 = and_parts a b t2.0 in
     subst (IsLeafList bytes) t.1 (record {
-      least = nat_le_is 1 (length ss) t1.0;
-      most = nat_le_is (length ss) 144 t1.1;
+      least = leb-true 1 (length ss) t1.0;
+      most = leb-true (length ss) 144 t1.1;
       ascends = t2.1;
       written = (bytes_eq-Decides (leaf_bytes ss) bytes).0 t3.1;
     })
@@ -84,14 +81,14 @@ inner_list pages bytes inner h =
     let t3 = and_parts (a && b && c) d t4.0 in
     let t2 = and_parts (a && b) c t3.0 in
     let t1 = and_parts a b t2.0 in
-    let least : 2 ≤ length page.children = nat_le_is 2 (length page.children) t2.1 in
+    let least : 2 ≤ length page.children = leb-true 2 (length page.children) t2.1 in
     let many : length page.children ≡ short_at bytes 2 = length-map-range_with_len (λ i. word_at bytes (8 + 4 * i)) 0 (short_at bytes 2) in
     let fewer : length page.keys ≡ short_at bytes 2 - 1 = length-map-range_with_len (λ i. key_at bytes (1024 + 12 * i)) 0 (short_at bytes 2 - 1) in
     subst (IsInnerList pages bytes) t.1 (record {
-      low = nat_le_is 2 page.height t1.0;
-      high = nat_le_is page.height 3 t1.1;
+      low = leb-true 2 page.height t1.0;
+      high = leb-true page.height 3 t1.1;
       least = least;
-      most = nat_le_is (length page.children) 254 t3.1;
+      most = leb-true (length page.children) 254 t3.1;
       in_range = t4.1;
       ascends = t5.1;
       keys = counted (short_at bytes 2) (length page.children) (length page.keys) least many fewer;
@@ -102,7 +99,7 @@ pub ascending_first : (k : Key) (ks : List Key) → is_ascending (k ∷ ks) ≡ 
 ascending_first k [] h = refl
 ascending_first k (l ∷ ks) h =
     let t = and_parts (is_lt (key_cmp k l)) (is_ascending (l ∷ ks)) h in
-    and_both (is_lt (key_cmp k l)) (list_all (λ m. is_lt (key_cmp k m)) ks) t.0
+    and_from (is_lt (key_cmp k l)) (list_all (λ m. is_lt (key_cmp k m)) ks) t.0
     (all_follow (λ m. is_lt (key_cmp l m)) (λ m. is_lt (key_cmp k m)) (λ m g. lt_le k l m t.0 (lt_to_le (key_cmp l m) g)) ks (ascending_first l ks t.1))
 
 pub ascending_rest : (k : Key) (ks : List Key) → is_ascending (k ∷ ks) ≡ true → is_ascending ks ≡ true
@@ -114,7 +111,7 @@ all_both p q [] h g = refl
 all_both p q (x ∷ xs) h g =
     let s = and_parts (p x) (list_all p xs) h in
     let t = and_parts (q x) (list_all q xs) g in
-    and_both (p x && q x) (list_all (λ y. p y && q y) xs) (and_both (p x) (q x) s.0 t.0) (all_both p q xs s.1 t.1)
+    and_from (p x && q x) (list_all (λ y. p y && q y) xs) (and_from (p x) (q x) s.0 t.0) (all_both p q xs s.1 t.1)
 
 -- the keys between children, behind the first of them
 pub within_rest : (b : Bounds) (k : Key) (ks : List Key) → is_ascending (k ∷ ks) ≡ true → are_within b (k ∷ ks) ≡ true

@@ -1,5 +1,6 @@
 -- The walk of a subtree, and what it has found.
 use Rattle.std.proofs.Common.{◌≡◌, ℕ, zero, suc, Bool, true, false, ◌&&◌, ◌||◌, ◌==◌, nat_le, List, [], ◌∷◌, ◌++◌, length, map, Option, Some, None}
+use Rattle.std.proofs.lemmas.Bool.{and_from, and_parts}
 use Rattle.std.proofs.Common.{slice_index_or, refl, sym, ◌∙◌, ap, subst, append_assoc, arith}
 use Rattle.std.specs.List.{list_any}
 use Rattle.std.specs.Prelude.{if◌then◌else◌}
@@ -22,14 +23,6 @@ pub record FoundBehind (S : List Record → List ℕ → Type 0) (before : List 
   pub more : List Record
   pub is_rs : rs ≡ before ++ more
   pub found : Found S visited more now
-
-pub and_parts : (a b : Bool) → (a && b) ≡ true → (a ≡ true) × (b ≡ true)
-and_parts true b h = (refl, h)
-and_parts false b h = cc
-
-pub and_both : (a b : Bool) → a ≡ true → b ≡ true → (a && b) ≡ true
-and_both true b p q = q
-and_both false b p q = p
 
 pub then_whole : (b : Bool) (w : Walk) (p : ℕ) (rs : List Record) (now : List ℕ)
     → (if b then w else Damaged p) ≡ Whole rs now → (b ≡ true) × (w ≡ Whole rs now)
@@ -80,47 +73,46 @@ leaf_found pages is_root at visited rs now (Some ss) page seen h =
       is_now = later;
     }
 
-row_step : (S : Reading) (visit : ℕ × Bounds → List ℕ → Walk) (c : ℕ × Bounds) (cs : List (ℕ × Bounds)) (before : List Record) (visited : List ℕ)
-    (rs : List Record) (now : List ℕ)
-    → ((ss : List Record) (later : List ℕ) → visit c visited ≡ Whole ss later → Found (S c) visited ss later)
-    → ((ss : List Record) (later : List ℕ) → each_child visit cs (Whole ss later) ≡ Whole rs now → FoundBehind (Row S cs) ss later rs now)
-    → (w : Walk) → visit c visited ≡ w
-    → each_child visit cs (and_then (Whole before visited) (λ v. w)) ≡ Whole rs now → FoundBehind (Row S (c ∷ cs)) before visited rs now
-row_step S visit c cs before visited rs now one others (Damaged p) e h =
-    let stays = damaged_stays visit cs p in cc
-row_step S visit c cs before visited rs now one others (Whole ss later) e h =
-    let first = one ss later e in
-    let rest = others (before ++ ss) later h in
-    record {
-      more = ss ++ rest.more;
-      is_rs = rest.is_rs ∙ append_assoc before ss rest.more;
-      found = record {
-        used = rest.found.used ++ first.used;
-        spells = record {
-          first = ss;
-          rest = rest.more;
-          first_used = first.used;
-          rest_used = rest.found.used;
-          here = first.spells;
-          after = rest.found.spells;
-          records = refl;
-          is_used = refl;
+module _ (S : Reading) (visit : ℕ × Bounds → List ℕ → Walk) where
+  row_step : (c : ℕ × Bounds) (cs : List (ℕ × Bounds)) (before : List Record) (visited : List ℕ) (rs : List Record) (now : List ℕ)
+      → ((ss : List Record) (later : List ℕ) → visit c visited ≡ Whole ss later → Found (S c) visited ss later)
+      → ((ss : List Record) (later : List ℕ) → each_child visit cs (Whole ss later) ≡ Whole rs now → FoundBehind (Row S cs) ss later rs now)
+      → (w : Walk) → visit c visited ≡ w → each_child visit cs (and_then (Whole before visited) (λ v. w)) ≡ Whole rs now
+      → FoundBehind (Row S (c ∷ cs)) before visited rs now
+  row_step c cs before visited rs now one others (Damaged p) e h =
+      let stays = damaged_stays visit cs p in cc
+  row_step c cs before visited rs now one others (Whole ss later) e h =
+      let first = one ss later e in
+      let rest = others (before ++ ss) later h in
+      record {
+        more = ss ++ rest.more;
+        is_rs = rest.is_rs ∙ append_assoc before ss rest.more;
+        found = record {
+          used = rest.found.used ++ first.used;
+          spells = record {
+            first = ss;
+            rest = rest.more;
+            first_used = first.used;
+            rest_used = rest.found.used;
+            here = first.spells;
+            after = rest.found.spells;
+            records = refl;
+            is_used = refl;
+          };
+          fresh = fresh_join _ _ _ (along_list (λ l. IsFresh rest.found.used l) first.is_now rest.found.fresh) first.fresh;
+          is_now = rest.found.is_now ∙ ap (λ v. rest.found.used ++ v) first.is_now ∙ sym (append_assoc rest.found.used first.used visited);
         };
-        fresh = fresh_join _ _ _ (along_list (λ l. IsFresh rest.found.used l) first.is_now rest.found.fresh) first.fresh;
-        is_now = rest.found.is_now ∙ ap (λ v. rest.found.used ++ v) first.is_now ∙ sym (append_assoc rest.found.used first.used visited);
-      };
-    }
+      }
 
-row_found : (S : Reading) (visit : ℕ × Bounds → List ℕ → Walk)
-    → ((c : ℕ × Bounds) (visited : List ℕ) (rs : List Record) (now : List ℕ) → visit c visited ≡ Whole rs now → Found (S c) visited rs now)
-    → (cs : List (ℕ × Bounds)) (before : List Record) (visited : List ℕ) (rs : List Record) (now : List ℕ)
-    → each_child visit cs (Whole before visited) ≡ Whole rs now → FoundBehind (Row S cs) before visited rs now
-row_found S visit one [] before visited rs now h =
-    let same : rs ≡ before = cc in
-    let later : now ≡ visited = cc in
-    record { more = []; is_rs = same ∙ sym (append-nil before); found = record { used = []; spells = (refl, refl); fresh = tt; is_now = later } }
-row_found S visit one (c ∷ cs) before visited rs now h =
-    row_step S visit c cs before visited rs now (one c visited) (λ ss later e. row_found S visit one cs ss later rs now e) (visit c visited) refl h
+  row_found : ((c : ℕ × Bounds) (visited : List ℕ) (rs : List Record) (now : List ℕ) → visit c visited ≡ Whole rs now → Found (S c) visited rs now)
+      → (cs : List (ℕ × Bounds)) (before : List Record) (visited : List ℕ) (rs : List Record) (now : List ℕ)
+      → each_child visit cs (Whole before visited) ≡ Whole rs now → FoundBehind (Row S cs) before visited rs now
+  row_found one [] before visited rs now h =
+      let same : rs ≡ before = cc in
+      let later : now ≡ visited = cc in
+      record { more = []; is_rs = same ∙ sym (append-nil before); found = record { used = []; spells = (refl, refl); fresh = tt; is_now = later } }
+  row_found one (c ∷ cs) before visited rs now h =
+      row_step c cs before visited rs now (one c visited) (λ ss later e. row_found one cs ss later rs now e) (visit c visited) refl h
 
 pub same_number : (m n : ℕ) → (m == n) ≡ true → m ≡ n
 same_number m n h = grind (arith, nat_tests)
@@ -128,34 +120,45 @@ same_number m n h = grind (arith, nat_tests)
 pub number_test : (m n : ℕ) → m ≡ n → (m == n) ≡ true
 number_test m n h = grind (arith, nat_tests)
 
-inner_found : (S : Reading) (visit : ℕ × Bounds → List ℕ → Walk) (pages : List (List ℕ)) (height : ℕ) (is_root : Bool) (at : ℕ × Bounds)
-    (visited : List ℕ) (rs : List Record) (now : List ℕ)
-    → ((c : ℕ × Bounds) (v : List ℕ) (ss : List Record) (later : List ℕ) → visit c v ≡ Whole ss later → Found (S c) v ss later)
-    → (o : Option Inner) → inner_of (length pages) (slice_index_or pages at.0 []) ≡ o
-    → list_any (λ v. v == at.0) visited ≡ false
-    → inner_walk visit height is_root at.1 at.0 visited o ≡ Whole rs now → Found (IsInner S pages height is_root at) visited rs now
-inner_found S visit pages height is_root at visited rs now one None page seen h = cc
-inner_found S visit pages height is_root at visited rs now one (Some inner) page seen h =
-    let t = then_whole _ _ _ _ _ h in
-    let all = and_parts ((inner.height == height) && (is_root || nat_le 127 (length inner.children))) (are_within at.1 inner.keys) t.0 in
-    let both = and_parts (inner.height == height) (is_root || nat_le 127 (length inner.children)) all.0 in
-    let row = row_found S visit one (bounded inner.children inner.keys at.1) [] (at.0 ∷ visited) rs now t.1 in
-    let same : rs ≡ row.more = row.is_rs in
-    record {
-      used = row.found.used ++ at.0 ∷ [];
-      spells = record {
-        inner = inner;
-        page = page;
-        is_height = same_number inner.height height both.0;
-        enough = both.1;
-        within = all.1;
-        under = row.found.used;
-        children = along_list (λ l. Row S (bounded inner.children inner.keys at.1) l row.found.used) (sym same) row.found.spells;
-        is_used = refl;
-      };
-      fresh = fresh_join row.found.used (at.0 ∷ []) visited row.found.fresh (seen, tt);
-      is_now = row.found.is_now ∙ sym (append_assoc row.found.used (at.0 ∷ []) visited);
-    }
+module _ (S : Reading) (visit : ℕ × Bounds → List ℕ → Walk) where
+  inner_found : (pages : List (List ℕ)) (height : ℕ) (is_root : Bool) (at : ℕ × Bounds) (visited : List ℕ) (rs : List Record) (now : List ℕ)
+      → ((c : ℕ × Bounds) (v : List ℕ) (ss : List Record) (later : List ℕ) → visit c v ≡ Whole ss later → Found (S c) v ss later) → (o : Option Inner)
+      → inner_of (length pages) (slice_index_or pages at.0 []) ≡ o → list_any (λ v. v == at.0) visited ≡ false
+      → inner_walk visit height is_root at.1 at.0 visited o ≡ Whole rs now → Found (IsInner S pages height is_root at) visited rs now
+  inner_found pages height is_root at visited rs now one None page seen h = cc
+  inner_found pages height is_root at visited rs now one (Some inner) page seen h =
+      let t = then_whole _ _ _ _ _ h in
+      let all = and_parts ((inner.height == height) && (is_root || nat_le 127 (length inner.children))) (are_within at.1 inner.keys) t.0 in
+      let both = and_parts (inner.height == height) (is_root || nat_le 127 (length inner.children)) all.0 in
+      let row = row_found S visit one (bounded inner.children inner.keys at.1) [] (at.0 ∷ visited) rs now t.1 in
+      let same : rs ≡ row.more = row.is_rs in
+      record {
+        used = row.found.used ++ at.0 ∷ [];
+        spells = record {
+          inner = inner;
+          page = page;
+          is_height = same_number inner.height height both.0;
+          enough = both.1;
+          within = all.1;
+          under = row.found.used;
+          children = along_list (λ l. Row S (bounded inner.children inner.keys at.1) l row.found.used) (sym same) row.found.spells;
+          is_used = refl;
+        };
+        fresh = fresh_join row.found.used (at.0 ∷ []) visited row.found.fresh (seen, tt);
+        is_now = row.found.is_now ∙ sym (append_assoc row.found.used (at.0 ∷ []) visited);
+      }
+
+  row_walked : ((c : ℕ × Bounds) (visited : List ℕ) (rs : List Record) (used : List ℕ) → S c rs used → IsFresh used visited → visit c visited ≡ Whole rs (used ++ visited))
+      → (cs : List (ℕ × Bounds)) (before : List Record) (visited : List ℕ) (rs : List Record) (used : List ℕ) → Row S cs rs used
+      → IsFresh used visited → each_child visit cs (Whole before visited) ≡ Whole (before ++ rs) (used ++ visited)
+  row_walked one [] before visited rs used row fresh = rw (row.0, row.1, append-nil) refl
+  row_walked one (c ∷ cs) before visited rs used row fresh =
+      let parts : IsFresh (row.rest_used ++ row.first_used) visited = rw row.is_used at fresh in
+      let here : visit c visited ≡ Whole row.first (row.first_used ++ visited) = one c visited row.first row.first_used row.here (fresh_early _ _ _ parts) in
+      let after = row_walked one cs (before ++ row.first) (row.first_used ++ visited) row.rest row.rest_used row.after (fresh_late _ _ _ parts) in
+      ap (λ w. each_child visit cs (and_then (Whole before visited) (λ v. w))) here ∙ after
+      ∙ ap (λ l. Whole l (row.rest_used ++ (row.first_used ++ visited))) (append_assoc before row.first row.rest ∙ ap (λ l. before ++ l) (sym row.records))
+      ∙ ap (λ l. Whole (before ++ rs) l) (sym (append_assoc row.rest_used row.first_used visited) ∙ ap (λ l. l ++ visited) (sym row.is_used))
 
 -- What a walk has found whole is a subtree, of pages that were not visited before.
 pub walk_found : (pages : List (List ℕ)) (height : ℕ) (is_root : Bool) (at : ℕ × Bounds) (visited : List ℕ) (rs : List Record) (now : List ℕ)
@@ -177,33 +180,19 @@ pub if_false : (b : Bool) (v w : Walk) → b ≡ false → (if b then v else w) 
 if_false true v w h = cc
 if_false false v w h = refl
 
-row_walked : (S : Reading) (visit : ℕ × Bounds → List ℕ → Walk)
-    → ((c : ℕ × Bounds) (visited : List ℕ) (rs : List Record) (used : List ℕ) → S c rs used → IsFresh used visited
-    → visit c visited ≡ Whole rs (used ++ visited))
-    → (cs : List (ℕ × Bounds)) (before : List Record) (visited : List ℕ) (rs : List Record) (used : List ℕ)
-    → Row S cs rs used → IsFresh used visited → each_child visit cs (Whole before visited) ≡ Whole (before ++ rs) (used ++ visited)
-row_walked S visit one [] before visited rs used row fresh = rw (row.0, row.1, append-nil) refl
-row_walked S visit one (c ∷ cs) before visited rs used row fresh =
-    let parts : IsFresh (row.rest_used ++ row.first_used) visited = rw row.is_used at fresh in
-    let here : visit c visited ≡ Whole row.first (row.first_used ++ visited) = one c visited row.first row.first_used row.here (fresh_early _ _ _ parts) in
-    let after = row_walked S visit one cs (before ++ row.first) (row.first_used ++ visited) row.rest row.rest_used row.after (fresh_late _ _ _ parts) in
-    ap (λ w. each_child visit cs (and_then (Whole before visited) (λ v. w))) here ∙ after
-    ∙ ap (λ l. Whole l (row.rest_used ++ (row.first_used ++ visited))) (append_assoc before row.first row.rest ∙ ap (λ l. before ++ l) (sym row.records))
-    ∙ ap (λ l. Whole (before ++ rs) l) (sym (append_assoc row.rest_used row.first_used visited) ∙ ap (λ l. l ++ visited) (sym row.is_used))
-
 -- and a subtree of such pages is found whole
 pub walk_again : (pages : List (List ℕ)) (height : ℕ) (is_root : Bool) (at : ℕ × Bounds) (visited : List ℕ) (rs : List Record) (used : List ℕ)
     → Subtree pages height is_root at rs used → IsFresh used visited → walk pages height is_root at visited ≡ Whole rs (used ++ visited)
 walk_again pages zero is_root at visited rs used s fresh = absurd s
 walk_again pages (suc zero) is_root at visited rs used s fresh =
     let new : IsFresh (at.0 ∷ []) visited = rw s.is_used at fresh in
-    if_false _ _ _ new.0 ∙ ap (leaf_walk is_root at.1 at.0 visited) s.page ∙ if_true _ _ _ (and_both _ _ s.enough s.within)
+    if_false _ _ _ new.0 ∙ ap (leaf_walk is_root at.1 at.0 visited) s.page ∙ if_true _ _ _ (and_from _ _ s.enough s.within)
     ∙ rw s.is_used refl
 walk_again pages (suc (suc height)) is_root at visited rs used s fresh =
     let new : IsFresh (s.under ++ at.0 ∷ []) visited = rw s.is_used at fresh in
     if_false _ _ _ (fresh_early s.under (at.0 ∷ []) visited new).0
     ∙ ap (inner_walk (walk pages (suc height) false) (suc (suc height)) is_root at.1 at.0 visited) s.page
-    ∙ if_true _ _ _ (and_both _ _ (and_both _ _ (number_test s.inner.height (suc (suc height)) s.is_height) s.enough) s.within)
+    ∙ if_true _ _ _ (and_from _ _ (and_from _ _ (number_test s.inner.height (suc (suc height)) s.is_height) s.enough) s.within)
     ∙ row_walked (Subtree pages (suc height) false) (walk pages (suc height) false) (λ c v ss u t f. walk_again pages (suc height) false c v ss u t f)
     (bounded s.inner.children s.inner.keys at.1) [] (at.0 ∷ visited) rs s.under s.children (fresh_late s.under (at.0 ∷ []) visited new)
     ∙ ap (λ l. Whole rs l) (sym (append_assoc s.under (at.0 ∷ []) visited) ∙ ap (λ l. l ++ visited) (sym s.is_used))

@@ -24,12 +24,6 @@ use Rattle.quilt_btree.proofs.stores.Writes.{tells_at}
 use Rattle.quilt_btree.proofs.subtrees.Trees.{inner_list}
 use Rattle.quilt_btree.proofs.ways.Forks.{IsRead, leaf_has_last, child_page}
 
--- what names no page names no good one
-pub sound_names : (told : Option (List (List ℕ))) (height page : ℕ) (e : Stop) → IsSound e → NamesBad told height page e
-sound_names told height page Device s = tt
-sound_names told height page Memory s = tt
-sound_names told height page (Damaged q) s = absurd (s q refl)
-
 not_some : {A : Type 0} (o : Option A) → ((x : A) → o ≡ Some x → ⊥) → o ≡ None
 not_some None f = refl
 not_some (Some x) f = absurd (f x refl)
@@ -60,60 +54,27 @@ bad_last told page height bytes one are f = bad_leaf told page height bytes one 
 one_less : (height h : ℕ) → height ≡ suc (suc h) → height - 1 ≡ suc h
 one_less height h e = omega arith
 
--- what is bad under a child is bad under its page
-pub bad_below : (old new : Option (List (List ℕ))) (page height size : ℕ) (bytes : List ℕ) (child : ℕ) (e : Stop)
-    → IsRead old new page height size bytes → HasChild size bytes child
-    → NamesBad new (height - 1) child e → NamesBad old height page e
-bad_below old new page height size bytes child Device r c f = tt
-bad_below old new page height size bytes child Memory r c f = tt
-bad_below old new page height size bytes child (Damaged q) r c f = λ pages is.
-    let n = height_above height r.some r.above in
-    let same : bytes ≡ slice_index_or pages page [] = r.are pages is in
-    let long : length pages ≡ size = subst (λ o. IfSome o (λ pages. length pages ≡ size)) is r.many in
-    let less : height - 1 ≡ suc n.0 = one_less height n.0 n.1 in
-    let under : IsBadUnder pages (suc n.0) child q = subst (λ h. IsBadUnder pages h child q) less (f pages (r.told ∙ is)) in
-    let here : HasChild (length pages) (slice_index_or pages page []) child =
-    subst (λ m. HasChild m (slice_index_or pages page []) child) (sym long) (subst (λ b. HasChild size b child) same c) in
-    subst (λ h. IsBadUnder pages h page q) (sym n.1) (inr (child, here, under))
-
-pub names_below : {T : Type 0} (r : Result T Stop) (old new : Option (List (List ℕ))) (page height size : ℕ) (bytes : List ℕ) (child : ℕ)
-    → IsRead old new page height size bytes → HasChild size bytes child
-    → IfErr r (NamesBad new (height - 1) child) → IfErr r (NamesBad old height page)
-names_below (Ok v) old new page height size bytes child r c f = f
-names_below (Err e) old new page height size bytes child r c f = bad_below old new page height size bytes child e r c f
-
 pub child_at : (size : ℕ) (bytes : List ℕ) (o : Option ℕ) (child : ℕ) → o ≡ Some child → IfSome o (HasChild size bytes) → HasChild size bytes child
 child_at size bytes o child e h = subst (λ p. IfSome p (HasChild size bytes)) e h
 
--- the page of the bytes that the search came to
-pub spoilt_below : (r : Result Found Stop) (old new : Option (List (List ℕ))) (page height size : ℕ) (bytes : List ℕ) (child : ℕ)
-    → IsRead old new page height size bytes → HasChild size bytes child
-    → IfOk r (λ found. (last : List ℕ) → AreOf new found.page last → leaf_of last ≡ None → NamesBad new (height - 1) child (Damaged found.page))
-    → IfOk r (λ found. (last : List ℕ) → AreOf old found.page last → leaf_of last ≡ None → NamesBad old height page (Damaged found.page))
-spoilt_below (Err e) old new page height size bytes child r c f = f
-spoilt_below (Ok v) old new page height size bytes child r c f = λ last are none.
-    bad_below old new page height size bytes child (Damaged v.page) r c (f last (λ pages is. are pages (sym r.told ∙ is)) none)
+module _ (told : Option (List (List ℕ))) (height page : ℕ) where
+  -- what names no page names no good one
+  pub sound_names : (e : Stop) → IsSound e → NamesBad told height page e
+  sound_names Device s = tt
+  sound_names Memory s = tt
+  sound_names (Damaged q) s = absurd (s q refl)
 
--- page 0, or one that is bad for this reason
-pub fault_named : (told : Option (List (List ℕ))) (height page at q : ℕ) (P : Type 0) → ((q ≡ 0) ⊎ ((q ≡ at) × P))
-    → (P → NamesBad told height page (Damaged at))
-    → Damaged q ≢ Damaged 0 → NamesBad told height page (Damaged q)
-fault_named told height page at q P (inl e) f ne = absurd (ne (ap Damaged e))
-fault_named told height page at q P (inr e) f ne = subst (λ q. NamesBad told height page (Damaged q)) (sym e.0) (f e.1)
+  -- page 0, or one that is bad for this reason
+  pub fault_named : (at q : ℕ) (P : Type 0) → ((q ≡ 0) ⊎ ((q ≡ at) × P)) → (P → NamesBad told height page (Damaged at)) → Damaged q ≢ Damaged 0
+      → NamesBad told height page (Damaged q)
+  fault_named at q P (inl e) f ne = absurd (ne (ap Damaged e))
+  fault_named at q P (inr e) f ne = subst (λ q. NamesBad told height page (Damaged q)) (sym e.0) (f e.1)
 
 not_none : {A : Type 0} (o : Option A) → o ≡ None → (x : A) → o ≡ Some x → ⊥
 not_none o none x is = differ x (sym none ∙ is)
   where
     differ : {A : Type 0} (x : A) → None ≡ Some x → ⊥
     differ x h = cc
-
--- page 0, or a page above the leaves that is no inner page
-pub inner_fault : (old new : Option (List (List ℕ))) (page height size q : ℕ) (bytes : List ℕ) → IsRead old new page height size bytes
-    → ((q ≡ 0) ⊎ ((q ≡ page) × (inner_of size bytes ≡ None)))
-    → Damaged q ≢ Damaged 0 → NamesBad old height page (Damaged q)
-inner_fault old new page height size q bytes r f =
-    fault_named old height page page q (inner_of size bytes ≡ None) f
-    (λ none. bad_inner old new page height size bytes r (not_none (inner_of size bytes) none))
 
 -- what names no page over 0 names no good one
 pub zero_names : (told : Option (List (List ℕ))) (height page : ℕ) (e : Stop) → NamesPage 1 e → e ≢ Damaged 0 → NamesBad told height page e
@@ -144,17 +105,47 @@ pub named_leaf : {T : Type 0} (r : Result T Stop) (told : Option (List (List ℕ
     → IfErr r (λ e. e ≢ Damaged 0 → NamesBad told 1 page e) → IfErr r (λ e. e ≢ Damaged 0 → NamesBad told height page e)
 named_leaf r told height page one f = subst (λ h. IfErr r (λ e. e ≢ Damaged 0 → NamesBad told h page e)) (sym one) f
 
--- where the store tells the same, and the way has come to a child
-pub named_below : {T : Type 0} (r : Result T Stop) (old new : Option (List (List ℕ))) (page height size : ℕ) (bytes : List ℕ) (child : ℕ)
-    → IsRead old new page height size bytes → HasChild size bytes child
-    → IfErr r (λ e. e ≢ Damaged 0 → NamesBad new (height - 1) child e) → IfErr r (λ e. e ≢ Damaged 0 → NamesBad old height page e)
-named_below (Ok v) old new page height size bytes child r c f = f
-named_below (Err e) old new page height size bytes child r c f = λ ne. bad_below old new page height size bytes child e r c (f ne)
+module _ (old new : Option (List (List ℕ))) (page height size : ℕ) (bytes : List ℕ) where
+  -- what is bad under a child is bad under its page
+  pub bad_below : (child : ℕ) (e : Stop) → IsRead old new page height size bytes → HasChild size bytes child → NamesBad new (height - 1) child e
+      → NamesBad old height page e
+  bad_below child Device r c f = tt
+  bad_below child Memory r c f = tt
+  bad_below child (Damaged q) r c f = λ pages is.
+      let n = height_above height r.some r.above in
+      let same : bytes ≡ slice_index_or pages page [] = r.are pages is in
+      let long : length pages ≡ size = subst (λ o. IfSome o (λ pages. length pages ≡ size)) is r.many in
+      let less : height - 1 ≡ suc n.0 = one_less height n.0 n.1 in
+      let under : IsBadUnder pages (suc n.0) child q = subst (λ h. IsBadUnder pages h child q) less (f pages (r.told ∙ is)) in
+      let here : HasChild (length pages) (slice_index_or pages page []) child =
+      subst (λ m. HasChild m (slice_index_or pages page []) child) (sym long) (subst (λ b. HasChild size b child) same c) in
+      subst (λ h. IsBadUnder pages h page q) (sym n.1) (inr (child, here, under))
 
--- where the store tells the same
-pub names_along : (told now : Option (List (List ℕ))) (height page : ℕ) (e : Stop) → now ≡ told → (e ≢ Damaged 0 → NamesBad now height page e)
-    → e ≢ Damaged 0 → NamesBad told height page e
-names_along told now height page e same f = subst (λ t. e ≢ Damaged 0 → NamesBad t height page e) same f
+  pub names_below : {T : Type 0} (r : Result T Stop) (child : ℕ) → IsRead old new page height size bytes → HasChild size bytes child
+      → IfErr r (NamesBad new (height - 1) child) → IfErr r (NamesBad old height page)
+  names_below (Ok v) child r c f = f
+  names_below (Err e) child r c f = bad_below child e r c f
+
+  -- the page of the bytes that the search came to
+  pub spoilt_below : (r : Result Found Stop) (child : ℕ) → IsRead old new page height size bytes → HasChild size bytes child
+      → IfOk r (λ found. (last : List ℕ) → AreOf new found.page last → leaf_of last ≡ None → NamesBad new (height - 1) child (Damaged found.page))
+      → IfOk r (λ found. (last : List ℕ) → AreOf old found.page last → leaf_of last ≡ None → NamesBad old height page (Damaged found.page))
+  spoilt_below (Err e) child r c f = f
+  spoilt_below (Ok v) child r c f = λ last are none.
+      bad_below child (Damaged v.page) r c (f last (λ pages is. are pages (sym r.told ∙ is)) none)
+
+  -- page 0, or a page above the leaves that is no inner page
+  pub inner_fault : (q : ℕ) → IsRead old new page height size bytes → ((q ≡ 0) ⊎ ((q ≡ page) × (inner_of size bytes ≡ None))) → Damaged q ≢ Damaged 0
+      → NamesBad old height page (Damaged q)
+  inner_fault q r f =
+      fault_named old height page page q (inner_of size bytes ≡ None) f
+      (λ none. bad_inner old new page height size bytes r (not_none (inner_of size bytes) none))
+
+  -- where the store tells the same, and the way has come to a child
+  pub named_below : {T : Type 0} (r : Result T Stop) (child : ℕ) → IsRead old new page height size bytes → HasChild size bytes child
+      → IfErr r (λ e. e ≢ Damaged 0 → NamesBad new (height - 1) child e) → IfErr r (λ e. e ≢ Damaged 0 → NamesBad old height page e)
+  named_below (Ok v) child r c f = f
+  named_below (Err e) child r c f = λ ne. bad_below child e r c (f ne)
 
 -- what a run says of why it stops, where one of its steps has stopped for that reason
 pub record StopsBehind (e stop : Stop) (done : ℕ) : Type 0 where
@@ -208,16 +199,14 @@ run_zero P e stop done s f page is =
     at q page none (inr is) = is
 
 -- the first step of a run judges the store as it was, and what a later one says names no page over 0
-pub run_names : (e stop : Stop) (done : ℕ) (told mid : Option (List (List ℕ))) (t u : Tree) → StopsBehind e stop done
-    → (done ≡ 0 → (mid ≡ told) × (u ≡ t))
-    → (e ≢ Damaged 0 → NamesBad mid u.height u.root e)
-    → stop ≢ Damaged 0 → NamesBad told t.height t.root stop
-run_names e stop zero told mid t u s start f ne =
+pub run_names : {e stop : Stop} {done : ℕ} (told mid : Option (List (List ℕ))) (t u : Tree) → StopsBehind e stop done
+    → (done ≡ 0 → (mid ≡ told) × (u ≡ t)) → (e ≢ Damaged 0 → NamesBad mid u.height u.root e) → stop ≢ Damaged 0 → NamesBad told t.height t.root stop
+run_names {e = e} {done = zero} told mid t u s start f ne =
     let is = s.first refl in
     subst (λ x. NamesBad told t.height t.root x) (sym is)
     (subst (λ (x : Tree). NamesBad told x.height x.root e) (start refl).1
     (subst (λ o. NamesBad o u.height u.root e) (start refl).0 (f (λ z. ne (is ∙ z)))))
-run_names e stop (suc n) told mid t u s start f ne = zero_names told t.height t.root stop (s.later (omega arith)) ne
+run_names {stop = stop} {done = (suc n)} told mid t u s start f ne = zero_names told t.height t.root stop (s.later (omega arith)) ne
 
 least_rises : (top before mid now : ℕ) → before ≤ mid → min (mid + 1) top ≤ now → min (before + 1) top ≤ now
 least_rises top before mid now le h = omega arith
@@ -225,9 +214,9 @@ least_rises top before mid now le h = omega arith
 rose : (before mid now : ℕ) → before ≤ mid → Rose mid now → Rose before now
 rose before mid now le h = least_rises causes.last before mid now le h
 
-pub run_cause : {T U : Type 0} (e stop : Stop) (done before mid now : ℕ) → StopsBehind e stop done → before ≤ mid → HasStopCause {T = U} mid now (Err e)
-    → HasStopCause {T = T} before now (Err stop)
-run_cause e stop done before mid now s le c = record {
+pub run_cause : {T U : Type 0} {e stop : Stop} {done : ℕ} (before : ℕ) {mid now : ℕ} → StopsBehind e stop done → before ≤ mid
+    → HasStopCause {T = U} mid now (Err e) → HasStopCause {T = T} before now (Err stop)
+run_cause {e = e} {stop = stop} before {mid = mid} {now = now} s le c = record {
   later = let m = c.later in omega arith;
   device = λ d. rose before mid now le (c.device (onto e (s.device (from stop d))));
 }
@@ -247,21 +236,25 @@ named_along r told now height page same f = subst (λ t. IfErr r (λ e. e ≢ Da
 spare_above : (q named page : ℕ) → named ≡ page → page < 1 → q < named + 1 → q ≡ 0
 spare_above q named page same lt le = omega arith
 
-pub names_spare : (told now : Option (List (List ℕ))) (height page named spare : ℕ) (e : Stop) → now ≡ told → 1 ≤ page
-    → ((named ≡ 0) ⊎ ((named ≡ page) × (page ≡ spare))) → NamesPage (named + 1) e → (named ≡ page → NamesBad now 1 page e) → height ≡ 1
-    → NamesSpare told height spare e
-names_spare told now height page named spare e same some (inl z) n b one = λ q is ne. absurd (ne (zero q named z (subst (NamesPage (named + 1)) is n)))
-  where
-    zero : (q m : ℕ) → m ≡ 0 → q < m + 1 → q ≡ 0
-    zero q m z lt = omega arith
-names_spare told now height page named spare e same some (inr p) n b one = λ q is ne. (
-  one,
-  over page spare p.1 some,
-  subst (λ s. NamesBad told 1 s e) p.1 (subst (λ t. NamesBad t 1 page e) same (b p.0)),
-)
-  where
-    over : (m n : ℕ) → m ≡ n → 1 ≤ m → n ≢ 0
-    over m n e le = λ z. omega arith
+module _ (told now : Option (List (List ℕ))) (height page : ℕ) (e : Stop) (same : now ≡ told) where
+  -- where the store tells the same
+  pub names_along : (e ≢ Damaged 0 → NamesBad now height page e) → e ≢ Damaged 0 → NamesBad told height page e
+  names_along f = subst (λ t. e ≢ Damaged 0 → NamesBad t height page e) same f
+
+  pub names_spare : (named spare : ℕ) → 1 ≤ page → ((named ≡ 0) ⊎ ((named ≡ page) × (page ≡ spare))) → NamesPage (named + 1) e
+      → (named ≡ page → NamesBad now 1 page e) → height ≡ 1 → NamesSpare told height spare e
+  names_spare named spare some (inl z) n b one = λ q is ne. absurd (ne (zero q named z (subst (NamesPage (named + 1)) is n)))
+    where
+      zero : (q m : ℕ) → m ≡ 0 → q < m + 1 → q ≡ 0
+      zero q m z lt = omega arith
+  names_spare named spare some (inr p) n b one = λ q is ne. (
+    one,
+    over page spare p.1 some,
+    subst (λ s. NamesBad told 1 s e) p.1 (subst (λ t. NamesBad t 1 page e) same (b p.0)),
+  )
+    where
+      over : (m n : ℕ) → m ≡ n → 1 ≤ m → n ≢ 0
+      over m n e le = λ z. omega arith
 
 pub no_spare : (told : Option (List (List ℕ))) (height spare : ℕ) (e : Stop) → NamesPage 1 e → NamesSpare told height spare e
 no_spare told height spare e n = λ q is ne. absurd (ne (zero q (subst (NamesPage 1) is n)))
@@ -286,11 +279,11 @@ no_besides (Err e) told height inner i f = no_beside told height inner i e f
     no_beside told height inner i e n = λ q is ne. absurd (ne (zero q (subst (NamesPage 1) is n)))
 
 -- the leaf beside a child
-pub names_beside : (told : Option (List (List ℕ))) (height : ℕ) (inner : Inner) (i j left right child spare : ℕ) (e : Stop) → 2 ≤ height
-    → j + 1 < length inner.children
-    → left ≡ slice_index inner.children j → right ≡ slice_index inner.children (j + 1) → child ≡ slice_index inner.children i
-    → (spare ≢ 0 → ((spare ≡ left) ⊎ (spare ≡ right)) × (spare ≢ child)) → NamesSpare told (height - 1) spare e → NamesBeside told height inner i e
-names_beside told height inner i j left right child spare e many lt l r c other names = λ q is ne.
+pub names_beside : (told : Option (List (List ℕ))) (height : ℕ) (inner : Inner) (i j : ℕ) {left right child : ℕ} (spare : ℕ) (e : Stop) → 2 ≤ height
+    → j + 1 < length inner.children → left ≡ slice_index inner.children j → right ≡ slice_index inner.children (j + 1)
+    → child ≡ slice_index inner.children i → (spare ≢ 0 → ((spare ≡ left) ⊎ (spare ≡ right)) × (spare ≢ child)) → NamesSpare told (height - 1) spare e
+    → NamesBeside told height inner i e
+names_beside told height inner i j {left = left} {right = right} {child = child} spare e many lt l r c other names = λ q is ne.
     let n = names q is ne in
     let o = other n.1 in
     let two : height ≡ 2 = let h = n.0 in omega arith in
@@ -313,14 +306,15 @@ names_beside told height inner i j left right child spare e many lt l r c other 
     }
 
 -- and it is bad at the call, since it was not written
-pub beside_named : {T : Type 0} (result : Result T Stop) (told mid now : Option (List (List ℕ))) (page height size i child : ℕ) (bytes : List ℕ) (inner : Inner)
-    → IsRead told mid page height size bytes → inner_of size bytes ≡ Some inner → child ≡ slice_index inner.children i
-    → (height - 1 ≡ 1 → Goes (OthersStay child) mid now) → IfErr result (NamesBeside now height inner i)
+pub beside_named : {T : Type 0} (result : Result T Stop) {told mid : Option (List (List ℕ))} (now : Option (List (List ℕ))) {page height size : ℕ}
+    (i : ℕ) {child : ℕ} {bytes : List ℕ} (inner : Inner) → IsRead told mid page height size bytes → inner_of size bytes ≡ Some inner
+    → child ≡ slice_index inner.children i → (height - 1 ≡ 1 → Goes (OthersStay child) mid now) → IfErr result (NamesBeside now height inner i)
     → IfErr result (λ e. e ≢ Damaged 0 → NamesBad told height page e)
-beside_named (Ok v) told mid now page height size i child bytes inner r is c others f = f
-beside_named (Err Device) told mid now page height size i child bytes inner r is c others f = λ ne. tt
-beside_named (Err Memory) told mid now page height size i child bytes inner r is c others f = λ ne. tt
-beside_named (Err (Damaged q)) told mid now page height size i child bytes inner r is c others f = λ ne.
+beside_named (Ok v) now i inner r is c others f = f
+beside_named (Err Device) now i inner r is c others f = λ ne. tt
+beside_named (Err Memory) now i inner r is c others f = λ ne. tt
+beside_named (Err (Damaged q)) {told = told} {mid = mid} now {page = page} {height = height} {size = size} i {child = child} {bytes = bytes} inner r is c others f
+    = λ ne.
     let b = f q refl (λ z. ne (ap Damaged z)) in
     let one : height - 1 ≡ 1 = let t = b.two in omega arith in
     let l = inner_list size bytes inner is in

@@ -10,72 +10,67 @@ use Rattle.quilt_btree.proofs.subtrees.Descending.{height_above}
 one_less : (height h : ℕ) → height ≡ suc (suc h) → suc h ≡ height - 1
 one_less height h e = omega arith
 
--- an inner page, with the child to which the last record leads
-pub last_splits : (pages : List (List ℕ)) (height page child n : ℕ) (inner : Inner) → 1 ≤ height → height ≢ 1
-    → inner_of (length pages) (slice_index_or pages page []) ≡ Some inner → n ≡ length inner.children
-    → child ≡ slice_index inner.children (n - 1) → last_pages pages height page ≡ page ∷ last_pages pages (height - 1) child
-last_splits pages height page child n inner some ne here many is =
-    let up = height_above height some ne in
-    let same : child ≡ slice_index inner.children (length inner.children - 1) = is ∙ ap (λ m. slice_index inner.children (m - 1)) many in
-    ap (λ m. last_pages pages m page) up.1 ∙ ap (λ o. page ∷ last_below (last_pages pages (suc up.0)) o) here
-    ∙ ap (λ c. page ∷ last_pages pages (suc up.0) c) (sym same) ∙ ap (λ m. page ∷ last_pages pages m child) (one_less height up.0 up.1)
+module _ (pages : List (List ℕ)) (k : Key) (height page child i : ℕ) (inner : Inner) (some : 1 ≤ height) (ne : height ≢ 1)
+    (here : inner_of (length pages) (slice_index_or pages page []) ≡ Some inner) (place : i ≡ place_of k inner)
+    (is : child ≡ slice_index inner.children i) where
+  -- and with that to which a key leads
+  pub floor_splits : floor_pages pages k height page ≡ page ∷ (floor_pages pages k (height - 1) child ++ before_child (finds_floor pages k (height - 1)) (last_pages pages (height - 1)) inner i)
+  floor_splits =
+      let up = height_above height some ne in
+      ap (λ m. floor_pages pages k m page) up.1
+      ∙ ap (λ o. page ∷ floor_below (floor_pages pages k (suc up.0)) (finds_floor pages k (suc up.0)) (last_pages pages (suc up.0)) k o) here
+      ∙ ap (λ j. page ∷ (floor_pages pages k (suc up.0) (slice_index inner.children j)
+      ++ before_child (finds_floor pages k (suc up.0)) (last_pages pages (suc up.0)) inner j)) (sym place)
+      ∙ ap (λ c. page ∷ (floor_pages pages k (suc up.0) c ++ before_child (finds_floor pages k (suc up.0)) (last_pages pages (suc up.0)) inner i)) (sym is)
+      ∙ ap (λ m. page ∷ (floor_pages pages k m child ++ before_child (finds_floor pages k m) (last_pages pages m) inner i)) (one_less height up.0 up.1)
 
--- and with that to which a key leads
-pub floor_splits : (pages : List (List ℕ)) (k : Key) (height page child i : ℕ) (inner : Inner) → 1 ≤ height → height ≢ 1
-    → inner_of (length pages) (slice_index_or pages page []) ≡ Some inner → i ≡ place_of k inner
-    → child ≡ slice_index inner.children i
-    → floor_pages pages k height page ≡ page
-    ∷ (floor_pages pages k (height - 1) child ++ before_child (finds_floor pages k (height - 1)) (last_pages pages (height - 1)) inner i)
-floor_splits pages k height page child i inner some ne here place is =
-    let up = height_above height some ne in
-    ap (λ m. floor_pages pages k m page) up.1
-    ∙ ap (λ o. page ∷ floor_below (floor_pages pages k (suc up.0)) (finds_floor pages k (suc up.0)) (last_pages pages (suc up.0)) k o) here
-    ∙ ap (λ j. page ∷ (floor_pages pages k (suc up.0) (slice_index inner.children j)
-    ++ before_child (finds_floor pages k (suc up.0)) (last_pages pages (suc up.0)) inner j)) (sym place)
-    ∙ ap (λ c. page ∷ (floor_pages pages k (suc up.0) c ++ before_child (finds_floor pages k (suc up.0)) (last_pages pages (suc up.0)) inner i)) (sym is)
-    ∙ ap (λ m. page ∷ (floor_pages pages k m child ++ before_child (finds_floor pages k m) (last_pages pages m) inner i)) (one_less height up.0 up.1)
+  pub finds_splits : finds_floor pages k height page ≡ (nat_lt 0 i || finds_floor pages k (height - 1) child)
+  finds_splits =
+      let up = height_above height some ne in
+      ap (λ m. finds_floor pages k m page) up.1 ∙ ap (λ o. finds_below (finds_floor pages k (suc up.0)) k o) here
+      ∙ ap (λ j. nat_lt 0 j || finds_floor pages k (suc up.0) (slice_index inner.children j)) (sym place)
+      ∙ ap (λ c. nat_lt 0 i || finds_floor pages k (suc up.0) c) (sym is)
+      ∙ ap (λ m. nat_lt 0 i || finds_floor pages k m child) (one_less height up.0 up.1)
 
-pub finds_splits : (pages : List (List ℕ)) (k : Key) (height page child i : ℕ) (inner : Inner) → 1 ≤ height → height ≢ 1
-    → inner_of (length pages) (slice_index_or pages page []) ≡ Some inner → i ≡ place_of k inner
-    → child ≡ slice_index inner.children i
-    → finds_floor pages k height page ≡ (nat_lt 0 i || finds_floor pages k (height - 1) child)
-finds_splits pages k height page child i inner some ne here place is =
-    let up = height_above height some ne in
-    ap (λ m. finds_floor pages k m page) up.1 ∙ ap (λ o. finds_below (finds_floor pages k (suc up.0)) k o) here
-    ∙ ap (λ j. nat_lt 0 j || finds_floor pages k (suc up.0) (slice_index inner.children j)) (sym place)
-    ∙ ap (λ c. nat_lt 0 i || finds_floor pages k (suc up.0) c) (sym is)
-    ∙ ap (λ m. nat_lt 0 i || finds_floor pages k m child) (one_less height up.0 up.1)
+module _ (pages : List (List ℕ)) (height child : ℕ) (inner : Inner) where
+  -- an inner page, with the child to which the last record leads
+  pub last_splits : (page n : ℕ) → 1 ≤ height → height ≢ 1 → inner_of (length pages) (slice_index_or pages page []) ≡ Some inner
+      → n ≡ length inner.children → child ≡ slice_index inner.children (n - 1)
+      → last_pages pages height page ≡ page ∷ last_pages pages (height - 1) child
+  last_splits page n some ne here many is =
+      let up = height_above height some ne in
+      let same : child ≡ slice_index inner.children (length inner.children - 1) = is ∙ ap (λ m. slice_index inner.children (m - 1)) many in
+      ap (λ m. last_pages pages m page) up.1 ∙ ap (λ o. page ∷ last_below (last_pages pages (suc up.0)) o) here
+      ∙ ap (λ c. page ∷ last_pages pages (suc up.0) c) (sym same) ∙ ap (λ m. page ∷ last_pages pages m child) (one_less height up.0 up.1)
 
--- no more is read where the child has the record, or none stands before it
-pub found_here : (pages : List (List ℕ)) (k : Key) (height child i : ℕ) (inner : Inner) → child ≡ slice_index inner.children i
-    → finds_floor pages k height child ≡ true
-    → before_child (finds_floor pages k height) (last_pages pages height) inner i ≡ []
-found_here pages k height child i inner is h =
-    let yes : (finds_floor pages k height (slice_index inner.children i) || i == 0) ≡ true =
-    ap (λ c. finds_floor pages k height c || i == 0) (sym is) ∙ ap (λ b. b || i == 0) h in
-    ap (λ b. if b then [] else last_pages pages height (slice_index inner.children (i - 1))) yes
+  -- no more is read where the child has the record, or none stands before it
+  pub found_here : (k : Key) (i : ℕ) → child ≡ slice_index inner.children i → finds_floor pages k height child ≡ true
+      → before_child (finds_floor pages k height) (last_pages pages height) inner i ≡ []
+  found_here k i is h =
+      let yes : (finds_floor pages k height (slice_index inner.children i) || i == 0) ≡ true =
+      ap (λ c. finds_floor pages k height c || i == 0) (sym is) ∙ ap (λ b. b || i == 0) h in
+      ap (λ b. if b then [] else last_pages pages height (slice_index inner.children (i - 1))) yes
 
-pub none_before : (pages : List (List ℕ)) (k : Key) (height i : ℕ) (inner : Inner) → i ≡ 0
-    → before_child (finds_floor pages k height) (last_pages pages height) inner i ≡ []
-none_before pages k height i inner e =
-    ap (λ b. if b then [] else last_pages pages height (slice_index inner.children (i - 1)))
-    (either (finds_floor pages k height (slice_index inner.children i)) i e)
-  where
-    either : (b : Bool) (i : ℕ) → i ≡ 0 → (b || i == 0) ≡ true
-    either b i e = grind (arith, nat_tests)
+module _ (pages : List (List ℕ)) (k : Key) (height : ℕ) where
+  pub none_before : (i : ℕ) (inner : Inner) → i ≡ 0 → before_child (finds_floor pages k height) (last_pages pages height) inner i ≡ []
+  none_before i inner e =
+      ap (λ b. if b then [] else last_pages pages height (slice_index inner.children (i - 1)))
+      (either (finds_floor pages k height (slice_index inner.children i)) i e)
+    where
+      either : (b : Bool) (i : ℕ) → i ≡ 0 → (b || i == 0) ≡ true
+      either b i e = grind (arith, nat_tests)
 
--- and else the pages of the last record there
-pub child_before : (pages : List (List ℕ)) (k : Key) (height child prior i : ℕ) (inner : Inner) → child ≡ slice_index inner.children i
-    → prior ≡ slice_index inner.children (i - 1)
-    → finds_floor pages k height child ≡ false → i ≢ 0
-    → before_child (finds_floor pages k height) (last_pages pages height) inner i ≡ last_pages pages height prior
-child_before pages k height child prior i inner is was h ne =
-    ap (λ b. if b then [] else last_pages pages height (slice_index inner.children (i - 1)))
-    (either (finds_floor pages k height (slice_index inner.children i)) i (ap (finds_floor pages k height) (sym is) ∙ h) ne)
-    ∙ ap (last_pages pages height) (sym was)
-  where
-    either : (b : Bool) (i : ℕ) → b ≡ false → i ≢ 0 → (b || i == 0) ≡ false
-    either b i e ne = grind (arith, nat_tests)
+  -- and else the pages of the last record there
+  pub child_before : (child prior i : ℕ) (inner : Inner) → child ≡ slice_index inner.children i → prior ≡ slice_index inner.children (i - 1)
+      → finds_floor pages k height child ≡ false → i ≢ 0 → before_child (finds_floor pages k height)
+      (last_pages pages height) inner i ≡ last_pages pages height prior
+  child_before child prior i inner is was h ne =
+      ap (λ b. if b then [] else last_pages pages height (slice_index inner.children (i - 1)))
+      (either (finds_floor pages k height (slice_index inner.children i)) i (ap (finds_floor pages k height) (sym is) ∙ h) ne)
+      ∙ ap (last_pages pages height) (sym was)
+    where
+      either : (b : Bool) (i : ℕ) → b ≡ false → i ≢ 0 → (b || i == 0) ≡ false
+      either b i e ne = grind (arith, nat_tests)
 
 -- how many pages they are
 few_last : (under : ℕ → List ℕ) (n : ℕ) (o : Option Inner) → ((c : ℕ) → length (under c) ≤ n) → length (last_below under o) ≤ n
@@ -86,7 +81,8 @@ pub length_last : (pages : List (List ℕ)) (height page : ℕ) → length (last
 length_last pages zero page = omega arith
 length_last pages (suc zero) page = omega arith
 length_last pages (suc (suc h)) page =
-    let below = few_last (last_pages pages (suc h)) (suc h) (inner_of (length pages) (slice_index_or pages page [])) (λ c. length_last pages (suc h) c) in
+    let below = few_last (last_pages pages (suc h)) (suc h) (inner_of (length pages) (slice_index_or pages page []))
+    (λ c. length_last pages (suc h) c) in
     omega arith
 
 few_floor : (under : ℕ → List ℕ) (finds : ℕ → Bool) (last : ℕ → List ℕ) (k : Key) (m n : ℕ) (o : Option Inner) → ((c : ℕ) → length (under c) ≤ m)

@@ -1,5 +1,6 @@
 -- What the bytes of a page say of the subtree there: the child to which a key leads, and the last one.
 use Rattle.std.proofs.Common.{◌≡◌, ◌≢◌, ◌⊎◌, ℕ, zero, suc, ◌-◌, ◌<◌, ◌≤◌, true, ◌&&◌, nat_le, nat_lt, List, [], ◌∷◌, ◌++◌, length, Option, Some, None, Result}
+use Rattle.std.proofs.lemmas.Bool.{and_parts}
 use Rattle.std.proofs.Common.{Ok, Err, IfOk, IfErr, IfSome, OnOk, slice_index, slice_index_or, refl, sym, ◌∙◌, ap, subst, append_assoc, arith}
 use Rattle.std.specs.List.{last_or}
 use Rattle.std.specs.Ordering.{is_lt}
@@ -20,7 +21,6 @@ use Rattle.quilt_btree.specs.Trees.{Spells, ReadsInner, IsTree}
 use Rattle.quilt_btree.specs.Floors.{place_of, last_pages, floor_pages, TouchesInTurn, HoldsFirst, ReadsNone}
 use Rattle.quilt_btree.specs.Searches.{IsFork, AreOf, IsLeafFor}
 use Rattle.quilt_btree.proofs.lists.Rising.{all_append}
-use Rattle.quilt_btree.proofs.subtrees.Walks.{and_parts}
 use Rattle.quilt_btree.proofs.lists.Lists.{IsAmong, value_between}
 use Rattle.quilt_btree.proofs.stores.Held.{OneFree}
 use Rattle.quilt_btree.proofs.subtrees.Descending.{height_above, leads_below, along_told, AtFloor, ends_below, last_up}
@@ -44,16 +44,17 @@ pub record IsHere (told : Option (List (List ℕ))) (page height size : ℕ) (by
   pub is : inner_of size bytes ≡ Some inner
   pub is_height : inner.height ≡ height
 
-pub page_here : (old new : Option (List (List ℕ))) (page height size : ℕ) (bytes : List ℕ) (rs : List Record) → IsRead old new page height size bytes
+pub page_here : {old new : Option (List (List ℕ))} {page height size : ℕ} {bytes : List ℕ} {rs : List Record} → IsRead old new page height size bytes
     → Spells old page height rs → IsHere old page height size bytes
-page_here old new page height size bytes rs r s =
+page_here {page = page} {height = height} {size = size} {bytes = bytes} {rs = rs} r s =
     let n = height_above height r.some r.above in
     let t = subst (λ n. Subtree s.pages n s.is_root (page, s.bounds) rs s.used) n.1 s.subtree in
     let same : bytes ≡ slice_index_or s.pages page [] = r.are s.pages s.is_told in
     let long : length s.pages ≡ size = subst (λ o. IfSome o (λ pages. length pages ≡ size)) s.is_told r.many in
     record {
       inner = t.inner;
-      reads = λ pages is. subst (λ ps. inner_of (length ps) (slice_index_or ps page []) ≡ Some t.inner) (one s.pages pages (sym s.is_told ∙ is)) t.page;
+      reads = λ pages is. subst (λ ps. inner_of (length ps) (slice_index_or ps page []) ≡ Some t.inner) (one s.pages pages (sym s.is_told ∙ is))
+          t.page;
       is = ap (inner_of size) same ∙ ap (λ m. inner_of m (slice_index_or s.pages page [])) (sym long) ∙ t.page;
       is_height = t.is_height ∙ sym n.1;
     }
@@ -87,52 +88,41 @@ pub record Forked (old new : Option (List (List ℕ))) (page height : ℕ) (k : 
   pub first : prior ≡ None → i ≡ 0
   pub later : (p : ℕ) → prior ≡ Some p → HasPrior old height inner i p
 
-pub forked : (old new : Option (List (List ℕ))) (page height size : ℕ) (bytes : List ℕ) (k : Key) (child : ℕ) (prior : Option ℕ) (rs : List Record)
-    → IsRead old new page height size bytes
-    → ((inner : Inner) → inner_of size bytes ≡ Some inner → IsFork k inner child prior) → Spells old page height rs
-    → Forked old new page height k child prior rs
-forked old new page height size bytes k child prior rs r fork s =
-    let h = page_here old new page height size bytes rs r s in
-    let f = fork h.inner h.is in
-    let low = leads_below old page height rs h.inner f.place k r.some r.above s h.reads f.is_place in
-    record {
-      inner = h.inner;
-      i = f.place;
-      at = record { told = r.told; some = r.some; above = r.above; reads = h.reads; place = f.is_place; is_child = f.child_is };
-      number = f.number;
-      before = low.first;
-      here = low.here;
-      behind = low.last;
-      among = low.among;
-      spells = subst (λ c. Spells new c (height - 1) low.here) (sym f.child_is)
-          (along_told old new (slice_index h.inner.children f.place) (height - 1) low.here r.told low.spells);
-      first = f.first;
-      later = λ p e.
-          let q = f.later p e in
-          let some : f.place ≢ 0 = q.0 in
-          let n : f.place ≡ suc (f.place - 1) = omega arith in
-          let b = low.before (f.place - 1) n in
-          record { some = q.0; is = q.1; here = b.1; spells = subst (λ c. Spells old c (height - 1) b.1) (sym q.1) b.3 };
-    }
+module _ (old new : Option (List (List ℕ))) (page height size : ℕ) (bytes : List ℕ) where
+  pub forked : (k : Key) (child : ℕ) (prior : Option ℕ) (rs : List Record) → IsRead old new page height size bytes
+      → ((inner : Inner) → inner_of size bytes ≡ Some inner → IsFork k inner child prior) → Spells old page height rs
+      → Forked old new page height k child prior rs
+  forked k child prior rs r fork s =
+      let h = page_here r s in
+      let f = fork h.inner h.is in
+      let low = leads_below old page height rs h.inner f.place k r.some r.above s h.reads f.is_place in
+      record {
+        inner = h.inner;
+        i = f.place;
+        at = record { told = r.told; some = r.some; above = r.above; reads = h.reads; place = f.is_place; is_child = f.child_is };
+        number = f.number;
+        before = low.first;
+        here = low.here;
+        behind = low.last;
+        among = low.among;
+        spells = subst (λ c. Spells new c (height - 1) low.here) (sym f.child_is)
+            (along_told old new (slice_index h.inner.children f.place) (height - 1) low.here r.told low.spells);
+        first = f.first;
+        later = λ p e.
+            let q = f.later p e in
+            let some : f.place ≢ 0 = q.0 in
+            let n : f.place ≡ suc (f.place - 1) = omega arith in
+            let b = low.before (f.place - 1) n in
+            record { some = q.0; is = q.1; here = b.1; spells = subst (λ c. Spells old c (height - 1) b.1) (sym q.1) b.3 };
+      }
 
--- a page above the leaves forks
-pub forks : (old new : Option (List (List ℕ))) (page height size : ℕ) (bytes : List ℕ) (e : Stop) → IsRead old new page height size bytes
-    → ((inner : Inner) → inner_of size bytes ≡ Some inner → ⊥) → (rs : List Record) → Spells old page height rs → IsSound e
-forks old new page height size bytes e r none rs s = let h = page_here old new page height size bytes rs r s in absurd (none h.inner h.is)
+  -- a page above the leaves forks
+  pub forks : (e : Stop) → IsRead old new page height size bytes → ((inner : Inner) → inner_of size bytes ≡ Some inner → ⊥) → (rs : List Record)
+      → Spells old page height rs → IsSound e
+  forks e r none rs s = let h = page_here r s in absurd (none h.inner h.is)
 
-pub leaf_led : (told : Option (List (List ℕ))) (page height : ℕ) (bytes : List ℕ) (k : Key) → height ≡ 1 → AreOf told page bytes → (rs : List Record)
-    → Spells told page height rs → IsLeafFor k rs bytes
-leaf_led told page height bytes k one are rs s = record {
-  here = rs;
-  is_leaf = leaf_here told page height bytes rs one are s;
-  before = [];
-  behind = [];
-  records = sym (append-nil rs);
-  lower = refl;
-  higher = refl;
-}
-
-led_up : (k : Key) (before here behind rs : List Record) (bytes : List ℕ) → IsAmong k before here behind rs → IsLeafFor k here bytes → IsLeafFor k rs bytes
+led_up : (k : Key) (before here behind rs : List Record) (bytes : List ℕ) → IsAmong k before here behind rs → IsLeafFor k here bytes
+    → IsLeafFor k rs bytes
 led_up k before here behind rs bytes a l = record {
   here = l.here;
   is_leaf = l.is_leaf;
@@ -145,30 +135,30 @@ led_up k before here behind rs bytes a l = record {
   higher = all_append (λ (r : Record). is_lt (key_cmp k r.key)) l.behind behind l.higher a.higher;
 }
 
--- the leaf's page in place of its bytes
-pub led_page : (r : Result ℕ Stop) (old new : Option (List (List ℕ))) (page height size : ℕ) (bytes : List ℕ) (k : Key) (child : ℕ)
-    (prior : Option ℕ) → IsRead old new page height size bytes
-    → ((inner : Inner) → inner_of size bytes ≡ Some inner → IsFork k inner child prior)
-    → IfOk r (λ leaf. (rs : List Record) → Spells new child (height - 1) rs → (last : List ℕ) → AreOf new leaf last → IsLeafFor k rs last)
-    → IfOk r (λ leaf. (rs : List Record) → Spells old page height rs → (last : List ℕ) → AreOf old leaf last → IsLeafFor k rs last)
-led_page (Err e) old new page height size bytes k child prior r fork f = f
-led_page (Ok leaf) old new page height size bytes k child prior r fork f = λ rs s last are.
-    let a = forked old new page height size bytes k child prior rs r fork s in
-    led_up k a.before a.here a.behind rs last a.among (f a.here a.spells last (λ pages is. are pages (sym r.told ∙ is)))
-
 -- what a lent page shows
-pub are_of : (told : Option (List (List ℕ))) (page : ℕ) (bytes : List ℕ) → IfSome told (λ pages. bytes ≡ slice_index_or pages page []) → AreOf told page bytes
+pub are_of : (told : Option (List (List ℕ))) (page : ℕ) (bytes : List ℕ) → IfSome told (λ pages. bytes ≡ slice_index_or pages page [])
+    → AreOf told page bytes
 are_of told page bytes shown = λ pages is. subst (λ o. IfSome o (λ ps. bytes ≡ slice_index_or ps page [])) is shown
 
-pub sound_on : {T : Type 0} (r : Result T Stop) (old new : Option (List (List ℕ))) (page height size : ℕ) (bytes : List ℕ) (k : Key) (child : ℕ)
-    (prior : Option ℕ) → IsRead old new page height size bytes
-    → ((inner : Inner) → inner_of size bytes ≡ Some inner → IsFork k inner child prior)
-    → IfErr r (λ e. (rs : List Record) → Spells new child (height - 1) rs → IsSound e)
-    → IfErr r (λ e. (rs : List Record) → Spells old page height rs → IsSound e)
-sound_on (Ok v) old new page height size bytes k child prior r fork f = f
-sound_on (Err e) old new page height size bytes k child prior r fork f = λ rs s.
-    let a = forked old new page height size bytes k child prior rs r fork s in
-    f a.here a.spells
+module _ (old new : Option (List (List ℕ))) (page height size : ℕ) (bytes : List ℕ) (k : Key) (child : ℕ) (prior : Option ℕ) where
+  -- the leaf's page in place of its bytes
+  pub led_page : (r : Result ℕ Stop) → IsRead old new page height size bytes
+      → ((inner : Inner) → inner_of size bytes ≡ Some inner → IsFork k inner child prior)
+      → IfOk r (λ leaf. (rs : List Record) → Spells new child (height - 1) rs → (last : List ℕ) → AreOf new leaf last → IsLeafFor k rs last)
+      → IfOk r (λ leaf. (rs : List Record) → Spells old page height rs → (last : List ℕ) → AreOf old leaf last → IsLeafFor k rs last)
+  led_page (Err e) r fork f = f
+  led_page (Ok leaf) r fork f = λ rs s last are.
+      let a = forked old new page height size bytes k child prior rs r fork s in
+      led_up k a.before a.here a.behind rs last a.among (f a.here a.spells last (λ pages is. are pages (sym r.told ∙ is)))
+
+  pub sound_on : {T : Type 0} (r : Result T Stop) → IsRead old new page height size bytes
+      → ((inner : Inner) → inner_of size bytes ≡ Some inner → IsFork k inner child prior)
+      → IfErr r (λ e. (rs : List Record) → Spells new child (height - 1) rs → IsSound e)
+      → IfErr r (λ e. (rs : List Record) → Spells old page height rs → IsSound e)
+  sound_on (Ok v) r fork f = f
+  sound_on (Err e) r fork f = λ rs s.
+      let a = forked old new page height size bytes k child prior rs r fork s in
+      f a.here a.spells
 
 pub value_led : (k : Key) (rs : List Record) (bytes : List ℕ) (v : Option (List ℕ)) → IsLeafFor k rs bytes
     → ((here : List Record) → leaf_of bytes ≡ Some here → v ≡ value_of k here) → v ≡ value_of k rs
@@ -185,59 +175,61 @@ pub record Ended (old new : Option (List (List ℕ))) (page height child : ℕ) 
 some_same : (c d : ℕ) → Some c ≡ Some d → c ≡ d
 some_same c d h = cc
 
-pub ended : (old new : Option (List (List ℕ))) (page height size : ℕ) (bytes : List ℕ) (child : ℕ) (rs : List Record) → IsRead old new page height size bytes
-    → ((inner : Inner) → inner_of size bytes ≡ Some inner → Some child ≡ Some (slice_index inner.children (length inner.children - 1)))
-    → Spells old page height rs → Ended old new page height child
-ended old new page height size bytes child rs r f s =
-    let h = page_here old new page height size bytes rs r s in
-    let is = some_same child (slice_index h.inner.children (length h.inner.children - 1)) (f h.inner h.is) in
-    let e = ends_below old page height child (length h.inner.children) h.inner r.some r.above h.reads refl is rs s in
-    record {
-      inner = h.inner;
-      at = record { told = r.told; some = r.some; above = r.above; reads = h.reads; many = refl; is_child = is };
-      here = e.here;
-      spells = along_told old new child (height - 1) e.here r.told e.spells;
-    }
+module _ (page height : ℕ) (bytes : List ℕ) where
+  pub leaf_led : (told : Option (List (List ℕ))) (k : Key) → height ≡ 1 → AreOf told page bytes → (rs : List Record) → Spells told page height rs
+      → IsLeafFor k rs bytes
+  leaf_led told k one are rs s = record {
+    here = rs;
+    is_leaf = leaf_here told page height bytes rs one are s;
+    before = [];
+    behind = [];
+    records = sym (append-nil rs);
+    lower = refl;
+    higher = refl;
+  }
+
+  pub ended : (old new : Option (List (List ℕ))) (size child : ℕ) (rs : List Record) → IsRead old new page height size bytes
+      → ((inner : Inner) → inner_of size bytes ≡ Some inner → Some child ≡ Some (slice_index inner.children (length inner.children - 1)))
+      → Spells old page height rs → Ended old new page height child
+  ended old new size child rs r f s =
+      let h = page_here r s in
+      let is = some_same child (slice_index h.inner.children (length h.inner.children - 1)) (f h.inner h.is) in
+      let e = ends_below page height child (length h.inner.children) h.inner r.some r.above refl is old h.reads rs s in
+      record {
+        inner = h.inner;
+        at = record { told = r.told; some = r.some; above = r.above; reads = h.reads; many = refl; is_child = is };
+        here = e.here;
+        spells = along_told old new child (height - 1) e.here r.told e.spells;
+      }
 
 abbrev pub IsLast : ℕ → List ℕ → ℕ → Type 0
 IsLast size bytes child = (inner : Inner) → inner_of size bytes ≡ Some inner → Some child ≡ Some (slice_index inner.children (length inner.children - 1))
 
-pub last_on : (r : Result Record Stop) (old new : Option (List (List ℕ))) (page height size : ℕ) (bytes : List ℕ) (child : ℕ)
-    → IsRead old new page height size bytes → IsLast size bytes child
-    → IfOk r (λ x. (rs : List Record) → Spells new child (height - 1) rs → last_or None rs ≡ Some x)
-    → IfOk r (λ x. (rs : List Record) → Spells old page height rs → last_or None rs ≡ Some x)
-last_on (Err e) old new page height size bytes child r is f = f
-last_on (Ok x) old new page height size bytes child r is f = λ rs s.
-    let a = ended old new page height size bytes child rs r is s in
-    last_up (Ok x) old new page height child (length a.inner.children) a.inner r.told r.some r.above a.at.reads refl a.at.is_child f rs s
+module _ (old new : Option (List (List ℕ))) (page height size : ℕ) (bytes : List ℕ) (child : ℕ) where
+  pub last_on : (r : Result Record Stop) → IsRead old new page height size bytes → IsLast size bytes child
+      → IfOk r (λ x. (rs : List Record) → Spells new child (height - 1) rs → last_or None rs ≡ Some x)
+      → IfOk r (λ x. (rs : List Record) → Spells old page height rs → last_or None rs ≡ Some x)
+  last_on (Err e) r is f = f
+  last_on (Ok x) r is f = λ rs s.
+      let a = ended page height bytes old new size child rs r is s in
+      last_up page height child (length a.inner.children) a.inner r.some r.above refl a.at.is_child (Ok x) old new r.told a.at.reads f rs s
 
-pub sound_last : {T : Type 0} (r : Result T Stop) (old new : Option (List (List ℕ))) (page height size : ℕ) (bytes : List ℕ) (child : ℕ)
-    → IsRead old new page height size bytes → IsLast size bytes child
-    → IfErr r (λ e. (rs : List Record) → Spells new child (height - 1) rs → IsSound e)
-    → IfErr r (λ e. (rs : List Record) → Spells old page height rs → IsSound e)
-sound_last (Ok v) old new page height size bytes child r is f = f
-sound_last (Err e) old new page height size bytes child r is f = λ rs s.
-    let a = ended old new page height size bytes child rs r is s in
-    f a.here a.spells
+  pub sound_last : {T : Type 0} (r : Result T Stop) → IsRead old new page height size bytes → IsLast size bytes child
+      → IfErr r (λ e. (rs : List Record) → Spells new child (height - 1) rs → IsSound e)
+      → IfErr r (λ e. (rs : List Record) → Spells old page height rs → IsSound e)
+  sound_last (Ok v) r is f = f
+  sound_last (Err e) r is f = λ rs s.
+      let a = ended page height bytes old new size child rs r is s in
+      f a.here a.spells
 
-pub touched_last : (r : Result Record Stop) (old new : Option (List (List ℕ))) (page height size : ℕ) (bytes : List ℕ) (child : ℕ)
-    (h0 h1 h2 : Option (List ℕ)) → IsRead old new page height size bytes → IsLast size bytes child
-    → Goes (Touches page) h0 h1
+pub touched_last : (r : Result Record Stop) {old new : Option (List (List ℕ))} {page height size : ℕ} {bytes : List ℕ} {child : ℕ}
+    (h0 h1 h2 : Option (List ℕ)) → IsRead old new page height size bytes → IsLast size bytes child → Goes (Touches page) h0 h1
     → OnOk r ((rs : List Record) → Spells new child (height - 1) rs → TouchesInTurn (λ pages. last_pages pages (height - 1) child) new h1 h2)
     → OnOk r ((rs : List Record) → Spells old page height rs → TouchesInTurn (λ pages. last_pages pages height page) old h0 h2)
-touched_last (Err e) old new page height size bytes child h0 h1 h2 r is t f = f
-touched_last (Ok x) old new page height size bytes child h0 h1 h2 r is t f = λ rs s.
-    let a = ended old new page height size bytes child rs r is s in
-    last_touched (Ok x) old new page height child (length a.inner.children) a.inner h0 h1 h2 a.at t (f a.here a.spells)
-
-pub again_last : (old new : Option (List (List ℕ))) (page height size : ℕ) (bytes : List ℕ) (child : ℕ) (h0 h1 : Option (List ℕ)) (a b c : Option ℕ)
-    → IsRead old new page height size bytes → IsLast size bytes child
-    → Goes (Touches page) h0 h1 → OneFree page h0 a b
-    → ((rs : List Record) → Spells new child (height - 1) rs → ReadsNone (λ pages. last_pages pages (height - 1) child) new h1 b c)
-    → (rs : List Record) → Spells old page height rs → ReadsNone (λ pages. last_pages pages height page) old h0 a c
-again_last old new page height size bytes child h0 h1 a b c r is t f g = λ rs s.
-    let at = ended old new page height size bytes child rs r is s in
-    last_again old new page height child (length at.inner.children) at.inner h0 h1 a b c at.at t f (g at.here at.spells)
+touched_last (Err e) h0 h1 h2 r is t f = f
+touched_last (Ok x) {old = old} {new = new} {page = page} {height = height} {size = size} {bytes = bytes} {child = child} h0 h1 h2 r is t f = λ rs s.
+    let a = ended page height bytes old new size child rs r is s in
+    last_touched (Ok x) h0 h1 h2 a.at t (f a.here a.spells)
 
 -- a child of a well formed page is a page
 pub child_page : (size : ℕ) (cs : List ℕ) (i : ℕ) → are_pages size cs ≡ true → i < length cs → (1 ≤ slice_index cs i) × (slice_index cs i < size)
@@ -284,46 +276,55 @@ before_inside size bytes inner k i is p = let lt = place_inside size bytes inner
 pub no_page : (size child : ℕ) → (child < 1) ⊎ ((1 ≤ child) × (size ≤ child)) → 1 ≤ child → child < size → ⊥
 no_page size child h a b = omega (arith, h)
 
-pub first_fork : (k : Key) (inner : Inner) (i child : ℕ) → IsPlace inner.keys k i → i ≡ place_of k inner → child ≡ slice_index inner.children i
-    → i ≡ 0 → IsFork k inner child None
-first_fork k inner i child p n e z = record {
-  place = i;
-  is_place = p;
-  number = n;
-  child_is = e;
-  first = λ h. z;
-  later = λ q h. absurd (differ q h);
-}
-  where
-    differ : (q : ℕ) → None ≡ Some q → ⊥
-    differ q h = cc
+module _ (k : Key) (inner : Inner) (i child : ℕ) where
+  pub first_fork : IsPlace inner.keys k i → i ≡ place_of k inner → child ≡ slice_index inner.children i → i ≡ 0 → IsFork k inner child None
+  first_fork p n e z = record {
+    place = i;
+    is_place = p;
+    number = n;
+    child_is = e;
+    first = λ h. z;
+    later = λ q h. absurd (differ q h);
+  }
+    where
+      differ : (q : ℕ) → None ≡ Some q → ⊥
+      differ q h = cc
 
-pub later_fork : (k : Key) (inner : Inner) (i child prior : ℕ) → IsPlace inner.keys k i → i ≡ place_of k inner → child ≡ slice_index inner.children i
-    → i ≢ 0 → prior ≡ slice_index inner.children (i - 1) → IsFork k inner child (Some prior)
-later_fork k inner i child prior p n e ne is = record {
-  place = i;
-  is_place = p;
-  number = n;
-  child_is = e;
-  first = λ h. absurd (differ prior h);
-  later = λ q h. (ne, sym (some_same prior q h) ∙ is);
-}
-  where
-    differ : (q : ℕ) → Some q ≡ None → ⊥
-    differ q h = cc
+  pub later_fork : (prior : ℕ) → IsPlace inner.keys k i → i ≡ place_of k inner → child ≡ slice_index inner.children i → i ≢ 0
+      → prior ≡ slice_index inner.children (i - 1) → IsFork k inner child (Some prior)
+  later_fork prior p n e ne is = record {
+    place = i;
+    is_place = p;
+    number = n;
+    child_is = e;
+    first = λ h. absurd (differ prior h);
+    later = λ q h. (ne, sym (some_same prior q h) ∙ is);
+  }
+    where
+      differ : (q : ℕ) → Some q ≡ None → ⊥
+      differ q h = cc
 
 pub gap_before : (k : Key) (rs : List Record) (i : ℕ) → IsGap k rs i → i ≢ 0 → i - 1 < length rs
 gap_before k rs i g ne = omega (arith, g.in_range)
 
-pub read_ok : (old new : Option (List (List ℕ))) (page height size n : ℕ) (bytes : List ℕ) → 1 ≤ height → height ≢ 1 → new ≡ old
-    → IfSome old (λ pages. length pages ≡ n) → size ≡ n → AreOf old page bytes → IsRead old new page height size bytes
-read_ok old new page height size n bytes some above told many e are = record {
-  some = some;
-  above = above;
-  told = told;
-  many = subst (λ m. IfSome old (λ pages. length pages ≡ m)) (sym e) many;
-  are = are;
-}
+module _ (old new : Option (List (List ℕ))) (page height size : ℕ) where
+  pub again_last : (bytes : List ℕ) (child : ℕ) (h0 h1 : Option (List ℕ)) (a b c : Option ℕ) → IsRead old new page height size bytes
+      → IsLast size bytes child → Goes (Touches page) h0 h1 → OneFree page h0 a b
+      → ((rs : List Record) → Spells new child (height - 1) rs → ReadsNone (λ pages. last_pages pages (height - 1) child) new h1 b c)
+      → (rs : List Record) → Spells old page height rs → ReadsNone (λ pages. last_pages pages height page) old h0 a c
+  again_last bytes child h0 h1 a b c r is t f g = λ rs s.
+      let at = ended page height bytes old new size child rs r is s in
+      last_again old new page height child (length at.inner.children) at.inner h0 h1 a b c at.at t f (g at.here at.spells)
+
+  pub read_ok : (n : ℕ) (bytes : List ℕ) → 1 ≤ height → height ≢ 1 → new ≡ old → IfSome old (λ pages. length pages ≡ n) → size ≡ n
+      → AreOf old page bytes → IsRead old new page height size bytes
+  read_ok n bytes some above told many e are = record {
+    some = some;
+    above = above;
+    told = told;
+    many = subst (λ m. IfSome old (λ pages. length pages ≡ m)) (sym e) many;
+    are = are;
+  }
 
 -- a leaf has a last record
 pub leaf_has_last : (bytes : List ℕ) → ((rs : List Record) → leaf_of bytes ≡ Some rs → None ≡ last_or None rs) → (rs : List Record)

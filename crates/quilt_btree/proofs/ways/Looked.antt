@@ -21,35 +21,35 @@ pub record IsLooked (old new : Option (List (List ℕ))) (height size : ℕ) : T
   pub told : new ≡ old
   pub many : IfSome old (λ pages. length pages ≡ size)
 
-pub read_of : (old new : Option (List (List ℕ))) (page height size : ℕ) (bytes : List ℕ) → IsLooked old new height size → AreOf old page bytes
-    → IsRead old new page height size bytes
-read_of old new page height size bytes l are = record { some = l.some; above = l.above; told = l.told; many = l.many; are = are }
+module _ (old new : Option (List (List ℕ))) (page height size : ℕ) where
+  pub read_of : (bytes : List ℕ) → IsLooked old new height size → AreOf old page bytes → IsRead old new page height size bytes
+  read_of bytes l are = record { some = l.some; above = l.above; told = l.told; many = l.many; are = are }
 
-pub fork_shown : (old new : Option (List (List ℕ))) (page height size : ℕ) (k : Key) (child : ℕ) (prior : Option ℕ) (rs : List Record)
-    → IsLooked old new height size → ShowsFork old page size k child prior → Spells old page height rs → Forked old new page height k child prior rs
-fork_shown old new page height size k child prior rs l f s =
-    forked old new page height size f.bytes k child prior rs (read_of old new page height size f.bytes l f.are) f.fork s
+  pub fork_shown : (k : Key) (child : ℕ) (prior : Option ℕ) (rs : List Record) → IsLooked old new height size → ShowsFork old page size k child prior
+      → Spells old page height rs → Forked old new page height k child prior rs
+  fork_shown k child prior rs l f s =
+      forked old new page height size f.bytes k child prior rs (read_of f.bytes l f.are) f.fork s
 
--- what a look at the bytes shows of the page
-pub shows_fork : (told : Option (List (List ℕ))) (page n size : ℕ) (bytes : List ℕ) (k : Key) (child : ℕ) (prior : Option ℕ) → n ≡ size
-    → IfSome told (λ pages. bytes ≡ slice_index_or pages page []) → HasChild n bytes child × IfSome prior (HasChild n bytes)
-    → ((inner : Inner) → inner_of n bytes ≡ Some inner → IsFork k inner child prior) → ShowsFork told page size k child prior
-shows_fork told page n size bytes k child prior e shown h f =
-    subst (λ m. ShowsFork told page m k child prior) e
-    (record { bytes = bytes; are = are_of told page bytes shown; stands = h.0; prior_stands = h.1; fork = f })
+module _ (told : Option (List (List ℕ))) (page n size : ℕ) (bytes : List ℕ) where
+  -- what a look at the bytes shows of the page
+  pub shows_fork : (k : Key) (child : ℕ) (prior : Option ℕ) → n ≡ size → IfSome told (λ pages. bytes ≡ slice_index_or pages page [])
+      → HasChild n bytes child × IfSome prior (HasChild n bytes) → ((inner : Inner) → inner_of n bytes ≡ Some inner → IsFork k inner child prior)
+      → ShowsFork told page size k child prior
+  shows_fork k child prior e shown h f =
+      subst (λ m. ShowsFork told page m k child prior) e
+      (record { bytes = bytes; are = are_of told page bytes shown; stands = h.0; prior_stands = h.1; fork = f })
 
-pub shows_step : (told : Option (List (List ℕ))) (page n size : ℕ) (bytes : List ℕ) (k : Key) (high : Option Key) (child : ℕ) (next : Option Key) → n ≡ size
-    → IfSome told (λ pages. bytes ≡ slice_index_or pages page []) → HasChild n bytes child
-    → ((inner : Inner) → inner_of n bytes ≡ Some inner → IsStep k inner high child next) → ShowsStep told page size k high child next
-shows_step told page n size bytes k high child next e shown h f =
-    subst (λ m. ShowsStep told page m k high child next) e (record { bytes = bytes; are = are_of told page bytes shown; stands = h; step = f })
+  pub shows_step : (k : Key) (high : Option Key) (child : ℕ) (next : Option Key) → n ≡ size
+      → IfSome told (λ pages. bytes ≡ slice_index_or pages page []) → HasChild n bytes child
+      → ((inner : Inner) → inner_of n bytes ≡ Some inner → IsStep k inner high child next) → ShowsStep told page size k high child next
+  shows_step k high child next e shown h f =
+      subst (λ m. ShowsStep told page m k high child next) e (record { bytes = bytes; are = are_of told page bytes shown; stands = h; step = f })
 
-pub shows_last : (told : Option (List (List ℕ))) (page n size : ℕ) (bytes : List ℕ) (child : ℕ) → n ≡ size
-    → IfSome told (λ pages. bytes ≡ slice_index_or pages page []) → HasChild n bytes child
-    → ((inner : Inner) → inner_of n bytes ≡ Some inner → Some child ≡ Some (slice_index inner.children (length inner.children - 1)))
-    → ShowsLast told page size child
-shows_last told page n size bytes child e shown h f =
-    subst (λ m. ShowsLast told page m child) e (record { bytes = bytes; are = are_of told page bytes shown; stands = h; last = f })
+  pub shows_last : (child : ℕ) → n ≡ size → IfSome told (λ pages. bytes ≡ slice_index_or pages page []) → HasChild n bytes child
+      → ((inner : Inner) → inner_of n bytes ≡ Some inner → Some child ≡ Some (slice_index inner.children (length inner.children - 1)))
+      → ShowsLast told page size child
+  shows_last child e shown h f =
+      subst (λ m. ShowsLast told page m child) e (record { bytes = bytes; are = are_of told page bytes shown; stands = h; last = f })
 
 -- bytes that are no inner page
 abbrev pub AreNoInner : ℕ → List ℕ → Type 0
@@ -62,43 +62,42 @@ no_child size bytes f inner is = differ (slice_index inner.children (length inne
     differ : (c : ℕ) → None ≡ Some c → ⊥
     differ c h = cc
 
-read_at : (told : Option (List (List ℕ))) (page height n size : ℕ) (bytes : List ℕ) → 1 ≤ height → height ≢ 1 → n ≡ size
-    → IfSome told (λ pages. length pages ≡ size) → IfSome told (λ pages. bytes ≡ slice_index_or pages page [])
-    → IsRead told told page height n bytes
-read_at told page height n size bytes some above e many shown = record {
-  some = some;
-  above = above;
-  told = refl;
-  many = subst (λ m. IfSome told (λ pages. length pages ≡ m)) (sym e) many;
-  are = are_of told page bytes shown;
-}
+module _ (told : Option (List (List ℕ))) (page : ℕ) (bytes : List ℕ) where
+  -- a leaf that has no last record
+  pub end_sound : (e : Stop) → IfSome told (λ pages. bytes ≡ slice_index_or pages page [])
+      → ((rs : List Record) → leaf_of bytes ≡ Some rs → None ≡ last_or None rs) → (height : ℕ) (rs : List Record) → height ≡ 1
+      → Spells told page height rs → IsSound e
+  end_sound e shown f height rs one s =
+      absurd (leaf_has_last bytes f rs (leaf_here told page height bytes rs one (are_of told page bytes shown) s))
 
-pub inner_sound : (told : Option (List (List ℕ))) (page n size : ℕ) (bytes : List ℕ) (e : Stop) → n ≡ size → IfSome told (λ pages. length pages ≡ size)
-    → IfSome told (λ pages. bytes ≡ slice_index_or pages page []) → AreNoInner n bytes
-    → (height : ℕ) (rs : List Record) → 1 ≤ height → height ≢ 1 → Spells told page height rs → IsSound e
-inner_sound told page n size bytes e same many shown none height rs some above s =
-    forks told told page height n bytes e (read_at told page height n size bytes some above same many shown) none rs s
+  pub end_bad : IfSome told (λ pages. bytes ≡ slice_index_or pages page []) → ((rs : List Record) → leaf_of bytes ≡ Some rs → None ≡ last_or None rs)
+      → (height : ℕ) → height ≡ 1 → NamesBad told height page (Damaged page)
+  end_bad shown f height one = bad_last told page height bytes one (are_of told page bytes shown) f
 
-pub inner_bad : (told : Option (List (List ℕ))) (page n size : ℕ) (bytes : List ℕ) → n ≡ size → IfSome told (λ pages. length pages ≡ size)
-    → IfSome told (λ pages. bytes ≡ slice_index_or pages page []) → AreNoInner n bytes
-    → (height : ℕ) → 1 ≤ height → height ≢ 1 → NamesBad told height page (Damaged page)
-inner_bad told page n size bytes same many shown none height some above =
-    bad_inner told told page height n bytes (read_at told page height n size bytes some above same many shown) none
+module _ (told : Option (List (List ℕ))) (page height : ℕ) where
+  read_at : (n size : ℕ) (bytes : List ℕ) → 1 ≤ height → height ≢ 1 → n ≡ size → IfSome told (λ pages. length pages ≡ size)
+      → IfSome told (λ pages. bytes ≡ slice_index_or pages page []) → IsRead told told page height n bytes
+  read_at n size bytes some above e many shown = record {
+    some = some;
+    above = above;
+    told = refl;
+    many = subst (λ m. IfSome told (λ pages. length pages ≡ m)) (sym e) many;
+    are = are_of told page bytes shown;
+  }
 
--- a leaf that has no last record
-pub end_sound : (told : Option (List (List ℕ))) (page : ℕ) (bytes : List ℕ) (e : Stop) → IfSome told (λ pages. bytes ≡ slice_index_or pages page [])
-    → ((rs : List Record) → leaf_of bytes ≡ Some rs → None ≡ last_or None rs)
-    → (height : ℕ) (rs : List Record) → height ≡ 1 → Spells told page height rs → IsSound e
-end_sound told page bytes e shown f height rs one s =
-    absurd (leaf_has_last bytes f rs (leaf_here told page height bytes rs one (are_of told page bytes shown) s))
+  pub leaf_sound : {T : Type 0} (r : Result T Stop) → height ≡ 1
+      → IfErr r (λ e. (height : ℕ) (rs : List Record) → height ≡ 1 → Spells told page height rs → IsSound e)
+      → IfErr r (λ e. (rs : List Record) → Spells told page height rs → IsSound e)
+  leaf_sound (Ok v) one f = f
+  leaf_sound (Err e) one f = λ rs s. f height rs one s
 
-pub end_bad : (told : Option (List (List ℕ))) (page : ℕ) (bytes : List ℕ) → IfSome told (λ pages. bytes ≡ slice_index_or pages page [])
-    → ((rs : List Record) → leaf_of bytes ≡ Some rs → None ≡ last_or None rs)
-    → (height : ℕ) → height ≡ 1 → NamesBad told height page (Damaged page)
-end_bad told page bytes shown f height one = bad_last told page height bytes one (are_of told page bytes shown) f
+module _ (told : Option (List (List ℕ))) (page n size : ℕ) (bytes : List ℕ) where
+  pub inner_sound : (e : Stop) → n ≡ size → IfSome told (λ pages. length pages ≡ size) → IfSome told (λ pages. bytes ≡ slice_index_or pages page [])
+      → AreNoInner n bytes → (height : ℕ) (rs : List Record) → 1 ≤ height → height ≢ 1 → Spells told page height rs → IsSound e
+  inner_sound e same many shown none height rs some above s =
+      forks told told page height n bytes e (read_at told page height n size bytes some above same many shown) none rs s
 
-pub leaf_sound : {T : Type 0} (r : Result T Stop) (told : Option (List (List ℕ))) (page height : ℕ) → height ≡ 1
-    → IfErr r (λ e. (height : ℕ) (rs : List Record) → height ≡ 1 → Spells told page height rs → IsSound e)
-    → IfErr r (λ e. (rs : List Record) → Spells told page height rs → IsSound e)
-leaf_sound (Ok v) told page height one f = f
-leaf_sound (Err e) told page height one f = λ rs s. f height rs one s
+  pub inner_bad : n ≡ size → IfSome told (λ pages. length pages ≡ size) → IfSome told (λ pages. bytes ≡ slice_index_or pages page [])
+      → AreNoInner n bytes → (height : ℕ) → 1 ≤ height → height ≢ 1 → NamesBad told height page (Damaged page)
+  inner_bad same many shown none height some above =
+      bad_inner told told page height n bytes (read_at told page height n size bytes some above same many shown) none

@@ -1,5 +1,6 @@
 -- The way down to a leaf in the bytes of pages, with the bound below which the leaf's keys stay.
 use Rattle.std.proofs.Common.{◌≡◌, ℕ, zero, suc, ◌+◌, ◌-◌, ◌<◌, ◌≤◌, Bool, true, false, List, [], ◌∷◌, drop, length, Option, Some, None, Result, Ok, Err}
+use Rattle.std.proofs.lemmas.Bool.{and_parts}
 use Rattle.std.proofs.Common.{IfOk, IfErr, slice_index, refl, sym, ◌∙◌, ap, subst, arith}
 use Rattle.std.specs.Prelude.{slice_get}
 use Rattle.std.specs.List.{list_all}
@@ -22,7 +23,6 @@ use Rattle.quilt_btree.proofs.subtrees.Descending.{leads_below, along_told, lead
 use Rattle.quilt_btree.proofs.subtrees.Dividing.{cut_up, leaf_cut}
 use Rattle.quilt_btree.proofs.ways.Forks.{IsRead, page_here, leaf_here}
 use Rattle.quilt_btree.proofs.subtrees.Trees.{inner_list, leaf_list}
-use Rattle.quilt_btree.proofs.subtrees.Walks.{and_parts}
 
 -- the step down from an inner page
 abbrev pub StepsTo : ℕ → List ℕ → Key → Option Key → ℕ → Option Key → Type 0
@@ -51,7 +51,7 @@ pub record Down : Type 0 where
 step_spells : (d : Down) (rs : List Record) → Spells d.old d.page d.height rs → (here : List Record) × Spells d.new d.child (d.height - 1) here
 step_spells d rs s =
     let is = d.is_read in
-    let h = page_here d.old d.new d.page d.height d.size d.bytes rs is s in
+    let h = page_here is s in
     let st = d.steps h.inner h.is in
     let low = leads_below d.old d.page d.height rs h.inner st.place d.key is.some is.above s h.reads st.is_place in (
       low.here,
@@ -64,9 +64,9 @@ step_led : (d : Down) (v : Found) (leaf : List Record)
     → (rs : List Record) (s : Spells d.old d.page d.height rs) → s.bounds.high ≡ d.start → LeadsTo d.key rs leaf d.start v.high
 step_led d v leaf f rs s top =
     let is = d.is_read in
-    let h = page_here d.old d.new d.page d.height d.size d.bytes rs is s in
+    let h = page_here is s in
     let st = d.steps h.inner h.is in
-    leads_up (Ok v) leaf d.old d.new d.page d.height d.child st.place d.key h.inner d.start d.next is.told is.some is.above h.reads st.is_place
+    leads_up (Ok v) leaf d.page d.height h.inner d.start is.told is.some is.above h.reads st.is_place
     st.child_is st.next_is f rs s top
 
 step_cut : (d : Down) (leaf : List Record) (high : Option Key)
@@ -75,9 +75,9 @@ step_cut : (d : Down) (leaf : List Record) (high : Option Key)
 step_cut d leaf high f g =
     let is = d.is_read in
     let up : (rs : List Record) → Spells d.old d.page d.height rs → IsCut d.old d.page d.height d.key d.start leaf high = λ rs s.
-    let h = page_here d.old d.new d.page d.height d.size d.bytes rs is s in
+    let h = page_here is s in
     let st = d.steps h.inner h.is in
-    cut_up d.old d.new d.page d.height d.child st.place d.key h.inner d.start d.next leaf high
+    cut_up d.old d.page d.height st.place h.inner d.start
     (record { told = is.told; some = is.some; above = is.above; reads = h.reads; place = st.is_place; is_child = st.child_is }) st.next_is f g in
     record {
       starts = λ pages rs t s top e. (up rs s).starts pages rs t s top e;
@@ -108,19 +108,19 @@ pub step_above : (r : Result Found Stop) (k : Key) (start next : Option Key) →
 step_above (Err e) k start next g f = f
 step_above (Ok v) k start next g f = λ h. f (g h)
 
--- the leaf itself
-here_led : (told : Option (List (List ℕ))) (page height : ℕ) (bytes : List ℕ) (k : Key) (high : Option Key) → height ≡ 1 → AreOf told page bytes
-    → (rs : List Record) (s : Spells told page height rs) → s.bounds.high ≡ high → LeadsTo k rs (records_of bytes) high high
-here_led told page height bytes k high one are rs s top =
-    let is = leaf_here told page height bytes rs one are s in
-    subst (λ l. LeadsTo k rs l high high) (sym (leaf_records bytes rs is))
-    (leaf_leads told page height k rs high one (λ pages t. ap leaf_of (sym (are pages t)) ∙ is) rs s top)
+module _ (told : Option (List (List ℕ))) (page height : ℕ) (bytes : List ℕ) where
+  -- the leaf itself
+  here_led : (k : Key) (high : Option Key) → height ≡ 1 → AreOf told page bytes → (rs : List Record) (s : Spells told page height rs)
+      → s.bounds.high ≡ high → LeadsTo k rs (records_of bytes) high high
+  here_led k high one are rs s top =
+      let is = leaf_here told page height bytes rs one are s in
+      subst (λ l. LeadsTo k rs l high high) (sym (leaf_records bytes rs is))
+      (leaf_leads told page height k rs high one (λ pages t. ap leaf_of (sym (are pages t)) ∙ is) rs s top)
 
-here_leaf : (told : Option (List (List ℕ))) (page height : ℕ) (bytes : List ℕ) → height ≡ 1 → AreOf told page bytes → (rs : List Record)
-    → Spells told page height rs → leaf_of bytes ≡ Some (records_of bytes)
-here_leaf told page height bytes one are rs s =
-    let is = leaf_here told page height bytes rs one are s in
-    is ∙ ap Some (sym (leaf_records bytes rs is))
+  here_leaf : height ≡ 1 → AreOf told page bytes → (rs : List Record) → Spells told page height rs → leaf_of bytes ≡ Some (records_of bytes)
+  here_leaf one are rs s =
+      let is = leaf_here told page height bytes rs one are s in
+      is ∙ ap Some (sym (leaf_records bytes rs is))
 
 here_least : (told : Option (List (List ℕ))) (page height : ℕ) (bytes : List ℕ) → height ≡ 1 → AreOf told page bytes → (rs : List Record)
     → Spells told page height rs → 1 ≤ length (records_of bytes)
@@ -146,20 +146,21 @@ key_missing (k ∷ ks) (suc i) le = key_missing ks i (fewer (length ks) i le)
     fewer : (n i : ℕ) → suc n ≤ suc i → n ≤ i
     fewer n i h = omega arith
 
-pub last_step : (pages : ℕ) (bytes : List ℕ) (inner : Inner) (k : Key) (i n child : ℕ) (high : Option Key) → inner_of pages bytes ≡ Some inner
-    → IsPlace inner.keys k i → n ≡ length inner.children → n ≤ i + 1 → child ≡ slice_index inner.children i → IsStep k inner high child high
-last_step pages bytes inner k i n child high is p many le c =
-    let l = inner_list pages bytes inner is in
-    let few : length inner.keys ≤ i = let e = l.keys in omega arith in
-    record { place = i; is_place = p; child_is = c; next_is = sym (ap (λ o. option_or o high) (key_missing inner.keys i few)) }
-
 pub keys_many : (pages : ℕ) (bytes : List ℕ) (inner : Inner) (i n : ℕ) → inner_of pages bytes ≡ Some inner → n ≡ length inner.children
     → i + 1 < n → i < length inner.keys
 keys_many pages bytes inner i n is many more = let e = (inner_list pages bytes inner is).keys in omega arith
 
-pub next_step : (inner : Inner) (k next : Key) (i child : ℕ) (high : Option Key) → IsPlace inner.keys k i → child ≡ slice_index inner.children i
-    → slice_get inner.keys i ≡ Some next → IsStep k inner high child (Some next)
-next_step inner k next i child high p c is = record { place = i; is_place = p; child_is = c; next_is = sym (ap (λ o. option_or o high) is) }
+module _ (inner : Inner) (k : Key) (i child : ℕ) (high : Option Key) where
+  pub last_step : (pages : ℕ) (bytes : List ℕ) (n : ℕ) → inner_of pages bytes ≡ Some inner → IsPlace inner.keys k i → n ≡ length inner.children
+      → n ≤ i + 1 → child ≡ slice_index inner.children i → IsStep k inner high child high
+  last_step pages bytes n is p many le c =
+      let l = inner_list pages bytes inner is in
+      let few : length inner.keys ≤ i = let e = l.keys in omega arith in
+      record { place = i; is_place = p; child_is = c; next_is = sym (ap (λ o. option_or o high) (key_missing inner.keys i few)) }
+
+  pub next_step : (next : Key) → IsPlace inner.keys k i → child ≡ slice_index inner.children i → slice_get inner.keys i ≡ Some next
+      → IsStep k inner high child (Some next)
+  next_step next p c is = record { place = i; is_place = p; child_is = c; next_is = sym (ap (λ o. option_or o high) is) }
 
 first_over : (k next : Key) (ks : List Key) (i : ℕ) → list_all (λ l. is_lt (key_cmp k l)) (drop i ks) ≡ true → slice_get ks i ≡ Some next
     → is_lt (key_cmp k next) ≡ true
@@ -171,7 +172,8 @@ first_over k next (l ∷ ks) zero h is =
     one l next h = cc
 first_over k next (l ∷ ks) (suc i) h is = first_over k next ks i h is
 
-pub next_is_above : (inner : Inner) (k next : Key) (i : ℕ) → IsPlace inner.keys k i → slice_get inner.keys i ≡ Some next → is_lt (key_cmp k next) ≡ false → ⊥
+pub next_is_above : (inner : Inner) (k next : Key) (i : ℕ) → IsPlace inner.keys k i → slice_get inner.keys i ≡ Some next
+    → is_lt (key_cmp k next) ≡ false → ⊥
 next_is_above inner k next i p is not = let h = first_over k next inner.keys i p.behind is in no (is_lt (key_cmp k next)) h not
   where
     no : (b : Bool) → b ≡ true → b ≡ false → ⊥

@@ -24,72 +24,68 @@ pub record AtLast (old new : Option (List (List ℕ))) (page height child n : �
   pub many : n ≡ length inner.children
   pub is_child : child ≡ slice_index inner.children (n - 1)
 
-last_parts : (old new : Option (List (List ℕ))) (page height child n : ℕ) (inner : Inner) → AtLast old new page height child n inner
-    → (pages : List (List ℕ)) → old ≡ Some pages
-    → last_pages pages height page ≡ page ∷ last_pages pages (height - 1) child
-last_parts old new page height child n inner a pages is = last_splits pages height page child n inner a.some a.above (a.reads pages is) a.many a.is_child
+module _ (old new : Option (List (List ℕ))) (page height child n : ℕ) (inner : Inner) where
+  last_parts : AtLast old new page height child n inner → (pages : List (List ℕ)) → old ≡ Some pages
+      → last_pages pages height page ≡ page ∷ last_pages pages (height - 1) child
+  last_parts a pages is = last_splits pages height child inner page n a.some a.above (a.reads pages is) a.many a.is_child
 
-pub last_touched : (r : Result Record Stop) (old new : Option (List (List ℕ))) (page height child n : ℕ) (inner : Inner) (h0 h1 h2 : Option (List ℕ))
-    → AtLast old new page height child n inner
-    → Goes (Touches page) h0 h1 → OnOk r (TouchesInTurn (λ pages. last_pages pages (height - 1) child) new h1 h2)
+  pub last_again : (h0 h1 : Option (List ℕ)) (a b c : Option ℕ) → AtLast old new page height child n inner → Goes (Touches page) h0 h1
+      → OneFree page h0 a b → ReadsNone (λ pages. last_pages pages (height - 1) child) new h1 b c
+      → ReadsNone (λ pages. last_pages pages height page) old h0 a c
+  last_again h0 h1 a b c at t f g = λ pages is.
+      more_free (last_pages pages height page) (page ∷ []) (last_pages pages (height - 1) child) h0 h1 a b c
+      (last_parts at pages is)
+      (one_turn (page ∷ []) page h0 h1 refl t) (one_free (page ∷ []) [] page h0 a b refl f) (g pages (at.told ∙ is))
+
+pub last_touched : (r : Result Record Stop) {old new : Option (List (List ℕ))} {page height child n : ℕ} {inner : Inner} (h0 h1 h2 : Option (List ℕ))
+    → AtLast old new page height child n inner → Goes (Touches page) h0 h1
+    → OnOk r (TouchesInTurn (λ pages. last_pages pages (height - 1) child) new h1 h2)
     → OnOk r (TouchesInTurn (λ pages. last_pages pages height page) old h0 h2)
-last_touched (Err e) old new page height child n inner h0 h1 h2 a t f = f
-last_touched (Ok x) old new page height child n inner h0 h1 h2 a t f = λ pages is.
+last_touched (Err e) h0 h1 h2 a t f = f
+last_touched (Ok x) {old = old} {new = new} {page = page} {height = height} {child = child} {n = n} {inner = inner} h0 h1 h2 a t f = λ pages is.
     more_turns (last_pages pages height page) (page ∷ []) (last_pages pages (height - 1) child) h0 h1 h2
     (last_parts old new page height child n inner a pages is)
     (one_turn (page ∷ []) page h0 h1 refl t) (f pages (a.told ∙ is))
-
-pub last_again : (old new : Option (List (List ℕ))) (page height child n : ℕ) (inner : Inner) (h0 h1 : Option (List ℕ)) (a b c : Option ℕ)
-    → AtLast old new page height child n inner
-    → Goes (Touches page) h0 h1 → OneFree page h0 a b → ReadsNone (λ pages. last_pages pages (height - 1) child) new h1 b c
-    → ReadsNone (λ pages. last_pages pages height page) old h0 a c
-last_again old new page height child n inner h0 h1 a b c at t f g = λ pages is.
-    more_free (last_pages pages height page) (page ∷ []) (last_pages pages (height - 1) child) h0 h1 a b c
-    (last_parts old new page height child n inner at pages is)
-    (one_turn (page ∷ []) page h0 h1 refl t) (one_free (page ∷ []) [] page h0 a b refl f) (g pages (at.told ∙ is))
 
 -- the child to which the key leads
 abbrev before_in : List (List ℕ) → Key → ℕ → Inner → ℕ → List ℕ
 before_in pages k height inner i = before_child (finds_floor pages k (height - 1)) (last_pages pages (height - 1)) inner i
 
-floor_parts : (old new : Option (List (List ℕ))) (page height child i : ℕ) (k : Key) (inner : Inner) → AtFloor old new page height child i k inner
-    → i ≡ place_of k inner → (pages : List (List ℕ)) → old ≡ Some pages
-    → floor_pages pages k height page ≡ page ∷ (floor_pages pages k (height - 1) child ++ before_in pages k height inner i)
-floor_parts old new page height child i k inner a place pages is =
-    floor_splits pages k height page child i inner a.some a.above (a.reads pages is) place a.is_child
+module _ (old new : Option (List (List ℕ))) (page height child i : ℕ) (k : Key) (inner : Inner) where
+  floor_parts : AtFloor old new page height child i k inner → i ≡ place_of k inner → (pages : List (List ℕ)) → old ≡ Some pages
+      → floor_pages pages k height page ≡ page ∷ (floor_pages pages k (height - 1) child ++ before_in pages k height inner i)
+  floor_parts a place pages is =
+      floor_splits pages k height page child i inner a.some a.above (a.reads pages is) place a.is_child
 
--- no more is read than under it
-pub floor_touched : (old new : Option (List (List ℕ))) (page height child i : ℕ) (k : Key) (inner : Inner) (h0 h1 h2 : Option (List ℕ))
-    → AtFloor old new page height child i k inner → i ≡ place_of k inner
-    → Goes (Touches page) h0 h1 → TouchesInTurn (λ pages. floor_pages pages k (height - 1) child) new h1 h2
-    → ((pages : List (List ℕ)) → new ≡ Some pages → before_in pages k height inner i ≡ [])
-    → TouchesInTurn (λ pages. floor_pages pages k height page) old h0 h2
-floor_touched old new page height child i k inner h0 h1 h2 a place t f none = λ pages is.
-    let under = floor_pages pages k (height - 1) child in
-    let parts : floor_pages pages k height page ≡ page ∷ under = floor_parts old new page height child i k inner a place pages is
-    ∙ ap (λ l. page ∷ (under ++ l)) (none pages (a.told ∙ is)) ∙ ap (λ l. page ∷ l) (append-nil under) in
-    more_turns (floor_pages pages k height page) (page ∷ []) under h0 h1 h2 parts (one_turn (page ∷ []) page h0 h1 refl t) (f pages (a.told ∙ is))
+  -- no more is read than under it
+  pub floor_touched : (h0 h1 h2 : Option (List ℕ)) → AtFloor old new page height child i k inner → i ≡ place_of k inner → Goes (Touches page) h0 h1
+      → TouchesInTurn (λ pages. floor_pages pages k (height - 1) child) new h1 h2
+      → ((pages : List (List ℕ)) → new ≡ Some pages → before_in pages k height inner i ≡ [])
+      → TouchesInTurn (λ pages. floor_pages pages k height page) old h0 h2
+  floor_touched h0 h1 h2 a place t f none = λ pages is.
+      let under = floor_pages pages k (height - 1) child in
+      let parts : floor_pages pages k height page ≡ page ∷ under = floor_parts a place pages is
+      ∙ ap (λ l. page ∷ (under ++ l)) (none pages (a.told ∙ is)) ∙ ap (λ l. page ∷ l) (append-nil under) in
+      more_turns (floor_pages pages k height page) (page ∷ []) under h0 h1 h2 parts (one_turn (page ∷ []) page h0 h1 refl t) (f pages (a.told ∙ is))
 
-pub floor_again : (old new : Option (List (List ℕ))) (page height child i : ℕ) (k : Key) (inner : Inner) (h0 h1 : Option (List ℕ)) (a b c : Option ℕ)
-    → AtFloor old new page height child i k inner → i ≡ place_of k inner
-    → Goes (Touches page) h0 h1 → OneFree page h0 a b → ReadsNone (λ pages. floor_pages pages k (height - 1) child) new h1 b c
-    → ReadsNone (λ pages. floor_pages pages k height page) old h0 a c
-floor_again old new page height child i k inner h0 h1 a b c at place t f g = λ pages is.
-    let under = floor_pages pages k (height - 1) child in
-    let more = before_in pages k height inner i in
-    more_free (floor_pages pages k height page) (page ∷ []) (under ++ more) h0 h1 a b c (floor_parts old new page height child i k inner at place pages is)
-    (one_turn (page ∷ []) page h0 h1 refl t) (one_free (page ∷ []) [] page h0 a b refl f)
-    (part_free (under ++ more) under more h1 b c refl (g pages (at.told ∙ is)))
+  pub floor_again : (h0 h1 : Option (List ℕ)) (a b c : Option ℕ) → AtFloor old new page height child i k inner → i ≡ place_of k inner
+      → Goes (Touches page) h0 h1 → OneFree page h0 a b → ReadsNone (λ pages. floor_pages pages k (height - 1) child) new h1 b c
+      → ReadsNone (λ pages. floor_pages pages k height page) old h0 a c
+  floor_again h0 h1 a b c at place t f g = λ pages is.
+      let under = floor_pages pages k (height - 1) child in
+      let more = before_in pages k height inner i in
+      more_free (floor_pages pages k height page) (page ∷ []) (under ++ more) h0 h1 a b c (floor_parts at place pages is)
+      (one_turn (page ∷ []) page h0 h1 refl t) (one_free (page ∷ []) [] page h0 a b refl f)
+      (part_free (under ++ more) under more h1 b c refl (g pages (at.told ∙ is)))
 
 -- the last record before it too
-pub floor_touched_more : (old new newer : Option (List (List ℕ))) (page height child prior i : ℕ) (k : Key) (inner : Inner)
-    (h0 h1 h2 h3 : Option (List ℕ)) → AtFloor old new page height child i k inner
-    → i ≡ place_of k inner → i ≢ 0 → newer ≡ old → prior ≡ slice_index inner.children (i - 1)
-    → ((pages : List (List ℕ)) → new ≡ Some pages → finds_floor pages k (height - 1) child ≡ false)
+pub floor_touched_more : {old new newer : Option (List (List ℕ))} {page height child prior i : ℕ} {k : Key} {inner : Inner}
+    (h0 h1 h2 h3 : Option (List ℕ)) → AtFloor old new page height child i k inner → i ≡ place_of k inner → i ≢ 0 → newer ≡ old
+    → prior ≡ slice_index inner.children (i - 1) → ((pages : List (List ℕ)) → new ≡ Some pages → finds_floor pages k (height - 1) child ≡ false)
     → Goes (Touches page) h0 h1 → TouchesInTurn (λ pages. floor_pages pages k (height - 1) child) new h1 h2
-    → TouchesInTurn (λ pages. last_pages pages (height - 1) prior) newer h2 h3
-    → TouchesInTurn (λ pages. floor_pages pages k height page) old h0 h3
-floor_touched_more old new newer page height child prior i k inner h0 h1 h2 h3 a place ne told was lacks t f g = λ pages is.
+    → TouchesInTurn (λ pages. last_pages pages (height - 1) prior) newer h2 h3 → TouchesInTurn (λ pages. floor_pages pages k height page) old h0 h3
+floor_touched_more {old = old} {new = new} {page = page} {height = height} {child = child} {prior = prior} {i = i} {k = k} {inner = inner} h0 h1 h2 h3 a place ne
+    told was lacks t f g = λ pages is.
     let under = floor_pages pages k (height - 1) child in
     let more = last_pages pages (height - 1) prior in
     let parts : floor_pages pages k height page ≡ page ∷ (under ++ more) =
@@ -98,14 +94,14 @@ floor_touched_more old new newer page height child prior i k inner h0 h1 h2 h3 a
     more_turns (floor_pages pages k height page) (page ∷ []) (under ++ more) h0 h1 h3 parts (one_turn (page ∷ []) page h0 h1 refl t)
     (more_turns (under ++ more) under more h1 h2 h3 refl (f pages (a.told ∙ is)) (g pages (told ∙ is)))
 
-pub floor_again_more : (old new newer : Option (List (List ℕ))) (page height child prior i : ℕ) (k : Key) (inner : Inner)
-    (h0 h1 h2 : Option (List ℕ)) (a b c d : Option ℕ) → AtFloor old new page height child i k inner
-    → i ≡ place_of k inner → i ≢ 0 → newer ≡ old → prior ≡ slice_index inner.children (i - 1)
-    → ((pages : List (List ℕ)) → new ≡ Some pages → finds_floor pages k (height - 1) child ≡ false)
+pub floor_again_more : {old new newer : Option (List (List ℕ))} {page height child prior i : ℕ} {k : Key} {inner : Inner} (h0 h1 h2 : Option (List ℕ))
+    (a b c d : Option ℕ) → AtFloor old new page height child i k inner → i ≡ place_of k inner → i ≢ 0 → newer ≡ old
+    → prior ≡ slice_index inner.children (i - 1) → ((pages : List (List ℕ)) → new ≡ Some pages → finds_floor pages k (height - 1) child ≡ false)
     → Goes (Touches page) h0 h1 → OneFree page h0 a b → TouchesInTurn (λ pages. floor_pages pages k (height - 1) child) new h1 h2
-    → ReadsNone (λ pages. floor_pages pages k (height - 1) child) new h1 b c
-    → ReadsNone (λ pages. last_pages pages (height - 1) prior) newer h2 c d → ReadsNone (λ pages. floor_pages pages k height page) old h0 a d
-floor_again_more old new newer page height child prior i k inner h0 h1 h2 a b c d at place ne told was lacks t f s g l = λ pages is.
+    → ReadsNone (λ pages. floor_pages pages k (height - 1) child) new h1 b c → ReadsNone (λ pages. last_pages pages (height - 1) prior) newer h2 c d
+    → ReadsNone (λ pages. floor_pages pages k height page) old h0 a d
+floor_again_more {old = old} {new = new} {page = page} {height = height} {child = child} {prior = prior} {i = i} {k = k} {inner = inner} h0 h1 h2 a b c d at place
+    ne told was lacks t f s g l = λ pages is.
     let under = floor_pages pages k (height - 1) child in
     let more = last_pages pages (height - 1) prior in
     let parts : floor_pages pages k height page ≡ page ∷ (under ++ more) =
@@ -119,33 +115,29 @@ floor_again_more old new newer page height child prior i k inner h0 h1 h2 a b c 
 abbrev pub Finds : Option (List (List ℕ)) → Key → ℕ → ℕ → Bool → Type 0
 Finds told k height page b = (pages : List (List ℕ)) → told ≡ Some pages → finds_floor pages k height page ≡ b
 
-finds_parts : (old new : Option (List (List ℕ))) (page height child i : ℕ) (k : Key) (inner : Inner) → AtFloor old new page height child i k inner
-    → i ≡ place_of k inner → (pages : List (List ℕ)) → old ≡ Some pages
-    → finds_floor pages k height page ≡ (nat_lt 0 i || finds_floor pages k (height - 1) child)
-finds_parts old new page height child i k inner a place pages is =
-    finds_splits pages k height page child i inner a.some a.above (a.reads pages is) place a.is_child
+module _ (old new : Option (List (List ℕ))) (page height child i : ℕ) (k : Key) (inner : Inner) (a : AtFloor old new page height child i k inner)
+    (place : i ≡ place_of k inner) where
+  finds_parts : (pages : List (List ℕ)) → old ≡ Some pages → finds_floor pages k height page ≡ (nat_lt 0 i || finds_floor pages k (height - 1) child)
+  finds_parts pages is =
+      finds_splits pages k height page child i inner a.some a.above (a.reads pages is) place a.is_child
 
-pub finds_here : (old new : Option (List (List ℕ))) (page height child i : ℕ) (k : Key) (inner : Inner) → AtFloor old new page height child i k inner
-    → i ≡ place_of k inner → Finds new k (height - 1) child true → Finds old k height page true
-finds_here old new page height child i k inner a place f = λ pages is. finds_parts old new page height child i k inner a place pages is
-    ∙ late (nat_lt 0 i) (finds_floor pages k (height - 1) child) (f pages (a.told ∙ is))
-  where
-    late : (b c : Bool) → c ≡ true → (b || c) ≡ true
-    late b c h = grind arith
+  pub finds_here : Finds new k (height - 1) child true → Finds old k height page true
+  finds_here f = λ pages is. finds_parts pages is
+      ∙ late (nat_lt 0 i) (finds_floor pages k (height - 1) child) (f pages (a.told ∙ is))
+    where
+      late : (b c : Bool) → c ≡ true → (b || c) ≡ true
+      late b c h = grind arith
 
-pub finds_none : (old new : Option (List (List ℕ))) (page height child i : ℕ) (k : Key) (inner : Inner) → AtFloor old new page height child i k inner
-    → i ≡ place_of k inner → i ≡ 0 → Finds new k (height - 1) child false
-    → Finds old k height page false
-finds_none old new page height child i k inner a place e f = λ pages is.
-    finds_parts old new page height child i k inner a place pages is ∙ ap (λ j. nat_lt 0 j || finds_floor pages k (height - 1) child) e ∙ f pages (a.told ∙ is)
+  pub finds_none : i ≡ 0 → Finds new k (height - 1) child false → Finds old k height page false
+  finds_none e f = λ pages is.
+      finds_parts pages is ∙ ap (λ j. nat_lt 0 j || finds_floor pages k (height - 1) child) e ∙ f pages (a.told ∙ is)
 
-pub finds_before : (old new : Option (List (List ℕ))) (page height child i : ℕ) (k : Key) (inner : Inner)
-    → AtFloor old new page height child i k inner → i ≡ place_of k inner → i ≢ 0 → Finds old k height page true
-finds_before old new page height child i k inner a place ne =
-    λ pages is. finds_parts old new page height child i k inner a place pages is ∙ ap (λ b. b || finds_floor pages k (height - 1) child) (some i ne)
-  where
-    some : (i : ℕ) → i ≢ 0 → nat_lt 0 i ≡ true
-    some i ne = grind (arith, nat_tests)
+  pub finds_before : i ≢ 0 → Finds old k height page true
+  finds_before ne =
+      λ pages is. finds_parts pages is ∙ ap (λ b. b || finds_floor pages k (height - 1) child) (some i ne)
+    where
+      some : (i : ℕ) → i ≢ 0 → nat_lt 0 i ≡ true
+      some i ne = grind (arith, nat_tests)
 
 -- from the root
 pub root_first : {T : Type 0} (r : Result T Stop) (told : Option (List (List ℕ))) (k : Key) (height root : ℕ) (old new : Option (List ℕ)) → height ≤ 3

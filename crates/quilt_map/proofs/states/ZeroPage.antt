@@ -2,7 +2,7 @@
 use Rattle.std.proofs.Common.{◌≡◌, ℕ, zero, suc, ◌≤◌, ◌==◌, Bool, true, false, ◌&&◌, ◌||◌, nat_le, nat_lt, List, [], ◌∷◌, ◌++◌, ◌+◌, cond, length, set, Some}
 use Rattle.std.proofs.Common.{refl, sym, ◌∙◌, ap, subst, ⊎_elim, arith, append-nil}
 use Rattle.std.specs.List.{list_any, list_all}
-use Rattle.std.proofs.lemmas.Bool.{cases_Bool, leb-true, false≢true}
+use Rattle.std.proofs.lemmas.Bool.{cases_Bool, leb-true, false≢true, and_parts}
 use Rattle.std.proofs.lemmas.List.{get_or-set_other}
 use Rattle.std.proofs.Math.ListN.{length-set}
 use Rattle.std.proofs.lemmas.List.Folds.{list_any-append}
@@ -16,7 +16,7 @@ use Rattle.quilt_btree.specs.Subtree.{Reading, Row, Subtree}
 use Rattle.quilt_btree.specs.Edits.{IsWhole, times}
 use Rattle.quilt_btree.proofs.growth.TreeGrowth.{root_found}
 use Rattle.quilt_btree.proofs.subtrees.Trees.{inner_list}
-use Rattle.quilt_btree.proofs.subtrees.Walks.{and_parts, same_number}
+use Rattle.quilt_btree.proofs.subtrees.Walks.{same_number}
 use Rattle.quilt_edition.proofs.SameEdition.{same_walk}
 
 abbrev has_zero : List ℕ → Bool

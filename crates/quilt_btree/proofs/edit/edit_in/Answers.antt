@@ -11,7 +11,7 @@ loop-i-init c = λ rs is h. made_none c.args.bytes.now rs c.args.run.now is
 pub loop-i-preserved : goal.loop-i-preserved
 loop-i-preserved c = λ rs is h.
     let m = c.loop-i.invariant rs is h in
-    made_next c.args.bytes.now c.loop-i.bytes c.make.new.bytes rs c.args.run.now c.loop-i.i is c.loop-i-test.true m
+    made_next c.loop-i.bytes c.make.new.bytes c.args.run.now c.args.bytes.now rs c.loop-i.i is c.loop-i-test.true m
     (sym (c.make.ensures.due m.now m.is_leaf) ∙ c.if-not-make.false) (c.make.ensures.made m.now m.is_leaf c.if-not-make.false)
 
 pub returns-in-None-clause-fails : goal.returns-in-None-clause-fails

@@ -13,8 +13,8 @@ returns-in-Err-clause-sound g c is_root b rs used can =
 pub returns-in-Ok-find-clause-inserted : goal.returns-in-Ok-find-clause-inserted
 returns-in-Ok-find-clause-inserted g c is_root b rs used can =
     leaf_there (g.S.PageStore.told c.args.store.now) (g.S.PageStore.told c.read_leaf.new.store) (g.S.PageStore.free c.args.store.now)
-    (g.S.PageStore.free c.read_leaf.new.store) (g.S.PageStore.size c.args.store.now)
-    c.args.page c.in-Ok-find.field-0 c.args.r.now c.in-Ok.leaf is_root b rs used c.in-Ok.ensures.left.told
+    (g.S.PageStore.free c.read_leaf.new.store) (g.S.PageStore.size c.args.store.now) c.args.page c.in-Ok-find.field-0 c.args.r.now is_root b rs used
+    c.in-Ok.leaf c.in-Ok.ensures.left.told
     (leaf_read (g.S.PageStore.told c.args.store.now) (g.S.PageStore.free c.args.store.now) (g.S.PageStore.size c.args.store.now)
     c.args.page c.args.r.now.key c.in-Ok.leaf is_root b rs used c.in-Ok.ensures.leaf can)
     c.in-Ok-find.ensures.place can
@@ -33,7 +33,7 @@ returns-in-Ok-find-clause-finds g c height rs one s =
 
 pub returns-in-Err-find-clause-finds : goal.returns-in-Err-find-clause-finds
 returns-in-Err-find-clause-finds g c =
-    new_in_leaf c.put_record.result (g.S.PageStore.told c.args.store.now) c.args.page c.args.r.now.key c.put_record.ensures.new
+    new_in_leaf c.put_record.result (g.S.PageStore.told c.args.store.now) c.args.page c.args.r.now.key c.put_record.ensures.leaves.new
     (λ height one. finds_none (g.S.PageStore.told c.args.store.now) c.args.page height c.in-Err-find.i c.args.r.now.key c.in-Ok.leaf
     c.in-Ok.ensures.leaf c.in-Err-find.ensures.place one)
 

@@ -12,8 +12,8 @@ insert-requires-clause-order g c = gap_ascends c.args.r.now c.args.leaf.now c.ar
 pub returns-in-Ok-clause-put : goal.returns-in-Ok-clause-put
 returns-in-Ok-clause-put g c is_root b rs used same can =
     leaf_done (g.S.PageStore.told c.args.store.now) (g.S.PageStore.told c.write_page.new.store) (g.S.PageStore.free c.args.store.now)
-    (g.S.PageStore.free c.write_page.new.store) (g.S.PageStore.size c.args.store.now)
-    c.args.page c.args.i c.args.r.now c.bytes.result.now is_root b rs used
+    (g.S.PageStore.free c.write_page.new.store) (g.S.PageStore.size c.args.store.now) c.args.page c.args.i c.args.r.now is_root b rs used
+    c.bytes.result.now
     (record {
       inside = c.requires.page.1;
       many = g.met.S.PageStore.as_many c.args.store.now;
@@ -30,9 +30,8 @@ returns-in-Ok-write_split-clause-put g c is_root b rs used same can =
     let e = c.len.ensures.length in
     let r = c.len.ensures.range in
     let f = c.if-len-lt-MOST_RECORDS.false in
-    leaf_split (g.S.PageStore.told c.args.store.now) (g.S.PageStore.told c.write_split.new.store) (g.S.PageStore.free c.args.store.now)
-    (g.S.PageStore.free c.write_split.new.store) (g.S.PageStore.size c.args.store.now)
-    c.args.page c.in-Ok-write_split.new c.args.i c.args.r.now c.bytes-2.result.now c.bytes-3.result.now c.rec.result.key c.rec.result is_root b rs used
+    leaf_split (g.S.PageStore.told c.write_split.new.store)
+    c.args.i c.args.r.now c.bytes-2.result.now c.bytes-3.result.now c.rec.result.key c.rec.result
     (record {
       inside = c.requires.page.1;
       many = g.met.S.PageStore.as_many c.args.store.now;
@@ -40,7 +39,8 @@ returns-in-Ok-write_split-clause-put g c is_root b rs used same can =
     })
     (record {
       full = subst (λ (l : List Record). length l ≡ 144) same (omega arith);
-      is_left = c.bytes-2.ensures.leaf ∙ ap Some (c.insert_split-right.ensures.left ∙ ap (λ (l : List Record). take 72 (insert l c.args.i c.args.r.now)) same);
+      is_left = c.bytes-2.ensures.leaf ∙ ap Some
+          (c.insert_split-right.ensures.left ∙ ap (λ (l : List Record). take 72 (insert l c.args.i c.args.r.now)) same);
       is_right =
           c.bytes-3.ensures.leaf ∙ ap Some (c.insert_split-right.ensures.right ∙ ap (λ (l : List Record). drop 72 (insert l c.args.i c.args.r.now)) same);
       begins = subst (λ (l : List Record). slice_get l 0 ≡ Some c.rec.result)

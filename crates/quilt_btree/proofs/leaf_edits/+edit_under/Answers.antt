@@ -1,3 +1,5 @@
+use Rattle.std.proofs.Common.{◌-◌, arith}
+use Rattle.quilt_btree.proofs.stores.Leaves.{edits_behind}
 use Rattle.quilt_btree.proofs.batches.Below.{fails_leaf, step_edited, step_fails, least_first}
 use Rattle.quilt_btree.proofs.growth.Below.{edit_spells}
 use Rattle.quilt_btree.proofs.ways.Damage.{named_leaf, named_below}
@@ -14,10 +16,10 @@ returns-in-Err-clause-bad g t c = λ ne. c.in-Err.ensures.bad c.args.height c.re
 
 pub returns-in-Ok-clause-edited : goal.returns-in-Ok-clause-edited
 returns-in-Ok-clause-edited g t c =
-    step_edited c.edit_under.result (g.S.PageStore.told c.args.store.now) (g.S.PageStore.told c.step_at.new.store)
-    (g.S.PageStore.told c.edit_under.new.store) (g.S.PageStore.free c.args.store.now) (g.S.PageStore.free c.step_at.new.store)
-    (g.S.PageStore.free c.edit_under.new.store) (g.S.PageStore.size c.args.store.now) (g.S.PageStore.size c.step_at.new.store)
-    c.args.page c.args.height (g.S.PageStore.size c.args.store.now) c.in-Ok.ensures.shows.bytes c.in-Ok.step.child c.key.result.now c.args.high.now c.in-Ok.step.high c.args.run.now c.args.is_root
+    step_edited (g.S.PageStore.told c.args.store.now) (g.S.PageStore.told c.step_at.new.store) (g.S.PageStore.free c.args.store.now)
+    (g.S.PageStore.free c.step_at.new.store) (g.S.PageStore.size c.args.store.now) (g.S.PageStore.size c.step_at.new.store) c.args.page c.args.height
+    (g.S.PageStore.size c.args.store.now) c.in-Ok.ensures.shows.bytes c.in-Ok.step.child c.key.result.now c.args.high.now c.in-Ok.step.high
+    c.args.run.now c.args.is_root c.edit_under.result (g.S.PageStore.told c.edit_under.new.store) (g.S.PageStore.free c.edit_under.new.store)
     (read_of _ _ _ _ _ _ (record {
       some = c.requires.height;
       above = c.if-height-eq1.false;
@@ -25,14 +27,15 @@ returns-in-Ok-clause-edited g t c =
       many = g.met.S.PageStore.as_many c.args.store.now;
     }) c.in-Ok.ensures.shows.are)
     (record { same_pages = c.in-Ok.ensures.looks.left.told; same_free = c.in-Ok.ensures.looks.left.free; same_size = c.in-Ok.ensures.looks.left.size })
-    c.in-Ok.ensures.shows.step (least_first c.args.run.now c.key.result.now c.key.ensures c.requires.order c.requires.some) c.edit_under.ensures.edited
+    c.in-Ok.ensures.shows.step (least_first c.args.run.now c.key.result.now c.key.ensures c.requires.order c.requires.some)
+    c.edit_under.ensures.edited
 
 pub returns-in-Ok-clause-fails : goal.returns-in-Ok-clause-fails
 returns-in-Ok-clause-fails g t c =
-    step_fails c.edit_under.result (g.S.PageStore.told c.args.store.now) (g.S.PageStore.told c.step_at.new.store)
-    (g.S.PageStore.free c.args.store.now) (g.S.PageStore.free c.step_at.new.store) (g.S.PageStore.size c.args.store.now)
-    (g.S.PageStore.size c.step_at.new.store) c.args.page c.args.height (g.S.PageStore.size c.args.store.now) c.in-Ok.ensures.shows.bytes c.in-Ok.step.child c.key.result.now c.args.high.now c.in-Ok.step.high c.args.run.now
-    c.args.is_root
+    step_fails (g.S.PageStore.told c.args.store.now) (g.S.PageStore.told c.step_at.new.store) (g.S.PageStore.free c.args.store.now)
+    (g.S.PageStore.free c.step_at.new.store) (g.S.PageStore.size c.args.store.now) (g.S.PageStore.size c.step_at.new.store) c.args.page c.args.height
+    (g.S.PageStore.size c.args.store.now) c.in-Ok.ensures.shows.bytes c.in-Ok.step.child c.key.result.now c.args.high.now c.in-Ok.step.high
+    c.args.run.now c.args.is_root c.edit_under.result
     (read_of _ _ _ _ _ _ (record {
       some = c.requires.height;
       above = c.if-height-eq1.false;
@@ -43,8 +46,9 @@ returns-in-Ok-clause-fails g t c =
     c.in-Ok.ensures.shows.step (least_first c.args.run.now c.key.result.now c.key.ensures c.requires.order c.requires.some) c.edit_under.ensures.fails
 
 pub returns-then-height-eq1-clause-fails : goal.returns-then-height-eq1-clause-fails
-returns-then-height-eq1-clause-fails g t c = fails_leaf c.edit_leaf.result (g.S.PageStore.told c.args.store.now)
-    (g.S.PageStore.free c.args.store.now) c.args.page c.args.height c.args.high.now c.args.run.now c.args.is_root c.if-height-eq1.true
+returns-then-height-eq1-clause-fails g t c =
+    fails_leaf c.args.high.now c.args.run.now c.edit_leaf.result (g.S.PageStore.told c.args.store.now) (g.S.PageStore.free c.args.store.now)
+    c.args.page c.args.height c.args.is_root c.if-height-eq1.true
     c.edit_leaf.ensures.fails
 
 pub returns-then-height-eq1-clause-bad : goal.returns-then-height-eq1-clause-bad
@@ -53,8 +57,8 @@ returns-then-height-eq1-clause-bad g t c =
 
 pub returns-in-Ok-clause-bad : goal.returns-in-Ok-clause-bad
 returns-in-Ok-clause-bad g t c =
-    named_below c.edit_under.result (g.S.PageStore.told c.args.store.now) (g.S.PageStore.told c.step_at.new.store)
-    c.args.page c.args.height (g.S.PageStore.size c.args.store.now) c.in-Ok.ensures.shows.bytes c.in-Ok.step.child
+    named_below (g.S.PageStore.told c.args.store.now) (g.S.PageStore.told c.step_at.new.store) c.args.page c.args.height
+    (g.S.PageStore.size c.args.store.now) c.in-Ok.ensures.shows.bytes c.edit_under.result c.in-Ok.step.child
     (read_of _ _ _ _ _ _ (record {
       some = c.requires.height;
       above = c.if-height-eq1.false;
@@ -63,5 +67,8 @@ returns-in-Ok-clause-bad g t c =
     }) c.in-Ok.ensures.shows.are)
     c.in-Ok.ensures.shows.stands c.edit_under.ensures.bad
 
-pub returns-in-Ok-clause-later : goal.returns-in-Ok-clause-later
-returns-in-Ok-clause-later g t c = g.met.S.PageStore.goes_on _ _ _ c.in-Ok.ensures.looks.left.later c.edit_under.ensures.later
+pub returns-in-Ok-clause-left : goal.returns-in-Ok-clause-left
+returns-in-Ok-clause-left g t c =
+    edits_behind _ g.met.S.PageStore.goes_on 1 1 (c.args.height - 1) c.args.height (let some = c.requires.height in omega arith)
+    c.in-Ok.ensures.looks.left
+    c.in-Ok.ensures.looks.reads c.edit_under.ensures.left

@@ -5,9 +5,10 @@ use Rattle.quilt_btree.proofs.leaf_edits.edit_leaf.Goals as goal
 pub returns-in-Some-clause-edited : goal.returns-in-Some-clause-edited
 returns-in-Some-clause-edited g c one b rs used top above can =
     let after = c.edit.follows.holds c.edit_some.new.bytes (rw c.in-Ok.is refl) in
-    leaf_made (g.S.PageStore.told c.args.store.now) _ (g.S.PageStore.free c.args.store.now) _
-    (g.S.PageStore.size c.args.store.now) c.args.page c.least_records.result c.args.is_root b rs used c.args.high.now c.args.run.now c.in-Some.n
-    c.in-Ok.bytes.now c.edit_some.new.bytes c.requires.page.1 (g.met.S.PageStore.as_many c.args.store.now) c.in-Ok.ensures.bytes c.in-Some.ensures.made one
+    leaf_made _
+    (g.S.PageStore.size c.args.store.now) c.args.high.now c.args.run.now c.in-Some.n
+    c.in-Ok.bytes.now c.edit_some.new.bytes c.requires.page.1 (g.met.S.PageStore.as_many c.args.store.now) c.in-Ok.ensures.bytes
+    c.in-Some.ensures.made one
     after.4 c.least_records.ensures c.in-Some.ensures.under after.3 top above can
 
 pub returns-in-Some-clause-stays : goal.returns-in-Some-clause-stays

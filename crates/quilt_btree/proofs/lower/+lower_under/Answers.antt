@@ -70,9 +70,9 @@ returns-in-Ok-last_under-clause-lower g t c = λ rs s.
     let p = a.later c.in-Some.prior c.in-Some.is in
     let there = along_told (g.S.PageStore.told c.args.store.now) (g.S.PageStore.told c.lower_under.new.store) c.in-Some.prior
     (c.args.height - 1) p.here (c.in-Ok-None.ensures.left.told ∙ c.in-Ok.ensures.looks.left.told) p.spells in
-    lower_before (g.S.PageStore.told c.args.store.now) (g.S.PageStore.told c.fork_at.new.store) (g.S.PageStore.told c.lower_under.new.store)
-    c.args.page c.args.height c.in-Ok.fork.child c.in-Some.prior a.i c.args.k.now a.inner c.in-Ok-last_under.r a.at p.some
-    (c.in-Ok-None.ensures.left.told ∙ c.in-Ok.ensures.looks.left.told) p.is found.lower c.in-Ok-last_under.ensures.last rs s
+    lower_before
+    c.in-Ok-last_under.r a.at p.some
+    (c.in-Ok-None.ensures.left.told ∙ c.in-Ok.ensures.looks.left.told) p.is found.lower c.in-Ok-last_under.ensures.last s
 
 pub returns-in-Err-clause-sound : goal.returns-in-Err-clause-sound
 returns-in-Err-clause-sound g t c = λ rs s. c.in-Err.ensures.sound c.args.height rs c.requires.height c.if-height-eq1.false s

@@ -60,14 +60,16 @@ returns-in-Ok-clause-sound g t c = step_sound (record {
   steps = c.in-Ok.ensures.shows.step;
 }) c.leaf_at.result c.leaf_at.ensures.sound
 
-pub returns-in-Ok-clause-above : goal.returns-in-Ok-clause-above
-returns-in-Ok-clause-above g t c =
-    step_above c.leaf_at.result c.args.k.now c.args.high.now c.in-Ok.step.high c.in-Ok.ensures.above c.leaf_at.ensures.above
+pub returns-in-Ok-clause-range : goal.returns-in-Ok-clause-range
+returns-in-Ok-clause-range g t c = record {
+  range = rw c.in-Ok.ensures.looks.left.size at c.leaf_at.ensures.range.range;
+  above = step_above c.leaf_at.result c.args.k.now c.args.high.now c.in-Ok.step.high c.in-Ok.ensures.above c.leaf_at.ensures.range.above;
+}
 
 pub returns-in-Ok-clause-spoilt : goal.returns-in-Ok-clause-spoilt
-returns-in-Ok-clause-spoilt g t c = spoilt_below c.leaf_at.result (g.S.PageStore.told c.args.store.now)
-    (g.S.PageStore.told c.step_at.new.store)
-    c.args.page c.args.height (g.S.PageStore.size c.args.store.now) c.in-Ok.ensures.shows.bytes c.in-Ok.step.child
+returns-in-Ok-clause-spoilt g t c =
+    spoilt_below (g.S.PageStore.told c.args.store.now) (g.S.PageStore.told c.step_at.new.store) c.args.page c.args.height
+    (g.S.PageStore.size c.args.store.now) c.in-Ok.ensures.shows.bytes c.leaf_at.result c.in-Ok.step.child
     (read_of _ _ _ _ _ _ (record {
       some = c.requires.height;
       above = c.if-height-eq1.false;
@@ -76,9 +78,9 @@ returns-in-Ok-clause-spoilt g t c = spoilt_below c.leaf_at.result (g.S.PageStore
     }) c.in-Ok.ensures.shows.are) c.in-Ok.ensures.shows.stands c.leaf_at.ensures.spoilt
 
 pub returns-in-Ok-clause-bad : goal.returns-in-Ok-clause-bad
-returns-in-Ok-clause-bad g t c = names_below c.leaf_at.result (g.S.PageStore.told c.args.store.now)
-    (g.S.PageStore.told c.step_at.new.store)
-    c.args.page c.args.height (g.S.PageStore.size c.args.store.now) c.in-Ok.ensures.shows.bytes c.in-Ok.step.child
+returns-in-Ok-clause-bad g t c =
+    names_below (g.S.PageStore.told c.args.store.now) (g.S.PageStore.told c.step_at.new.store) c.args.page c.args.height
+    (g.S.PageStore.size c.args.store.now) c.in-Ok.ensures.shows.bytes c.leaf_at.result c.in-Ok.step.child
     (read_of _ _ _ _ _ _ (record {
       some = c.requires.height;
       above = c.if-height-eq1.false;

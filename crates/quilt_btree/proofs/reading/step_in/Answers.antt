@@ -8,7 +8,7 @@ returns-in-None-clause-step c = λ inner is. c.in-None.ensures.way inner is
 pub returns-then-child_count_in-way-clause-step : goal.returns-then-child_count_in-way-clause-step
 returns-then-child_count_in-way-clause-step c = λ inner is.
     let w = c.in-Some.ensures.way inner is in
-    last_step c.args.pages c.args.bytes.now inner c.args.k.now c.in-Some.way.place c.child_count_in.result c.in-Some.way.child c.args.high.now is w.1
+    last_step inner c.args.k.now c.in-Some.way.place c.in-Some.way.child c.args.high.now c.args.pages c.args.bytes.now c.child_count_in.result is w.1
     (c.child_count_in.ensures.length c.args.pages inner is).0 c.if-child_count_in-way.true
     w.2
 
@@ -24,7 +24,7 @@ returns-then-not-precedes-clause-step c = λ inner is.
 pub returns-clause-step : goal.returns-clause-step
 returns-clause-step c = λ inner is.
     let w = c.in-Some.ensures.way inner is in
-    next_step inner c.args.k.now c.separator_in-next.result c.in-Some.way.place c.in-Some.way.child c.args.high.now w.1
+    next_step inner c.args.k.now c.in-Some.way.place c.in-Some.way.child c.args.high.now c.separator_in-next.result w.1
     w.2
     (c.separator_in-next.ensures c.args.pages inner is
     (keys_many c.args.pages c.args.bytes.now inner c.in-Some.way.place c.child_count_in.result is

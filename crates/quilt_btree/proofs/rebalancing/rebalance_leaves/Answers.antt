@@ -27,9 +27,9 @@ returns-then-not-leaves_ascend-clause-sound g c = λ height b rs used one m page
 pub returns-in-Ok-clause-rebalanced : goal.returns-in-Ok-clause-rebalanced
 returns-in-Ok-clause-rebalanced g c = λ height b rs used one m.
     leaves_joined (g.S.PageStore.told c.args.store.now) (g.S.PageStore.told c.read_leaf-2.new.store) (g.S.PageStore.told c.write_and_give.new.store)
-    (g.S.PageStore.free c.args.store.now) (g.S.PageStore.free c.read_leaf-2.new.store) (g.S.PageStore.free c.write_and_give.new.store)
-    (g.S.PageStore.size c.args.store.now) c.args.left c.args.key.now c.args.right height b rs used c.in_ok-first.first c.in_ok-rest.rest
-    c.join.new.self c.bytes.result.now one (record {
+    (g.S.PageStore.free c.args.store.now) (g.S.PageStore.free c.write_and_give.new.store) (g.S.PageStore.size c.args.store.now) c.args.left
+    c.args.key.now c.args.right height b rs used c.in_ok-first.first c.in_ok-rest.rest c.bytes.result.now (g.S.PageStore.free c.read_leaf-2.new.store)
+    c.join.new.self one (record {
       reads = c.in_ok-first.ensures.leaf;
       also = λ pages t. c.in_ok-rest.ensures.leaf pages (c.in_ok-first.ensures.left.told ∙ t);
       inside = c.requires.left.1;
@@ -59,9 +59,9 @@ returns-in-Err-write_both-clause-sound g c = λ height b rs used one m.
 pub returns-in-Ok-write_both-clause-rebalanced : goal.returns-in-Ok-write_both-clause-rebalanced
 returns-in-Ok-write_both-clause-rebalanced g c = λ height b rs used one m.
     leaves_separated (g.S.PageStore.told c.args.store.now) (g.S.PageStore.told c.read_leaf-2.new.store) (g.S.PageStore.told c.write_both.new.store)
-    (g.S.PageStore.free c.args.store.now) (g.S.PageStore.free c.write_both.new.store)
-    (g.S.PageStore.size c.args.store.now) c.args.left c.args.key.now c.args.right height b rs used c.in_ok-first.first c.in_ok-rest.rest
-    c.share_records.new.left c.share_records.new.right c.rec.result c.bytes-2.result.now c.bytes-3.result.now one (record {
+    (g.S.PageStore.free c.args.store.now) (g.S.PageStore.free c.write_both.new.store) (g.S.PageStore.size c.args.store.now) c.args.left c.args.key.now
+    c.args.right height b rs used c.in_ok-first.first c.in_ok-rest.rest c.bytes-2.result.now c.share_records.new.left c.share_records.new.right
+    c.rec.result c.bytes-3.result.now one (record {
       reads = c.in_ok-first.ensures.leaf;
       also = λ pages t. c.in_ok-rest.ensures.leaf pages (c.in_ok-first.ensures.left.told ∙ t);
       inside = c.requires.left.1;
@@ -77,28 +77,6 @@ returns-in-Ok-write_both-clause-rebalanced g c = λ height b rs used one m.
       frees = c.in-Ok-write_both.ensures.free ∙ c.in_ok-rest.ensures.left.free ∙ c.in_ok-first.ensures.left.free;
     }) m
 
-pub returns-in_err-rest-clause-later : goal.returns-in_err-rest-clause-later
-returns-in_err-rest-clause-later g c = g.met.S.PageStore.goes_on _ _ _ c.in_ok-first.ensures.left.later c.in_err-rest.ensures.left.later
-
-pub returns-then-not-leaves_ascend-clause-later : goal.returns-then-not-leaves_ascend-clause-later
-returns-then-not-leaves_ascend-clause-later g c = g.met.S.PageStore.goes_on _ _ _ c.in_ok-first.ensures.left.later c.in_ok-rest.ensures.left.later
-
-pub returns-in-Err-clause-later : goal.returns-in-Err-clause-later
-returns-in-Err-clause-later g c = g.met.S.PageStore.goes_on _ _ _ c.in_ok-first.ensures.left.later
-    (g.met.S.PageStore.goes_on _ _ _ c.in_ok-rest.ensures.left.later c.in-Err.ensures.left.later)
-
-pub returns-in-Ok-clause-later : goal.returns-in-Ok-clause-later
-returns-in-Ok-clause-later g c = g.met.S.PageStore.goes_on _ _ _ c.in_ok-first.ensures.left.later
-    (g.met.S.PageStore.goes_on _ _ _ c.in_ok-rest.ensures.left.later c.in-Ok.ensures.left.later)
-
-pub returns-in-Err-write_both-clause-later : goal.returns-in-Err-write_both-clause-later
-returns-in-Err-write_both-clause-later g c = g.met.S.PageStore.goes_on _ _ _ c.in_ok-first.ensures.left.later
-    (g.met.S.PageStore.goes_on _ _ _ c.in_ok-rest.ensures.left.later c.in-Err-write_both.ensures.left.later)
-
-pub returns-in-Ok-write_both-clause-later : goal.returns-in-Ok-write_both-clause-later
-returns-in-Ok-write_both-clause-later g c = g.met.S.PageStore.goes_on _ _ _ c.in_ok-first.ensures.left.later
-    (g.met.S.PageStore.goes_on _ _ _ c.in_ok-rest.ensures.left.later c.in-Ok-write_both.ensures.left.later)
-
 pub returns-in_err-first-clause-names : goal.returns-in_err-first-clause-names
 returns-in_err-first-clause-names g c =
     let p = err_from_is_err_and c.from_residual.result c.from_residual.ensures.1 in
@@ -108,8 +86,8 @@ returns-in_err-first-clause-names g c =
 pub returns-in_err-first-clause-bad : goal.returns-in_err-first-clause-bad
 returns-in_err-first-clause-bad g c =
     let p = err_from_is_err_and c.from_residual.result c.from_residual.ensures.1 in
-    rw (p.1, p.2) (λ height one. names_spare (g.S.PageStore.told c.args.store.now) (g.S.PageStore.told c.args.store.now) height c.args.left
-    c.named_of.result c.args.spare _ refl c.requires.left.0 c.named_of.ensures.named c.in_err-first.ensures.names c.in_err-first.ensures.bad one)
+    rw (p.1, p.2)
+    (λ height one. names_spare (g.S.PageStore.told c.args.store.now) (g.S.PageStore.told c.args.store.now) height c.args.left _ refl c.named_of.result c.args.spare c.requires.left.0 c.named_of.ensures.named c.in_err-first.ensures.names c.in_err-first.ensures.bad one)
 
 pub returns-in_err-rest-clause-names : goal.returns-in_err-rest-clause-names
 returns-in_err-rest-clause-names g c =
@@ -120,9 +98,8 @@ returns-in_err-rest-clause-names g c =
 pub returns-in_err-rest-clause-bad : goal.returns-in_err-rest-clause-bad
 returns-in_err-rest-clause-bad g c =
     let p = err_from_is_err_and c.from_residual-in_err-rest.result c.from_residual-in_err-rest.ensures.1 in
-    rw (p.1, p.2) (λ height one. names_spare (g.S.PageStore.told c.args.store.now) (g.S.PageStore.told c.read_leaf.new.store) height c.args.right
-    c.named_of-2.result c.args.spare _ c.in_ok-first.ensures.left.told c.requires.right.0 c.named_of-2.ensures.named c.in_err-rest.ensures.names
-    c.in_err-rest.ensures.bad one)
+    rw (p.1, p.2)
+    (λ height one. names_spare (g.S.PageStore.told c.args.store.now) (g.S.PageStore.told c.read_leaf.new.store) height c.args.right _ c.in_ok-first.ensures.left.told c.named_of-2.result c.args.spare c.requires.right.0 c.named_of-2.ensures.named c.in_err-rest.ensures.names c.in_err-rest.ensures.bad one)
 
 pub returns-in-Err-clause-names : goal.returns-in-Err-clause-names
 returns-in-Err-clause-names g c =

@@ -4,7 +4,7 @@ use Rattle.quilt_btree.proofs.removing.drop_child.Goals as goal
 
 pub returns-then-left-lt-LEAST_CHILDREN-clause-dropped : goal.returns-then-left-lt-LEAST_CHILDREN-clause-dropped
 returns-then-left-lt-LEAST_CHILDREN-clause-dropped g c =
-    let m = dropped_many c.args.inner.now c.remove.new.self c.args.j c.len.result c.len-left.result c.remove.ensures c.requires.place
+    let m = dropped_many c.args.inner.now c.args.j c.remove.ensures c.requires.place
     c.len.ensures.length c.len.ensures.keys c.len-left.ensures.length in (
       let h = c.if-left-lt-LEAST_CHILDREN.true in omega arith,
       dropped_written (g.S.PageStore.told c.args.store.now) (g.S.PageStore.told c.write_page.new.store) (g.S.PageStore.size c.args.store.now)
@@ -14,7 +14,7 @@ returns-then-left-lt-LEAST_CHILDREN-clause-dropped g c =
 
 pub returns-else-left-lt-LEAST_CHILDREN-clause-dropped : goal.returns-else-left-lt-LEAST_CHILDREN-clause-dropped
 returns-else-left-lt-LEAST_CHILDREN-clause-dropped g c =
-    let m = dropped_many c.args.inner.now c.remove.new.self c.args.j c.len.result c.len-left.result c.remove.ensures c.requires.place
+    let m = dropped_many c.args.inner.now c.args.j c.remove.ensures c.requires.place
     c.len.ensures.length c.len.ensures.keys c.len-left.ensures.length in (
       let h = c.if-left-lt-LEAST_CHILDREN.false in omega arith,
       dropped_written (g.S.PageStore.told c.args.store.now) (g.S.PageStore.told c.write_page.new.store) (g.S.PageStore.size c.args.store.now)

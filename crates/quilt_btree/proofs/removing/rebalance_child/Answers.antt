@@ -6,8 +6,8 @@ use Rattle.quilt_btree.proofs.removing.rebalance_child.Goals as goal
 
 pub returns-in-Err-clause-sound : goal.returns-in-Err-clause-sound
 returns-in-Err-clause-sound g c =
-    sound_rebalance c.in-Err.e (g.S.PageStore.told c.args.store.now) (g.S.PageStore.free c.args.store.now) c.args.page c.args.height c.args.inner.now
-    c.args.i c.pair_at-j.result (c.pair_at-j.result + 1) c.child-left.result c.key-key.result c.child-right.result (record {
+    sound_rebalance (g.S.PageStore.told c.args.store.now) (g.S.PageStore.free c.args.store.now) c.args.page c.args.height c.args.inner.now c.args.i
+    c.pair_at-j.result (c.pair_at-j.result + 1) c.child-left.result c.key-key.result c.child-right.result c.in-Err.e (record {
       in_range = subst (λ n. c.pair_at-j.result + 1 < n) c.len.ensures.length c.pair_at-j.ensures.both;
       one = c.pair_at-j.ensures.one;
       is_next = omega arith;
@@ -19,14 +19,13 @@ returns-in-Err-clause-sound g c =
           (g.met.S.PageStore.as_many c.args.store.now) e c.requires.page.1;
     }) c.in-Err.ensures.sound
 
-pub returns-in-Ok-Joined-clause-left : goal.returns-in-Ok-Joined-clause-left
-returns-in-Ok-Joined-clause-left g c =
+pub returns-in-Ok-Joined-clause-leaves : goal.returns-in-Ok-Joined-clause-leaves
+returns-in-Ok-Joined-clause-leaves g c =
     let found = rw c.in-Ok-Joined.field-0-is at c.in-Ok-Joined.ensures in
-    joined_left c.drop_child.result (g.S.PageStore.told c.args.store.now) (g.S.PageStore.told c.rebalance_pages.new.store)
-    (g.S.PageStore.told c.drop_child.new.store) (g.S.PageStore.free c.args.store.now) (g.S.PageStore.free c.rebalance_pages.new.store)
-    (g.S.PageStore.free c.drop_child.new.store)
-    c.args.page c.args.height c.args.inner.now c.args.i c.pair_at-j.result
-    (c.pair_at-j.result + 1) c.child-left.result c.key-key.result c.child-right.result (record {
+    joined_left (g.S.PageStore.told c.args.store.now) (g.S.PageStore.told c.rebalance_pages.new.store) (g.S.PageStore.free c.args.store.now)
+    (g.S.PageStore.free c.rebalance_pages.new.store) c.args.page c.args.height c.args.inner.now c.args.i c.pair_at-j.result c.child-left.result
+    c.key-key.result c.child-right.result c.drop_child.result (g.S.PageStore.told c.drop_child.new.store) (g.S.PageStore.free c.drop_child.new.store)
+    (c.pair_at-j.result + 1) (record {
       in_range = subst (λ n. c.pair_at-j.result + 1 < n) c.len.ensures.length c.pair_at-j.ensures.both;
       one = c.pair_at-j.ensures.one;
       is_next = omega arith;
@@ -41,10 +40,9 @@ returns-in-Ok-Joined-clause-left g c =
 pub returns-in-Ok-Joined-clause-sound : goal.returns-in-Ok-Joined-clause-sound
 returns-in-Ok-Joined-clause-sound g c =
     let found = rw c.in-Ok-Joined.field-0-is at c.in-Ok-Joined.ensures in
-    joined_sound c.drop_child.result (g.S.PageStore.told c.args.store.now) (g.S.PageStore.told c.rebalance_pages.new.store)
-    (g.S.PageStore.free c.args.store.now) (g.S.PageStore.free c.rebalance_pages.new.store)
-    c.args.page c.args.height c.args.inner.now c.args.i c.pair_at-j.result
-    (c.pair_at-j.result + 1) c.child-left.result c.key-key.result c.child-right.result (record {
+    joined_sound (g.S.PageStore.told c.args.store.now) (g.S.PageStore.told c.rebalance_pages.new.store) (g.S.PageStore.free c.args.store.now)
+    (g.S.PageStore.free c.rebalance_pages.new.store) c.args.page c.args.height c.args.inner.now c.args.i c.pair_at-j.result c.child-left.result
+    c.key-key.result c.child-right.result c.drop_child.result (c.pair_at-j.result + 1) (record {
       in_range = subst (λ n. c.pair_at-j.result + 1 < n) c.len.ensures.length c.pair_at-j.ensures.both;
       one = c.pair_at-j.ensures.one;
       is_next = omega arith;
@@ -74,8 +72,8 @@ returns-in-Err-renew_key-clause-sound g c =
           (g.met.S.PageStore.as_many c.args.store.now) e c.requires.page.1;
     }) found.rebalanced c.in-Err-renew_key.ensures.sound
 
-pub returns-in-Ok-clause-left : goal.returns-in-Ok-clause-left
-returns-in-Ok-clause-left g c =
+pub returns-in-Ok-clause-leaves : goal.returns-in-Ok-clause-leaves
+returns-in-Ok-clause-leaves g c =
     let found = rw c.in-Ok-Redistributed.field-0-is at c.in-Ok-Redistributed.ensures in
     separated_left (g.S.PageStore.told c.args.store.now) (g.S.PageStore.told c.rebalance_pages.new.store) (g.S.PageStore.told c.renew_key.new.store)
     (g.S.PageStore.free c.args.store.now) (g.S.PageStore.free c.rebalance_pages.new.store) (g.S.PageStore.free c.renew_key.new.store)
@@ -92,19 +90,10 @@ returns-in-Ok-clause-left g c =
           (g.met.S.PageStore.as_many c.args.store.now) e c.requires.page.1;
     }) found.rebalanced c.in-Ok.ensures.free c.in-Ok.ensures.renewed
 
-pub returns-in-Ok-Joined-clause-later : goal.returns-in-Ok-Joined-clause-later
-returns-in-Ok-Joined-clause-later g c = g.met.S.PageStore.goes_on _ _ _ c.in-Ok-Joined.ensures.later c.drop_child.ensures.left.later
-
-pub returns-in-Err-renew_key-clause-later : goal.returns-in-Err-renew_key-clause-later
-returns-in-Err-renew_key-clause-later g c = g.met.S.PageStore.goes_on _ _ _ c.in-Ok-Redistributed.ensures.later c.in-Err-renew_key.ensures.left.later
-
-pub returns-in-Ok-clause-later : goal.returns-in-Ok-clause-later
-returns-in-Ok-clause-later g c = g.met.S.PageStore.goes_on _ _ _ c.in-Ok-Redistributed.ensures.later c.in-Ok.ensures.left.later
-
 pub returns-in-Err-clause-bad : goal.returns-in-Err-clause-bad
 returns-in-Err-clause-bad g c =
-    names_beside (g.S.PageStore.told c.args.store.now) c.args.height c.args.inner.now c.args.i c.pair_at-j.result c.child-left.result c.child-right.result
-    c.child.result c.other_of-spare.result _ c.requires.height (subst (λ n. c.pair_at-j.result + 1 < n) c.len.ensures.length c.pair_at-j.ensures.both)
+    names_beside (g.S.PageStore.told c.args.store.now) c.args.height c.args.inner.now c.args.i c.pair_at-j.result
+    c.other_of-spare.result _ c.requires.height (subst (λ n. c.pair_at-j.result + 1 < n) c.len.ensures.length c.pair_at-j.ensures.both)
     c.child-left.ensures.child c.child-right.ensures.child c.child.ensures.child c.other_of-spare.ensures c.in-Err.ensures.bad
 
 pub returns-in-Ok-Joined-clause-bad : goal.returns-in-Ok-Joined-clause-bad

@@ -82,7 +82,8 @@ returns-else-left-lt-LEAST_RECORDS-clause-finds g c = λ height rs one s.
 pub returns-in_err-leaf-clause-names : goal.returns-in_err-leaf-clause-names
 returns-in_err-leaf-clause-names g c =
     let p = err_from_is_err_and c.from_residual.result c.from_residual.ensures.1 in
-    rw (p.1, p.2) (names_more (c.args.page + 1) (g.S.PageStore.size c.args.store.now) _ (let q = c.requires.1 in omega arith) c.in_err-leaf.ensures.names)
+    rw (p.1, p.2)
+    (names_more (c.args.page + 1) (g.S.PageStore.size c.args.store.now) _ (let q = c.requires.1 in omega arith) c.in_err-leaf.ensures.names)
 
 pub returns-in_err-leaf-clause-bad : goal.returns-in_err-leaf-clause-bad
 returns-in_err-leaf-clause-bad g c =
@@ -96,15 +97,6 @@ returns-in-Err-write_page-clause-names g c =
 pub returns-in-Err-write_page-clause-bad : goal.returns-in-Err-write_page-clause-bad
 returns-in-Err-write_page-clause-bad g c =
     zero_names (g.S.PageStore.told c.args.store.now) 1 c.args.page c.in-Err-write_page.e c.in-Err-write_page.ensures.names
-
-pub returns-in-Err-write_page-clause-later : goal.returns-in-Err-write_page-clause-later
-returns-in-Err-write_page-clause-later g c = g.met.S.PageStore.goes_on _ _ _ c.in_ok-leaf.ensures.left.later c.in-Err-write_page.ensures.left.later
-
-pub returns-then-left-lt-LEAST_RECORDS-clause-later : goal.returns-then-left-lt-LEAST_RECORDS-clause-later
-returns-then-left-lt-LEAST_RECORDS-clause-later g c = g.met.S.PageStore.goes_on _ _ _ c.in_ok-leaf.ensures.left.later c.in-Ok-write_page.ensures.left.later
-
-pub returns-else-left-lt-LEAST_RECORDS-clause-later : goal.returns-else-left-lt-LEAST_RECORDS-clause-later
-returns-else-left-lt-LEAST_RECORDS-clause-later g c = g.met.S.PageStore.goes_on _ _ _ c.in_ok-leaf.ensures.left.later c.in-Ok-write_page.ensures.left.later
 
 pub returns-in-Err-clause-others : goal.returns-in-Err-clause-others
 returns-in-Err-clause-others g c = same_others c.args.page _ _ c.in_ok-leaf.ensures.left.told

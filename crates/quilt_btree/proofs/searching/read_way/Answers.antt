@@ -11,7 +11,7 @@ returns-in-Err-clause-sound g c = λ height rs some above s. c.in-Err.ensures.so
 
 pub returns-in-None-clause-sound : goal.returns-in-None-clause-sound
 returns-in-None-clause-sound g c = λ height rs some above s.
-    let h = is_high (g.S.PageStore.told c.args.store.now) (g.S.PageStore.told c.read_into.new.store) c.args.page height c.pages.result c.read_into.new.bytes rs
+    let h = is_high
     (read_ok (g.S.PageStore.told c.args.store.now) (g.S.PageStore.told c.read_into.new.store) c.args.page height c.pages.result
     (g.S.PageStore.size c.args.store.now) c.read_into.new.bytes some above c.in-Ok.ensures.left.told (g.met.S.PageStore.as_many c.args.store.now)
     (c.pages.ensures ∙ c.in-Ok.ensures.left.size) c.in-Ok.ensures.bytes) s in
@@ -26,8 +26,7 @@ returns-in-Some-clause-way g c =
 
 pub returns-in-Some-clause-here : goal.returns-in-Some-clause-here
 returns-in-Some-clause-here g c = λ height rs some above s.
-    is_high (g.S.PageStore.told c.args.store.now) (g.S.PageStore.told c.read_into.new.store) c.args.page height (g.S.PageStore.size c.args.store.now)
-    c.read_into.new.bytes rs
+    is_high
     (read_ok (g.S.PageStore.told c.args.store.now) (g.S.PageStore.told c.read_into.new.store) c.args.page height
     (g.S.PageStore.size c.args.store.now) (g.S.PageStore.size c.args.store.now) c.read_into.new.bytes some above c.in-Ok.ensures.left.told
     (g.met.S.PageStore.as_many c.args.store.now) refl c.in-Ok.ensures.bytes) s

@@ -13,7 +13,7 @@ pub returns-clause-goes_on : goal.returns-clause-goes_on
 returns-clause-goes_on g c =
     let a = c.args.book.now in
     let d = c.apply.new.store in
-    goes_both {D = g.W.Disk} a d c.set_tree.new.self (goes_of {D = g.W.Disk} a d c.apply.ensures.later) c.set_tree.ensures.goes_on
+    goes_both {D = g.W.Disk} a d c.set_tree.new.self (goes_of {D = g.W.Disk} a d c.apply.ensures.left.later) c.set_tree.ensures.goes_on
 
 pub returns-clause-edited : goal.returns-clause-edited
 returns-clause-edited g c = λ rs whole.

@@ -8,5 +8,5 @@ returns c told t before after s =
     let some = c.requires.here in
     let most = c.requires.place.1 in
     let lt : c.args.self.now.place - 1 < length (records_of c.args.self.now.bytes) = omega arith in
-    goes_back told t c.rec_in.result c.args.self.now.bytes c.args.self.now.place (c.args.self.now.place - 1) c.args.self.now.high before after (omega arith)
+    goes_back c.rec_in.result (c.args.self.now.place - 1) (omega arith)
     (c.rec_in.ensures.stands lt) s

@@ -1,6 +1,6 @@
-use Rattle.std.proofs.Common.{sym, ◌∙◌, ◌≢◌, arith}
+use Rattle.std.proofs.Common.{rules, sym, ◌∙◌, ◌≢◌, arith}
 use Rattle.quilt_btree.specs.Looks.{IsSpoilt}
-use Rattle.quilt_btree.proofs.ranges.Spans.{added_within, above_bound}
+use Rattle.quilt_btree.proofs.ranges.Spans.{added_most, added_within, above_bound}
 use Rattle.quilt_node.specs.Nodes.{records_of}
 use Rattle.quilt_btree.proofs.subtrees.Whole.{tree_spells}
 use Rattle.quilt_btree.proofs.ranges.Rests.{rest_ends, rest_fills, rest_adds, rest_next, none_over}
@@ -13,23 +13,33 @@ returns-in-Err-clause-sound g c =
     let ne : c.args.self.now.height ≢ 0 = let h = c.requires.height in omega arith in
     λ low rs is b. c.in-Err.ensures.sound rs (tree_spells (g.S.PageStore.told c.args.store.now) c.args.self.now rs ne is).0
 
-pub returns-then-now-most-clause-ends : goal.returns-then-now-most-clause-ends
-returns-then-now-most-clause-ends g c = λ none low rs is b.
-    rest_fills (g.S.PageStore.told c.args.store.now) c.args.self.now low c.args.from.now c.args.high.now c.args.most
-    (records_of c.in-Ok-add_at.ensures.adds.bytes) c.args.records.now.items c.add_at.new.records.items rs c.in-Ok.found.high (record {
-      some = let h = c.requires.height in omega arith;
-      leads = (c.in-Ok.ensures.arrives c.in-Ok-add_at.ensures.adds.bytes (told_before _ _ _ _ (sym c.in-Ok.ensures.left.told) c.in-Ok-add_at.ensures.adds.are)).leads;
-      cut = (c.in-Ok.ensures.arrives c.in-Ok-add_at.ensures.adds.bytes (told_before _ _ _ _ (sym c.in-Ok.ensures.left.told) c.in-Ok-add_at.ensures.adds.are)).cut;
-      seen = c.in-Ok-add_at.ensures.adds.some;
-      added = c.in-Ok-add_at.ensures.adds.added;
-      same = λ rs s. c.in-Ok-add_at.ensures.adds.same
-          (records_of c.in-Ok-add_at.ensures.adds.bytes) ((c.in-Ok.ensures.arrives c.in-Ok-add_at.ensures.adds.bytes (told_before _ _ _ _ (sym c.in-Ok.ensures.left.told) c.in-Ok-add_at.ensures.adds.are)).leaf rs s);
-    }) is b
-    (let e = c.in-Ok-add_at.ensures.number in let t = c.if-now-most.true in omega arith)
+pub returns-then-now-most-clause-goes_on : goal.returns-then-now-most-clause-goes_on
+returns-then-now-most-clause-goes_on g c = record {
+  ends =
+      λ none low rs is b.
+      rest_fills (g.S.PageStore.told c.args.store.now) c.args.self.now low c.args.from.now c.args.high.now c.args.most
+      (records_of c.in-Ok-add_at.ensures.adds.bytes) c.args.records.now.items c.add_at.new.records.items rs c.in-Ok.found.high (record {
+        some = let h = c.requires.height in omega arith;
+        leads = (c.in-Ok.ensures.arrives c.in-Ok-add_at.ensures.adds.bytes (told_before _ _ _ _ (sym c.in-Ok.ensures.left.told) c.in-Ok-add_at.ensures.adds.are)).leads;
+        cut = (c.in-Ok.ensures.arrives c.in-Ok-add_at.ensures.adds.bytes (told_before _ _ _ _ (sym c.in-Ok.ensures.left.told) c.in-Ok-add_at.ensures.adds.are)).cut;
+        seen = c.in-Ok-add_at.ensures.adds.some;
+        added = c.in-Ok-add_at.ensures.adds.added;
+        same = λ rs s. c.in-Ok-add_at.ensures.adds.same
+            (records_of c.in-Ok-add_at.ensures.adds.bytes) ((c.in-Ok.ensures.arrives c.in-Ok-add_at.ensures.adds.bytes (told_before _ _ _ _ (sym c.in-Ok.ensures.left.told) c.in-Ok-add_at.ensures.adds.are)).leaf rs s);
+      }) is b
+      (let e = c.in-Ok-add_at.ensures.number in let t = c.if-now-most.true in omega arith);
+  goes_on =
+      tt;
+  adds =
+      tt;
+  further =
+      tt;
+}
 
 pub returns-in-Ok-fault_at-clause-sound : goal.returns-in-Ok-fault_at-clause-sound
 returns-in-Ok-fault_at-clause-sound g c = λ low rs is b page e. rest_adds (g.S.PageStore.told c.args.store.now) c.args.self.now c.args.from.now
-    c.args.high.now c.in-Some.field-0 c.args.most (records_of c.in-Ok-add_at.ensures.adds.bytes) c.args.records.now.items c.add_at.new.records.items rs
+    c.args.high.now c.in-Some.field-0 c.args.most (records_of c.in-Ok-add_at.ensures.adds.bytes) c.args.records.now.items c.add_at.new.records.items
+    rs
     c.in-Ok.found.high (record {
       some = let h = c.requires.height in omega arith;
       leads = (c.in-Ok.ensures.arrives c.in-Ok-add_at.ensures.adds.bytes (told_before _ _ _ _ (sym c.in-Ok.ensures.left.told) c.in-Ok-add_at.ensures.adds.are)).leads;
@@ -46,56 +56,98 @@ returns-in-Ok-fault_at-clause-sound g c = λ low rs is b page e. rest_adds (g.S.
     (let e = c.in-Ok-add_at.ensures.number in let f = c.len-had.ensures in let t = c.if-now-had.true in omega (arith, c.args.records.now.ok.0))
 
 pub returns-in_default-clause-goes_on : goal.returns-in_default-clause-goes_on
-returns-in_default-clause-goes_on g c = rw c.in-Some.is (λ low rs is b.
-    rest_next (g.S.PageStore.told c.args.store.now) c.args.self.now low c.args.from.now c.args.high.now c.in-Some.field-0 c.args.most
-    (records_of c.in-Ok-add_at.ensures.adds.bytes) c.args.records.now.items c.add_at.new.records.items rs c.in-Ok.found.high (record {
-      some = let h = c.requires.height in omega arith;
-      leads = (c.in-Ok.ensures.arrives c.in-Ok-add_at.ensures.adds.bytes (told_before _ _ _ _ (sym c.in-Ok.ensures.left.told) c.in-Ok-add_at.ensures.adds.are)).leads;
-      cut = (c.in-Ok.ensures.arrives c.in-Ok-add_at.ensures.adds.bytes (told_before _ _ _ _ (sym c.in-Ok.ensures.left.told) c.in-Ok-add_at.ensures.adds.are)).cut;
-      seen = c.in-Ok-add_at.ensures.adds.some;
-      added = c.in-Ok-add_at.ensures.adds.added;
-      same = λ rs s. c.in-Ok-add_at.ensures.adds.same
-          (records_of c.in-Ok-add_at.ensures.adds.bytes) ((c.in-Ok.ensures.arrives c.in-Ok-add_at.ensures.adds.bytes (told_before _ _ _ _ (sym c.in-Ok.ensures.left.told) c.in-Ok-add_at.ensures.adds.are)).leaf rs s);
-    }) is b c.in-Some.ensures.0)
+returns-in_default-clause-goes_on g c = record {
+  ends =
+      search rules;
+  goes_on =
+      rw c.in-Some.is (λ low rs is b.
+      rest_next low c.args.from.now c.args.high.now c.args.most
+      (records_of c.in-Ok-add_at.ensures.adds.bytes) c.args.records.now.items c.add_at.new.records.items (record {
+        some = let h = c.requires.height in omega arith;
+        leads = (c.in-Ok.ensures.arrives c.in-Ok-add_at.ensures.adds.bytes (told_before _ _ _ _ (sym c.in-Ok.ensures.left.told) c.in-Ok-add_at.ensures.adds.are)).leads;
+        cut = (c.in-Ok.ensures.arrives c.in-Ok-add_at.ensures.adds.bytes (told_before _ _ _ _ (sym c.in-Ok.ensures.left.told) c.in-Ok-add_at.ensures.adds.are)).cut;
+        seen = c.in-Ok-add_at.ensures.adds.some;
+        added = c.in-Ok-add_at.ensures.adds.added;
+        same = λ rs s. c.in-Ok-add_at.ensures.adds.same
+            (records_of c.in-Ok-add_at.ensures.adds.bytes) ((c.in-Ok.ensures.arrives c.in-Ok-add_at.ensures.adds.bytes (told_before _ _ _ _ (sym c.in-Ok.ensures.left.told) c.in-Ok-add_at.ensures.adds.are)).leaf rs s);
+      }) is b c.in-Some.ensures.0);
+  adds =
+      let m = added_most c.args.most c.args.records.now.items _ _ c.in-Ok-add_at.ensures.adds.added
+      (let r = c.requires.room in omega (arith, c.args.records.now.ok.0)) in
+      let e = c.in-Ok-add_at.ensures.number in
+      let f = c.len-had.ensures in
+      let t = c.if-now-had.false in
+      rw c.in-Some.is (omega (arith, m.1, c.args.records.now.ok.0, c.add_at.new.records.ok.0));
+  further =
+      rw c.in-Some.is (above_bound c.args.from.now c.in-Some.field-0 c.in-Ok.found.high c.in-Ok.ensures.range.above c.in-Some.ensures.0);
+}
 
-pub returns-in_default-2-clause-ends : goal.returns-in_default-2-clause-ends
-returns-in_default-2-clause-ends g c = λ none low rs is b.
-    rest_ends (g.S.PageStore.told c.args.store.now) c.args.self.now low c.args.from.now c.args.high.now c.args.most
-    (records_of c.in-Ok-add_at.ensures.adds.bytes) c.args.records.now.items c.add_at.new.records.items rs c.in-Ok.found.high (record {
-      some = let h = c.requires.height in omega arith;
-      leads = (c.in-Ok.ensures.arrives c.in-Ok-add_at.ensures.adds.bytes (told_before _ _ _ _ (sym c.in-Ok.ensures.left.told) c.in-Ok-add_at.ensures.adds.are)).leads;
-      cut = (c.in-Ok.ensures.arrives c.in-Ok-add_at.ensures.adds.bytes (told_before _ _ _ _ (sym c.in-Ok.ensures.left.told) c.in-Ok-add_at.ensures.adds.are)).cut;
-      seen = c.in-Ok-add_at.ensures.adds.some;
-      added = c.in-Ok-add_at.ensures.adds.added;
-      same = λ rs s. c.in-Ok-add_at.ensures.adds.same
-          (records_of c.in-Ok-add_at.ensures.adds.bytes) ((c.in-Ok.ensures.arrives c.in-Ok-add_at.ensures.adds.bytes (told_before _ _ _ _ (sym c.in-Ok.ensures.left.told) c.in-Ok-add_at.ensures.adds.are)).leaf rs s);
-    }) is b
-    (none_over c.key_up_to.result c.in-Ok.found.high c.args.high.now c.key_up_to.ensures none)
+pub returns-in_default-2-clause-goes_on : goal.returns-in_default-2-clause-goes_on
+returns-in_default-2-clause-goes_on g c = record {
+  ends =
+      λ none low rs is b.
+      rest_ends (g.S.PageStore.told c.args.store.now) c.args.self.now low c.args.from.now c.args.high.now c.args.most
+      (records_of c.in-Ok-add_at.ensures.adds.bytes) c.args.records.now.items c.add_at.new.records.items rs c.in-Ok.found.high (record {
+        some = let h = c.requires.height in omega arith;
+        leads = (c.in-Ok.ensures.arrives c.in-Ok-add_at.ensures.adds.bytes (told_before _ _ _ _ (sym c.in-Ok.ensures.left.told) c.in-Ok-add_at.ensures.adds.are)).leads;
+        cut = (c.in-Ok.ensures.arrives c.in-Ok-add_at.ensures.adds.bytes (told_before _ _ _ _ (sym c.in-Ok.ensures.left.told) c.in-Ok-add_at.ensures.adds.are)).cut;
+        seen = c.in-Ok-add_at.ensures.adds.some;
+        added = c.in-Ok-add_at.ensures.adds.added;
+        same = λ rs s. c.in-Ok-add_at.ensures.adds.same
+            (records_of c.in-Ok-add_at.ensures.adds.bytes) ((c.in-Ok.ensures.arrives c.in-Ok-add_at.ensures.adds.bytes (told_before _ _ _ _ (sym c.in-Ok.ensures.left.told) c.in-Ok-add_at.ensures.adds.are)).leaf rs s);
+      }) is b
+      (none_over c.key_up_to.result c.in-Ok.found.high c.args.high.now c.key_up_to.ensures none);
+  goes_on =
+      search rules;
+  adds =
+      search rules;
+  further =
+      search rules;
+}
 
-pub returns-then-now-most-clause-within : goal.returns-then-now-most-clause-within
-returns-then-now-most-clause-within g c = λ low le old.
-    added_within low c.args.from.now c.args.high.now c.args.most
-    c.in-Ok-add_at.ensures.adds.some c.args.records.now.items
-    c.add_at.new.records.items
-    (c.in-Ok-add_at.ensures.adds.added) le old
+pub returns-then-now-most-clause-grows : goal.returns-then-now-most-clause-grows
+returns-then-now-most-clause-grows g c = record {
+  room =
+      search rules;
+  within =
+      λ low le old.
+      added_within low c.args.from.now c.args.high.now le c.args.most c.in-Ok-add_at.ensures.adds.some c.args.records.now.items
+      c.add_at.new.records.items (c.in-Ok-add_at.ensures.adds.added) old;
+  more =
+      search rules;
+}
 
-pub returns-in_default-clause-within : goal.returns-in_default-clause-within
-returns-in_default-clause-within g c = λ low le old.
-    added_within low c.args.from.now c.args.high.now c.args.most
-    c.in-Ok-add_at.ensures.adds.some c.args.records.now.items
-    c.add_at.new.records.items
-    (c.in-Ok-add_at.ensures.adds.added) le old
+pub returns-in_default-clause-grows : goal.returns-in_default-clause-grows
+returns-in_default-clause-grows g c = record {
+  room =
+      let m = added_most c.args.most c.args.records.now.items _ _ c.in-Ok-add_at.ensures.adds.added
+      (let r = c.requires.room in omega (arith, c.args.records.now.ok.0)) in
+      omega (arith, m.0, c.add_at.new.records.ok.0);
+  within =
+      λ low le old.
+      added_within low c.args.from.now c.args.high.now le c.args.most c.in-Ok-add_at.ensures.adds.some c.args.records.now.items
+      c.add_at.new.records.items (c.in-Ok-add_at.ensures.adds.added) old;
+  more =
+      let m = added_most c.args.most c.args.records.now.items _ _ c.in-Ok-add_at.ensures.adds.added
+      (let r = c.requires.room in omega (arith, c.args.records.now.ok.0)) in
+      omega (arith, m.1, c.args.records.now.ok.0, c.add_at.new.records.ok.0);
+}
 
-pub returns-in_default-2-clause-within : goal.returns-in_default-2-clause-within
-returns-in_default-2-clause-within g c = λ low le old.
-    added_within low c.args.from.now c.args.high.now c.args.most
-    c.in-Ok-add_at.ensures.adds.some c.args.records.now.items
-    c.add_at.new.records.items
-    (c.in-Ok-add_at.ensures.adds.added) le old
-
-pub returns-in_default-clause-further : goal.returns-in_default-clause-further
-returns-in_default-clause-further g c =
-    rw c.in-Some.is (above_bound c.args.from.now c.in-Some.field-0 c.in-Ok.found.high c.in-Ok.ensures.above c.in-Some.ensures.0)
+pub returns-in_default-2-clause-grows : goal.returns-in_default-2-clause-grows
+returns-in_default-2-clause-grows g c = record {
+  room =
+      let m = added_most c.args.most c.args.records.now.items _ _ c.in-Ok-add_at.ensures.adds.added
+      (let r = c.requires.room in omega (arith, c.args.records.now.ok.0)) in
+      omega (arith, m.0, c.add_at.new.records.ok.0);
+  within =
+      λ low le old.
+      added_within low c.args.from.now c.args.high.now le c.args.most c.in-Ok-add_at.ensures.adds.some c.args.records.now.items
+      c.add_at.new.records.items (c.in-Ok-add_at.ensures.adds.added) old;
+  more =
+      let m = added_most c.args.most c.args.records.now.items _ _ c.in-Ok-add_at.ensures.adds.added
+      (let r = c.requires.room in omega (arith, c.args.records.now.ok.0)) in
+      omega (arith, m.1, c.args.records.now.ok.0, c.add_at.new.records.ok.0);
+}
 
 pub returns-in-Err-clause-bad : goal.returns-in-Err-clause-bad
 returns-in-Err-clause-bad g c = λ ne. c.in-Err.ensures.bad

@@ -17,17 +17,20 @@ returns-in_err-k-clause-sound g c =
 
 pub loop-k-preserved : goal.loop-k-preserved
 loop-k-preserved g c =
-    let adds = if_some c.in_ok-k.field-0 c.in-Some.k (vec_len c.loop-k.records < vec_len c.add_next.new.records) c.in-Some.is c.in_ok-k.ensures.adds in
+    let adds = if_some c.in_ok-k.field-0 c.in-Some.k (vec_len c.loop-k.records < vec_len c.add_next.new.records) c.in-Some.is
+    c.in_ok-k.ensures.goes_on.adds in
     record {
-      goes_on = loop_goes_on c.in_ok-k.field-0 (g.S.PageStore.told c.args.store.now) (g.S.PageStore.told c.loop-k.store) c.args.self.now
-          c.args.high.now c.args.from.now c.loop-k.next c.in-Some.k c.args.most c.args.records.now.items c.loop-k.records.items c.add_next.new.records.items
-          c.loop-k.invariant.left.told c.in-Some.is c.loop-k.invariant.goes_on c.in_ok-k.ensures.goes_on;
-      room = c.in_ok-k.ensures.room;
+      goes_on = loop_goes_on c.args.self.now
+          c.args.high.now c.args.from.now c.loop-k.next c.args.most c.args.records.now.items c.loop-k.records.items
+          c.add_next.new.records.items
+          c.loop-k.invariant.left.told c.in-Some.is c.loop-k.invariant.goes_on c.in_ok-k.ensures.goes_on.goes_on;
+      room = c.in_ok-k.ensures.grows.room;
       within = λ low le old.
           let so_far = c.loop-k.invariant.within low le old in
-          let on = at_some c.in_ok-k.field-0 c.in-Some.k (λ k. is_lt (key_cmp c.loop-k.next k) ≡ true) c.in-Some.is c.in_ok-k.ensures.further in
-          (le_on low c.loop-k.next c.in-Some.k so_far.0 on, c.in_ok-k.ensures.within low so_far.0 so_far.1);
-      more = let m = c.loop-k.invariant.more in let n = c.in_ok-k.ensures.more in omega arith;
+          let on = at_some c.in_ok-k.field-0 c.in-Some.k (λ k. is_lt (key_cmp c.loop-k.next k) ≡ true) c.in-Some.is
+          c.in_ok-k.ensures.goes_on.further in
+          (le_on low c.loop-k.next c.in-Some.k so_far.0 on, c.in_ok-k.ensures.grows.within low so_far.0 so_far.1);
+      more = let m = c.loop-k.invariant.more in let n = c.in_ok-k.ensures.grows.more in omega arith;
       left = only_reads_ok _ (only_reads_then _ g.met.S.PageStore.goes_on _ _ _ c.loop-k.invariant.left c.in_ok-k.ensures.left) tt;
       reads = loop_reads _ _ _ (vec_len c.args.records.now) (vec_len c.loop-k.records)
           (vec_len c.add_next.new.records) adds c.loop-k.invariant.reads c.in_ok-k.ensures.reads;
@@ -35,14 +38,22 @@ loop-k-preserved g c =
 
 pub returns-clause-rest : goal.returns-clause-rest
 returns-clause-rest g c =
-    loop_ends c.in_ok-k.field-0 (g.S.PageStore.told c.args.store.now) (g.S.PageStore.told c.loop-k.store)
-    c.args.self.now c.args.high.now c.args.from.now c.loop-k.next c.args.most c.args.records.now.items c.loop-k.records.items c.add_next.new.records.items
-    c.loop-k.invariant.left.told (none_is c.in_ok-k.field-0 c.in_default.not-Some) c.loop-k.invariant.goes_on c.in_ok-k.ensures.ends
+    loop_ends
+    c.args.self.now c.args.high.now c.args.from.now c.loop-k.next c.args.most c.args.records.now.items c.loop-k.records.items
+    c.add_next.new.records.items
+    c.loop-k.invariant.left.told (none_is c.in_ok-k.field-0 c.in_default.not-Some) c.loop-k.invariant.goes_on c.in_ok-k.ensures.goes_on.ends
 
-pub returns-clause-within : goal.returns-clause-within
-returns-clause-within g c = λ low le old.
-    let so_far = c.loop-k.invariant.within low le old in
-    c.in_ok-k.ensures.within low so_far.0 so_far.1
+pub returns-clause-grows : goal.returns-clause-grows
+returns-clause-grows g c = record {
+  room =
+      c.in_ok-k.ensures.grows.room;
+  within =
+      λ low le old.
+      let so_far = c.loop-k.invariant.within low le old in
+      c.in_ok-k.ensures.grows.within low so_far.0 so_far.1;
+  more =
+      let m = c.loop-k.invariant.more in let n = c.in_ok-k.ensures.grows.more in omega arith;
+}
 
 pub returns-in_err-k-clause-bad : goal.returns-in_err-k-clause-bad
 returns-in_err-k-clause-bad g c =

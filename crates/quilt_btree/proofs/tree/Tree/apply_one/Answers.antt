@@ -12,7 +12,7 @@ returns-in-Err-clause-fails g c rs w page is = absurd (c.in-Err.ensures.sound rs
 
 pub returns-then-is_out-clause-edited : goal.returns-then-is_out-clause-edited
 returns-then-is_out-clause-edited g c rs w =
-    let h = c.in-Ok.ensures.removed rs w in (
+    let h = c.in-Ok.ensures.removes.removed rs w in (
       ap (λ e. is_due e rs) c.in-Remove.is ∙ sym h.0 ∙ c.if-is_out.true,
       subst (λ e. IsWhole (g.S.PageStore.told c.remove.new.store) (g.S.PageStore.free c.remove.new.store) (g.S.PageStore.size c.args.store.now)
           c.remove.new.self (edited e rs)) (sym c.in-Remove.is) h.1,
@@ -23,7 +23,7 @@ returns-in-Err-insert-clause-fails g c rs w page is = absurd (c.in-Err-insert.en
 
 pub returns-then-is_new-clause-edited : goal.returns-then-is_new-clause-edited
 returns-then-is_new-clause-edited g c rs w =
-    let h = c.in-Ok-insert.ensures.inserted rs w in (
+    let h = c.in-Ok-insert.ensures.inserts.inserted rs w in (
       ap (λ e. is_due e rs) c.in-Put.is ∙ sym h.0 ∙ c.if-is_new.true,
       subst (λ e. IsWhole (g.S.PageStore.told c.insert.new.store) (g.S.PageStore.free c.insert.new.store) (g.S.PageStore.size c.args.store.now)
           c.insert.new.self (edited e rs)) (sym c.in-Put.is)
@@ -36,22 +36,23 @@ returns-in-Err-remove-clause-fails g c rs w page is = absurd (c.in-Err-remove.en
 
 pub returns-in-Err-insert-2-clause-fails : goal.returns-in-Err-insert-2-clause-fails
 returns-in-Err-insert-2-clause-fails g c rs w =
-    let h = c.in-Ok-remove.ensures.removed rs w in
+    let h = c.in-Ok-remove.ensures.removes.removed rs w in
     let mid = subst (λ n. IsWhole (g.S.PageStore.told c.remove-in-Replace.new.store) (g.S.PageStore.free c.remove-in-Replace.new.store) n
-    c.remove-in-Replace.new.self (without c.in-Replace.record.key rs)) (sym c.in-Ok-remove.ensures.size) h.1 in
-    run_zero (is_due c.args.edit.now rs ≡ false) c.in-Err-insert-2.e c.stop_behind.result 1 (stops_behind c.in-Err-insert-2.e c.stop_behind.result 1 c.stop_behind.ensures)
+    c.remove-in-Replace.new.self (without c.in-Replace.record.key rs)) (sym c.in-Ok-remove.ensures.left.size) h.1 in
+    run_zero (is_due c.args.edit.now rs ≡ false) c.in-Err-insert-2.e c.stop_behind.result 1
+    (stops_behind c.in-Err-insert-2.e c.stop_behind.result 1 c.stop_behind.ensures)
     (λ page is. absurd (c.in-Err-insert-2.ensures.sound (without c.in-Replace.record.key rs) mid page is))
 
 pub returns-then-is_new-2-clause-edited : goal.returns-then-is_new-2-clause-edited
 returns-then-is_new-2-clause-edited g c rs w =
     let k = c.in-Replace.record.key in
-    let h = c.in-Ok-remove.ensures.removed rs w in
+    let h = c.in-Ok-remove.ensures.removes.removed rs w in
     let mid = subst (λ n. IsWhole (g.S.PageStore.told c.remove-in-Replace.new.store) (g.S.PageStore.free c.remove-in-Replace.new.store) n
-    c.remove-in-Replace.new.self (without k rs)) (sym c.in-Ok-remove.ensures.size) h.1 in
-    let i = c.in-Ok-insert-2.ensures.inserted (without k rs) mid in
+    c.remove-in-Replace.new.self (without k rs)) (sym c.in-Ok-remove.ensures.left.size) h.1 in
+    let i = c.in-Ok-insert-2.ensures.inserts.inserted (without k rs) mid in
     let back = subst (λ n. IsWhole (g.S.PageStore.told c.insert-in-Ok-remove.new.store) (g.S.PageStore.free c.insert-in-Ok-remove.new.store) n
     c.insert-in-Ok-remove.new.self (if c.in-Ok-insert-2.is_new then put c.in-Replace.record (without k rs) else without k rs))
-    c.in-Ok-remove.ensures.size i.1 in (
+    c.in-Ok-remove.ensures.left.size i.1 in (
       ap (λ e. is_due e rs) c.in-Replace.is ∙ sym h.0 ∙ c.if-not-is_out.false,
       subst (λ e. IsWhole (g.S.PageStore.told c.insert-in-Ok-remove.new.store) (g.S.PageStore.free c.insert-in-Ok-remove.new.store)
           (g.S.PageStore.size c.args.store.now) c.insert-in-Ok-remove.new.self (edited e rs)) (sym c.in-Replace.is)
@@ -63,8 +64,8 @@ returns-then-is_new-2-clause-edited g c rs w =
 pub returns-else-is_new-2-clause-fails : goal.returns-else-is_new-2-clause-fails
 returns-else-is_new-2-clause-fails g c rs w page is =
     let k = c.in-Replace.record.key in
-    let h = c.in-Ok-remove.ensures.removed rs w in
+    let h = c.in-Ok-remove.ensures.removes.removed rs w in
     let mid = subst (λ n. IsWhole (g.S.PageStore.told c.remove-in-Replace.new.store) (g.S.PageStore.free c.remove-in-Replace.new.store) n
-    c.remove-in-Replace.new.self (without k rs)) (sym c.in-Ok-remove.ensures.size) h.1 in
-    let i = c.in-Ok-insert-2.ensures.inserted (without k rs) mid in
+    c.remove-in-Replace.new.self (without k rs)) (sym c.in-Ok-remove.ensures.left.size) h.1 in
+    let i = c.in-Ok-insert-2.ensures.inserts.inserted (without k rs) mid in
     absurd (true_false c.in-Ok-insert-2.is_new (i.0 ∙ ap not (gone k rs)) c.if-is_new-2.false)

@@ -70,7 +70,8 @@ returns-in-Err-add_rest-clause-sound g c =
 pub returns-in-Ok-add_rest-clause-range : goal.returns-in-Ok-add_rest-clause-range
 returns-in-Ok-add_rest-clause-range g c =
     first_result (g.S.PageStore.told c.args.store.now) (g.S.PageStore.told c.add_at.new.store) c.args.self.now c.args.low.now c.args.high.now
-    c.in-Some.next c.args.most (records_of c.in-Ok-add_at.ensures.adds.bytes) c.add_at.new.records.items c.add_rest.new.records.items c.in-Ok.found.high
+    c.in-Some.next c.args.most (records_of c.in-Ok-add_at.ensures.adds.bytes) c.add_at.new.records.items c.add_rest.new.records.items
+    c.in-Ok.found.high
     (c.in-Ok-add_at.ensures.looks.left.told ∙ c.in-Ok.ensures.left.told) (record {
       some = c.if-self-eq0.false;
       leads = (c.in-Ok.ensures.arrives c.in-Ok-add_at.ensures.adds.bytes (told_before _ _ _ _ (sym c.in-Ok.ensures.left.told) c.in-Ok-add_at.ensures.adds.are)).leads;
@@ -107,9 +108,9 @@ returns-in-None-clause-within g c =
 
 pub returns-in-Ok-add_rest-clause-within : goal.returns-in-Ok-add_rest-clause-within
 returns-in-Ok-add_rest-clause-within g c =
-    c.in-Ok-add_rest.ensures.within c.args.low.now
+    c.in-Ok-add_rest.ensures.grows.within c.args.low.now
     (lt_to_le (key_cmp c.args.low.now c.in-Some.next)
-    (above_bound c.args.low.now c.in-Some.next c.in-Ok.found.high c.in-Ok.ensures.above c.in-Some.ensures.0))
+    (above_bound c.args.low.now c.in-Some.next c.in-Ok.found.high c.in-Ok.ensures.range.above c.in-Some.ensures.0))
     (first_within c.args.low.now c.args.high.now c.args.most
     c.in-Ok-add_at.ensures.adds.some c.add_at.new.records.items
     (c.in-Ok-add_at.ensures.adds.added
