@@ -3,9 +3,12 @@ pub mod Commands
 pub mod Counts
 pub mod Cuts
 pub mod Digits
+pub mod Enough
 pub mod Groups
 pub mod Joins
 pub mod LineLaws
 pub mod Long
 pub mod Pieces
+pub mod Shortened
 pub mod Takes
+pub mod Unfinished

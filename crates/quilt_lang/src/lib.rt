@@ -7,6 +7,7 @@ mod counting;
 mod cutting;
 mod front;
 mod held;
+mod keeping;
 mod lines;
 mod progress;
 mod reading;

@@ -5,8 +5,9 @@ ghost use Rattle.quilt_words.specs.Fitting.{IsFitting};
 ghost use Rattle.quilt_lang.specs.Reading.{Gives, GivesCommand, GivesItem, HasNone, kept_limit};
 
 use crate::commanding::{CommandFront, front_command};
-use crate::cutting::{kept_len, silent_front};
+use crate::cutting::silent_front;
 use crate::front::{Front, front_item};
+use crate::keeping::kept_progress;
 use crate::progress::Progress;
 use quilt_types::Code;
 use quilt_words::{Command, Item};
@@ -59,22 +60,22 @@ impl Lines {
         ensures short { OnOk result (length self.new.rest ≤ kept_limit self.old.rest + length piece.now) }
         ensures err { OnErr result (self.new ≡ self.old) }
     {
-        match self.progress {
+        let alloc = *self.bytes.allocator();
+        let rest = &self.bytes[self.from..];
+        let progress = kept_progress(alloc, self.level, rest, self.progress)?;
+        put_behind(&mut self.bytes, self.from, progress.len(), piece)?;
+        match progress {
             Progress::Waiting(_) => {
-                let kept = self.bytes.len() - self.from;
-                put_behind(&mut self.bytes, self.from, kept, piece)?;
                 self.from = 0;
-                Ok(())
+                self.progress = progress;
             }
             Progress::Begun(scanned) => {
-                let kept = kept_len(&self.bytes[self.from..], scanned);
-                put_behind(&mut self.bytes, self.from, kept, piece)?;
-                let (from, known) = silent_front(&self.bytes, scanned.min(kept));
+                let (from, known) = silent_front(&self.bytes, scanned);
                 self.from = from;
                 self.progress = Progress::Begun(known);
-                Ok(())
             }
         }
+        Ok(())
     }
 
     /// The next item: one whose lines all stand there with their newlines, or, where the input has ended, any. Its further lines
@@ -137,18 +138,33 @@ impl Lines {
 }
 
 /// Puts a piece behind so many bytes from an index on, and gives the others up. An Err leaves them as they were.
-/// Where all are kept from the first on, only the piece is copied.
+/// Where they begin with the first byte, only the piece is copied.
 fn put_behind(bytes: &mut Vec<u8>, from: usize, kept: usize, piece: &[u8]) -> Result<(), AllocError>
     requires { from + kept ≤ vec_len bytes.old }
     ensures put { OnOk result (bytes.new.items ≡ take kept (drop from bytes.old.items) ++ piece.now) }
     ensures err { OnErr result (bytes.new.items ≡ bytes.old.items) }
 {
-    if from == 0 && kept == bytes.len() {
-        bytes.extend_from_slice(piece)?;
-        return Ok(());
+    if from == 0 {
+        return put_over(bytes, kept, piece);
     }
     let mut joined = Vec::from_slice(*bytes.allocator(), &bytes[from..from + kept])?;
     joined.extend_from_slice(piece)?;
     *bytes = joined;
+    Ok(())
+}
+
+/// Puts a piece in the place of what stands behind so many bytes. An Err leaves them as they were.
+fn put_over(bytes: &mut Vec<u8>, kept: usize, piece: &[u8]) -> Result<(), AllocError>
+    requires { kept ≤ vec_len bytes.old }
+    ensures put { OnOk result (bytes.new.items ≡ take kept bytes.old.items ++ piece.now) }
+    ensures err { OnErr result (bytes.new.items ≡ bytes.old.items) }
+{
+    if kept == bytes.len() {
+        bytes.extend_from_slice(piece)?;
+        return Ok(());
+    }
+    bytes.reserve(piece.len())?;
+    bytes.truncate(kept);
+    bytes.extend_from_slice(piece)?;
     Ok(())
 }

@@ -1,3 +1,6 @@
+ghost use Rattle.std.specs.Prelude.{◌≡◌, ◌<◌, ◌^◌};
+ghost use Rattle.quilt_lang.specs.Progress.{told_len};
+
 use crate::asked::Asked;
 
 /// Lines that are cut from the front of a text.
@@ -37,4 +40,17 @@ pub enum Progress {
     Begun(usize),
     /// Its line is cut, and further lines behind it.
     Waiting(Waiting),
+}
+
+impl Progress {
+    /// Of how many bytes it tells.
+    pub fn len(self) -> usize
+        requires { told_len self < 2 ^ 64 }
+        ensures { result ≡ told_len self }
+    {
+        match self {
+            Progress::Begun(scanned) => scanned,
+            Progress::Waiting(Waiting { line, cut, .. }) => line + 1 + cut.len + cut.scanned,
+        }
+    }
 }

@@ -85,11 +85,14 @@ fn row_bytes(alloc: Global, line: &[u8]) -> Result<Option<Vec<u8>>, AllocError>
     Ok(Some(bytes))
 }
 
+/// The most bytes that a list line may have.
+pub const POINT_LIMIT: usize = 64;
+
 /// The point that a list line spells.
 fn list_point(line: &[u8]) -> Option<Point>
     ensures { result ≡ (if nat_le (length line.now) 64 then point_of (words_of line.now) else None) }
 {
-    if line.len() > 64 {
+    if line.len() > POINT_LIMIT {
         return None;
     }
     let words = few_words(line)?;
