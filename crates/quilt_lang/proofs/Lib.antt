@@ -2,6 +2,7 @@ pub mod Asking
 pub mod Commands
 pub mod Counts
 pub mod Cuts
+pub mod DigitPairs
 pub mod Digits
 pub mod Enough
 pub mod Groups
