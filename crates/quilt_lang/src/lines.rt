@@ -99,6 +99,7 @@ impl Lines {
                 let (silent, scanned) = silent_front(&self.bytes[from..], 0);
                 self.from = from + silent;
                 self.progress = Progress::Begun(scanned);
+                self.let_go();
                 Ok(Some(item))
             }
         }
@@ -131,8 +132,29 @@ impl Lines {
                 let (silent, scanned) = silent_front(&self.bytes[from..], 0);
                 self.from = from + silent;
                 self.progress = Progress::Begun(scanned);
+                self.let_go();
                 Ok(Some(command))
             }
+        }
+    }
+}
+
+/// From how many bytes on that were given they are let go.
+const MUCH: usize = 65536;
+
+impl Lines {
+    /// Gives the memory back of what was given, where it is much and at least half of all, so that each byte is copied but once for
+    /// two that are let go. Where there is no memory for what is left, all stays.
+    fn let_go(&mut self)
+        ensures { self.new ≡ self.old }
+    {
+        let left = self.bytes.len() - self.from;
+        if self.from < MUCH || self.from < left {
+            return;
+        }
+        if let Ok(bytes) = Vec::from_slice(*self.bytes.allocator(), &self.bytes[self.from..]) {
+            self.bytes = bytes;
+            self.from = 0;
         }
     }
 }
