@@ -66,7 +66,7 @@ uncut_grown scanned text piece so = record {
   none = line_as (take scanned text) (take scanned (text ++ piece)) (sym (take-append-le scanned text piece so.within)) so.none;
 }
 
-take_less : (k m : ℕ) (text : List ℕ) → k ≤ m → k ≤ length text → take k (take m text) ≡ take k text
+pub take_less : (k m : ℕ) (text : List ℕ) → k ≤ m → k ≤ length text → take k (take m text) ≡ take k text
 take_less k m text less within =
     let sum : k + (m - k) ≡ m = omega (arith, less) in
     let size : length (take k text) ≡ k = length-take-le k text within in

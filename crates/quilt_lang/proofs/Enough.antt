@@ -1,5 +1,5 @@
 -- What is kept of a rest that waits for more.
-use Rattle.std.proofs.Common.{◌≡◌, ℕ, ◌+◌, ◌<◌, ◌≤◌, ◌==◌, min, false, List, [], ◌∷◌, ◌++◌, length, take, drop, map, Option, Some, None}
+use Rattle.std.proofs.Common.{◌≡◌, ℕ, ◌+◌, ◌-◌, length-take, ◌<◌, ◌≤◌, ◌==◌, min, false, List, [], ◌∷◌, ◌++◌, length, take, drop, map, Option, Some, None}
 use Rattle.std.proofs.Common.{codes, refl, sym, ◌∙◌, ap, subst, arith, append-nil, length-drop, inl, inr}
 use Rattle.std.proofs.lemmas.List.{take_all, take-append-drop, drop-drop, length-take-le}
 use Rattle.std.proofs.lemmas.List.Elements.{All-nil}
@@ -11,7 +11,8 @@ use Rattle.quilt_lang.specs.declared.asked.Asked.TheVariants as kinds
 use Rattle.quilt_lang.specs.declared.progress.CutLines.{CutLines}
 use Rattle.quilt_lang.specs.declared.progress.Waiting.{Waiting}
 use Rattle.quilt_lang.specs.declared.progress.Progress.TheVariants as progresses
-use Rattle.quilt_lang.specs.Reading.{Gives, IsLine, begins_silent, first_is_silent, enough_of, limit_behind, unfinished}
+use Rattle.quilt_lang.specs.Reading.{Gives, IsLine, begins_silent, first_is_silent, enough_of, limit_behind, point_limit, unfinished}
+use Rattle.quilt_lang.specs.Shortening.{bounds}
 use Rattle.quilt_lang.specs.Cutting.{Cuts, CutsUpTo, IsAsked, grouped, limit_of, number_of}
 use Rattle.quilt_lang.specs.Progress.{IsCount, IsFirst, IsKept, IsWaiting}
 use Rattle.quilt_words.proofs.Cases.{bool_cases}
@@ -22,7 +23,7 @@ use Rattle.quilt_lang.proofs.LineLaws.{whole_none}
 use Rattle.quilt_lang.proofs.Long.{gives_kept, line_front}
 use Rattle.quilt_lang.proofs.Pieces.{gives_none}
 use Rattle.quilt_lang.proofs.Shortened.{Wants, gives_cut}
-use Rattle.quilt_lang.proofs.Unfinished.{unfinished_all, unfinished_none, unfinished_part}
+use Rattle.quilt_lang.proofs.Unfinished.{unfinished_all, unfinished_none, unfinished_part, whole_kept}
 
 -- a line that is not whole, with nothing before it
 pub kept_begun : (n m : ℕ) (text : List ℕ) → IsLine text → m ≡ min (length text) (line_limit + 1) → IsKept n text (progresses.Begun m)
@@ -36,6 +37,10 @@ kept_begun n m text none is =
       gives = gives_kept n m text none (λ less. omega (arith, less, is));
       short = omega (arith, is, all, enough);
       behind = λ piece. uncut_kept (length text) m m text (take m text ++ piece) piece (uncut_all text none) (omega (arith, is)) (omega (arith, is)) refl;
+      lines = whole_none (take m text) (line_front m text none) ∙ sym (whole_none text none);
+      misses = λ b bound. absurd (let bad : None ≡ Some b = bound in cc);
+      part = λ b bound. absurd (let bad : None ≡ Some b = bound in cc);
+      bounds = λ line more most lines limited. absurd (let bad : [] ≡ line ∷ more = sym (whole_none text none) ∙ lines in cc);
     }
 
 -- what the first line asks for says how long the lines behind it may be
@@ -47,6 +52,35 @@ limit_is n count line ls kinds.Rows so some =
     rw (other_word ws (codes "raster") (codes "scatter") so.kind refl, other_word ws (codes "raster") (codes "polygon") so.kind refl) refl
 limit_is n count line ls (kinds.Points k) so some = rw so.kind.1 refl
 limit_is n count line ls (kinds.Rings k) so some = rw (other_word (words_of line) (codes "polygon") (codes "scatter") so.kind.1 refl, so.kind.1) refl
+
+-- the bound of further lines, and how many are missing
+bounds_limit : (what : Asked) (count : ℕ) (b : ℕ × ℕ) → bounds what count ≡ Some b → limit_of what ≡ Some b.0
+bounds_limit kinds.Nothing count b is = absurd (let bad : None ≡ Some b = is in cc)
+bounds_limit kinds.Rows count b is = absurd (let bad : None ≡ Some b = is in cc)
+bounds_limit (kinds.Points k) count b is = let same : Some (point_limit, k - count) ≡ Some b = is in let pair : (point_limit, k - count) ≡ b = cc in
+    ap (λ (p : ℕ × ℕ). Some p.0) pair
+bounds_limit (kinds.Rings k) count b is = let same : Some (line_limit, k - count) ≡ Some b = is in let pair : (line_limit, k - count) ≡ b = cc in
+    ap (λ (p : ℕ × ℕ). Some p.0) pair
+
+bounds_missing : (n : ℕ) (what : Asked) (count : ℕ) (b : ℕ × ℕ) → bounds what count ≡ Some b → number_of n what - count ≡ b.1
+bounds_missing n kinds.Nothing count b is = absurd (let bad : None ≡ Some b = is in cc)
+bounds_missing n kinds.Rows count b is = absurd (let bad : None ≡ Some b = is in cc)
+bounds_missing n (kinds.Points k) count b is = let same : Some (point_limit, k - count) ≡ Some b = is in let pair : (point_limit, k - count) ≡ b = cc in
+    ap (λ (p : ℕ × ℕ). p.1) pair
+bounds_missing n (kinds.Rings k) count b is = let same : Some (line_limit, k - count) ≡ Some b = is in let pair : (line_limit, k - count) ≡ b = cc in
+    ap (λ (p : ℕ × ℕ). p.1) pair
+
+limit_bounds : (n : ℕ) (what : Asked) (count most : ℕ) → limit_of what ≡ Some most → bounds what count ≡ Some (most, number_of n what - count)
+limit_bounds n kinds.Nothing count most is = absurd (let bad : None ≡ Some most = is in cc)
+limit_bounds n kinds.Rows count most is = absurd (let bad : None ≡ Some most = is in cc)
+limit_bounds n (kinds.Points k) count most is = let same : Some point_limit ≡ Some most = is in let equal : point_limit ≡ most = cc in
+    ap (λ (m : ℕ). Some (m, k - count)) equal
+limit_bounds n (kinds.Rings k) count most is = let same : Some line_limit ≡ Some most = is in let equal : line_limit ≡ most = cc in
+    ap (λ (m : ℕ). Some (m, k - count)) equal
+
+abbrev first_line : List ℕ → List (List ℕ) → List ℕ
+first_line d [] = d
+first_line d (l ∷ ls) = l
 
 module _ (n line : ℕ) (what : Asked) (cut : CutLines) (text : List ℕ) (first : IsFirst false n line what text)
     (so : IsCount (number_of n what) cut (drop (line + 1) text)) (given : whole_items n text ≡ []) where
@@ -91,6 +125,9 @@ module _ (n line : ℕ) (what : Asked) (cut : CutLines) (text : List ℕ) (first
   fronts : Cuts false (take line text ∷ so.lines) front []
   fronts = subst (λ (t : List ℕ). Cuts false (take line text ∷ so.lines) t []) (sym (take-add (line + 1) cut.len text))
       (fronts_then (take line text ∷ []) so.lines (take (line + 1) text) (take cut.len behind) (first.front refl) so.cuts)
+
+  lines_front : whole_lines front ≡ take line text ∷ so.lines
+  lines_front = rw (append-nil front, whole_none [] (All-nil (λ (c : ℕ). (c == 10) ≡ false)), append-nil so.lines) at (fronts.whole refl [])
 
   wants : (lim : ℕ) → limit_of what ≡ Some lim → Wants n lim front
   wants lim limit = record {
@@ -146,9 +183,40 @@ module _ (n line : ℕ) (what : Asked) (cut : CutLines) (text : List ℕ) (first
         ∙ limit_is n (asked n (take line text)) (take line text) (whole_lines behind) what first.asks (omega (arith, few)) in
         let most : enough_of (limit_behind (whole_lines text)) (length (unfinished text)) ≡ known =
         ap (λ (o : Option ℕ). enough_of o (length (unfinished text))) limit ∙ ap (enough_of (limit_of what)) open_size ∙ sym is in
+        let short : List ℕ = take known last in
+        let short_line : IsLine short = line_front known last last_line in
+        let kept : take (from + known) text ≡ front ++ short = take-add from known text in
+        let lines_kept : whole_lines (take (from + known) text) ≡ take line text ∷ so.lines =
+        ap whole_lines kept ∙ whole_kept front short short_line ∙ lines_front in
+        let lines_all : whole_lines text ≡ take line text ∷ so.lines =
+        ap whole_lines (sym (take-append-drop from text)) ∙ whole_kept front last last_line ∙ lines_front in
+        let part_is : unfinished (take (from + known) text) ≡ short =
+        ap unfinished kept ∙ unfinished_part front short short_line
+        ∙ ap (λ (l : List ℕ). l ++ short) (unfinished_none (take line text ∷ so.lines) front fronts) in
         record {
           within = omega (arith, few_known, size);
           gives = gives_enough (limit_of what) known refl is;
+          lines = lines_kept ∙ sym lines_all;
+          misses = λ b bound. record {
+            line = take line text;
+            more = so.lines;
+            what = what;
+            lines = lines_kept;
+            loud = first.loud;
+            asks = first.asks;
+            number = omega (arith, so.number, few, bounds_missing n what cut.count b bound);
+            limit = bounds_limit what cut.count b bound;
+          };
+          part = λ b bound.
+              let known_is : known ≡ min cut.scanned (b.0 + 1) = is ∙ ap (λ (o : Option ℕ). enough_of o cut.scanned) (bounds_limit what cut.count b bound) in
+              omega (arith, ap length part_is, length-take known last, known_is);
+          bounds = λ other more most lines limited.
+              let same : take line text ∷ so.lines ≡ other ∷ more = sym lines_all ∙ lines in
+              let first_is : take line text ≡ other = ap (first_line []) same in
+              let asked_is : asked n other ≡ number_of n what = ap (asked n) (sym first_is) ∙ first.asks.number in
+              let count_is : cut.count ≡ length more = omega (arith, ap length same, so.number) in
+              let to : bounds what cut.count ≡ Some (most, number_of n what - cut.count) = limit_bounds n what cut.count most (sym limit ∙ limited) in
+              to ∙ ap (λ (k : ℕ). Some (most, k)) (omega (arith, asked_is, count_is));
           short = omega (arith, size, open_size, most);
           behind = λ piece. waiting_kept n line known (from + known) what cut text piece first so few_known refl;
         }

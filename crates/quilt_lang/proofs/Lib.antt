@@ -5,11 +5,13 @@ pub mod Cuts
 pub mod DigitPairs
 pub mod Digits
 pub mod Enough
+pub mod Feeding
 pub mod Groups
 pub mod Joins
 pub mod LineLaws
 pub mod Long
 pub mod Pieces
+pub mod ShortLines
 pub mod Shortened
 pub mod Takes
 pub mod Unfinished

@@ -102,6 +102,13 @@ whole_behind_part x a v none =
     ∙ ap (λ (l : List (List ℕ)). whole_lines x ++ l)
     (ap whole_lines (sym (append_assoc (unfinished x) a v)) ∙ whole_onto (unfinished x ++ a) v (line_joined (unfinished x) a (unfinished_line x) none))
 
+-- they make no line
+pub whole_kept : (x a : List ℕ) → IsLine a → whole_lines (x ++ a) ≡ whole_lines x
+whole_kept x a none =
+    ap whole_lines (sym (append-nil (x ++ a))) ∙ whole_behind_part x a [] none
+    ∙ ap (λ (l : List (List ℕ)). whole_lines x ++ onto (unfinished x ++ a) l) (whole_none [] (All-nil (λ (c : ℕ). (c == 10) ≡ false)))
+    ∙ append-nil (whole_lines x)
+
 -- all of a text with no newline is behind the last one
 pub unfinished_all : (a : List ℕ) → IsLine a → unfinished a ≡ a
 unfolding unfinished
@@ -118,6 +125,15 @@ unfinished_part x a none =
     last_joined [] l = refl
     last_joined (m ∷ []) l = refl
     last_joined (m ∷ k ∷ ls) l = last_joined (k ∷ ls) l
+
+pub unfinished_newline : (a : List ℕ) → unfinished (a ++ 10 ∷ []) ≡ []
+unfolding unfinished
+unfinished_newline a = ap last_part (split_joined a (10 ∷ [])) ∙ last_two (without_last (pieces a)) (last_part (pieces a) ++ [])
+  where
+    last_two : (ls : List (List ℕ)) (l : List ℕ) → last_part (ls ++ l ∷ [] ∷ []) ≡ []
+    last_two [] l = refl
+    last_two (m ∷ []) l = refl
+    last_two (m ∷ k ∷ ls) l = last_two (k ∷ ls) l
 
 -- nothing is behind the last newline of lines that stand at the front
 pub unfinished_none : (ls : List (List ℕ)) (x : List ℕ) → Cuts false ls x [] → unfinished x ≡ []

@@ -5,6 +5,7 @@ ghost use Rattle.quilt_types.specs.Plane.{side};
 ghost use Rattle.quilt_words.specs.Items.{asked, asked_by, begins_with, words_of};
 ghost use Rattle.quilt_lang.specs.Cutting.{IsAsked, limit_of, number_of};
 ghost use Rattle.quilt_lang.specs.Reading.{enough_of};
+ghost use Rattle.quilt_lang.specs.Shortening.{bounds};
 
 use crate::spelled::{POINT_LIMIT, listed};
 use quilt_words::{LINE_LIMIT, first_word, is_plain_line, line_words};
@@ -43,6 +44,17 @@ impl Asked {
             Asked::Points(_) => len.min(POINT_LIMIT + 1),
             Asked::Rings(_) => len.min(LINE_LIMIT + 1),
             _ => len,
+        }
+    }
+
+    /// The most bytes that one of them may have, and how many are missing where so many stand there; none for rows.
+    pub fn bounds(self, count: usize) -> Option<(usize, usize)>
+        ensures { result ≡ bounds self count }
+    {
+        match self {
+            Asked::Points(k) => Some((POINT_LIMIT, (k as usize).saturating_sub(count))),
+            Asked::Rings(k) => Some((LINE_LIMIT, (k as usize).saturating_sub(count))),
+            _ => None,
         }
     }
 

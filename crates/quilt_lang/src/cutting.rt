@@ -8,7 +8,7 @@ use memchr::memchr;
 use quilt_words::is_comment_line;
 
 /// The index of the first newline. That it stands first, as it does where a line was looked at before, is tested without a search.
-fn newline(bytes: &[u8]) -> Option<usize>
+pub fn newline(bytes: &[u8]) -> Option<usize>
     ensures { IsCut bytes.now result }
 {
     match bytes {

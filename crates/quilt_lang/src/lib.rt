@@ -11,6 +11,7 @@ mod keeping;
 mod lines;
 mod progress;
 mod reading;
+mod shortening;
 mod spelled;
 
 pub use lines::Lines;

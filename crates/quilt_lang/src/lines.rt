@@ -1,14 +1,17 @@
-ghost use Rattle.std.specs.Prelude.{◌≡◌, ◌≤◌, ◌+◌, ℕ, false, [], ◌∷◌, ◌++◌, drop, take, length, vec_len, OnOk, OnErr, IfOk, IfSome, MatchOption};
+ghost use Rattle.std.specs.Prelude.{◌≡◌, ◌≤◌, ◌+◌, ℕ, List, false, [], ◌∷◌, ◌++◌, drop, take, length, vec_len, OnOk, OnErr, IfOk, IfSome, MatchOption};
 ghost use Rattle.quilt_words.specs.Items.{whole_items};
 ghost use Rattle.quilt_words.specs.Forms.{Spelled};
 ghost use Rattle.quilt_words.specs.Fitting.{IsFitting};
 ghost use Rattle.quilt_lang.specs.Reading.{Gives, GivesCommand, GivesItem, HasNone, kept_limit};
+ghost use Rattle.quilt_lang.specs.Progress.{told_len};
+ghost use Rattle.quilt_lang.specs.Shortening.{IsPart, KeepsShort, bounds_of};
 
 use crate::commanding::{CommandFront, front_command};
 use crate::cutting::silent_front;
 use crate::front::{Front, front_item};
 use crate::keeping::kept_progress;
 use crate::progress::Progress;
+use crate::shortening::shortened;
 use quilt_types::Code;
 use quilt_words::{Command, Item};
 use std::alloc::{AllocError, Global};
@@ -58,12 +61,13 @@ impl Lines {
         ensures level { self.new.level ≡ self.old.level }
         ensures fed { OnOk result (Gives false self.old.level [] (self.old.rest ++ piece.now) self.new.rest) }
         ensures short { OnOk result (length self.new.rest ≤ kept_limit self.old.rest + length piece.now) }
+        ensures lines { OnOk result (KeepsShort self.old.level self.old.rest self.new.rest) }
         ensures err { OnErr result (self.new ≡ self.old) }
     {
         let alloc = *self.bytes.allocator();
         let rest = &self.bytes[self.from..];
         let progress = kept_progress(alloc, self.level, rest, self.progress)?;
-        put_behind(&mut self.bytes, self.from, progress.len(), piece)?;
+        put_piece(&mut self.bytes, self.from, progress, piece)?;
         match progress {
             Progress::Waiting(_) => {
                 self.from = 0;
@@ -155,6 +159,28 @@ impl Lines {
         if let Ok(bytes) = Vec::from_slice(*self.bytes.allocator(), &self.bytes[self.from..]) {
             self.bytes = bytes;
             self.from = 0;
+        }
+    }
+}
+
+/// Puts a piece behind the bytes from an index on of which this tells, and gives the others up; of further lines that have a greatest
+/// length no more than shows that they are too long. An Err leaves all as it was.
+fn put_piece(
+    bytes: &mut Vec<u8>,
+    from: usize,
+    progress: Progress,
+    piece: &[u8],
+) -> Result<(), AllocError>
+    requires { from + told_len progress ≤ vec_len bytes.old }
+    ensures put { OnOk result ((new : List ℕ) × (bytes.new.items ≡ take (told_len progress) (drop from bytes.old.items) ++ new)
+        × IsPart (bounds_of progress) piece.now new) }
+    ensures err { OnErr result (bytes.new.items ≡ bytes.old.items) }
+{
+    match progress.bounds() {
+        None => put_behind(bytes, from, progress.len(), piece),
+        Some((most, missing)) => {
+            let part = shortened(*bytes.allocator(), piece, most, missing)?;
+            put_behind(bytes, from, progress.len(), &part)
         }
     }
 }

@@ -1,5 +1,6 @@
 ghost use Rattle.std.specs.Prelude.{◌≡◌, ◌<◌, ◌^◌};
 ghost use Rattle.quilt_lang.specs.Progress.{told_len};
+ghost use Rattle.quilt_lang.specs.Shortening.{bounds_of};
 
 use crate::asked::Asked;
 
@@ -51,6 +52,16 @@ impl Progress {
         match self {
             Progress::Begun(scanned) => scanned,
             Progress::Waiting(Waiting { line, cut, .. }) => line + 1 + cut.len + cut.scanned,
+        }
+    }
+
+    /// The most bytes of a further line that waits, and how many are missing; none where a line begins an item, or is a row.
+    pub fn bounds(self) -> Option<(usize, usize)>
+        ensures { result ≡ bounds_of self }
+    {
+        match self {
+            Progress::Begun(_) => None,
+            Progress::Waiting(Waiting { what, cut, .. }) => what.bounds(cut.count),
         }
     }
 }
