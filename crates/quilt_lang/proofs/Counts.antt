@@ -109,7 +109,7 @@ count_first most text = record {
     take_nothing (c ∷ cs) = refl
 
 -- with the next newline
-newline_front : (rest : List ℕ) (k : ℕ) → HasNewline rest k → take (k + 1) rest ≡ take k rest ++ 10 ∷ []
+pub newline_front : (rest : List ℕ) (k : ℕ) → HasNewline rest k → take (k + 1) rest ≡ take k rest ++ 10 ∷ []
 newline_front rest k at =
     take-add k 1 rest ∙ ap (λ (l : List ℕ). take k rest ++ take 1 l) (newline_drop rest k at) ∙ ap (λ (l : List ℕ). take k rest ++ 10 ∷ l) (take_zero (drop (k + 1) rest))
   where

@@ -1,14 +1,15 @@
 -- Further lines that come whole in a piece, each cut short where it is too long.
 use Rattle.std.proofs.Common.{◌≡◌, ℕ, ◌+◌, ◌-◌, ◌*◌, ◌<◌, ◌≤◌, min, nat_le, false, ◌==◌, List, [], ◌∷◌, ◌++◌, length, take, drop, All}
-use Rattle.std.proofs.Common.{sym, ◌∙◌, ap, subst, arith, append_assoc, append-nil, length-append, length-drop, inl, inr}
-use Rattle.std.proofs.lemmas.List.{take_all, drop-drop, length-take-le, take-append-le}
+use Rattle.std.proofs.Common.{refl, sym, ◌∙◌, ap, subst, arith, append_assoc, append-nil, length-append, length-drop, inl, inr}
+use Rattle.std.proofs.Math.Seq.{take-add}
+use Rattle.std.proofs.lemmas.List.{take_all, take-append-drop, drop-drop, length-take-le, take-append-le}
 use Rattle.std.proofs.lemmas.List.Elements.{All-nil, All-push, All-take}
 use Rattle.std.proofs.lemmas.Bool.{leb-true, leb-false}
 use Rattle.quilt_words.specs.Items.{whole_lines}
 use Rattle.quilt_lang.specs.Reading.{Gives, HasNewline, IsLine, unfinished}
 use Rattle.quilt_lang.specs.Shortening.{IsShortened, Misses}
 use Rattle.quilt_words.proofs.Cases.{bool_cases}
-use Rattle.quilt_lang.proofs.Counts.{take_less}
+use Rattle.quilt_lang.proofs.Counts.{newline_front, take_less}
 use Rattle.quilt_lang.proofs.LineLaws.{whole_line, whole_none}
 use Rattle.quilt_lang.proofs.Long.{line_front, onto}
 use Rattle.quilt_lang.proofs.Pieces.{gives_none, gives_then, gives_fed}
@@ -200,3 +201,32 @@ short_end most missing piece from left j rest new all so some same none is put =
             short = All-take (λ l. length l ≤ 2 * (most + 1)) missing was.behind was.short;
           };
     })
+
+-- the front of a piece with its next newline
+front_more : (piece : List ℕ) (from k : ℕ) (rest : List ℕ) → rest ≡ drop from piece → HasNewline rest k
+    → take (from + (k + 1)) piece ≡ (take from piece ++ take k rest) ++ 10 ∷ []
+front_more piece from k rest same at =
+    take-add from (k + 1) piece ∙ ap (λ (l : List ℕ). take from piece ++ take (k + 1) l) (sym same)
+    ∙ ap (λ (l : List ℕ). take from piece ++ l) (newline_front rest k at) ∙ sym (append_assoc (take from piece) (take k rest) (10 ∷ []))
+
+-- where no line is too long the piece stays as it is
+pub whole_next : (most missing : ℕ) (piece : List ℕ) (from left k : ℕ) (rest : List ℕ) → ShortSoFar most missing piece from left (take from piece) → 0 < left
+    → rest ≡ drop from piece → HasNewline rest k → k ≤ most + 1
+    → ShortSoFar most missing piece (from + (k + 1)) (left - 1) (take (from + (k + 1)) piece)
+whole_next most missing piece from left k rest so some same at few =
+    short_next most missing piece from left k k rest (take from piece) (take (from + (k + 1)) piece) so some same at (omega (arith, few))
+    (front_more piece from k rest same at)
+
+pub whole_all : (most missing : ℕ) (piece : List ℕ) (from left : ℕ) → ShortSoFar most missing piece from left (take from piece) → left ≤ 0
+    → IsShortened most missing piece piece
+whole_all most missing piece from left so none =
+    let zero_left : left ≡ 0 = omega (arith, none) in
+    let so_none : ShortSoFar most missing piece from 0 (take from piece) =
+    subst (λ (l : ℕ). ShortSoFar most missing piece from l (take from piece)) zero_left so in
+    short_all most missing piece from (drop from piece) (take from piece) piece so_none refl (sym (take-append-drop from piece))
+
+pub whole_end : (most missing : ℕ) (piece : List ℕ) (from left : ℕ) (rest : List ℕ) → ShortSoFar most missing piece from left (take from piece) → 0 < left
+    → rest ≡ drop from piece → IsLine rest → length rest ≤ most + 1 → IsShortened most missing piece piece
+whole_end most missing piece from left rest so some same none few =
+    short_end most missing piece from left (length rest) rest (take from piece) piece so some same none (omega (arith, few))
+    (sym (take-append-drop from piece) ∙ ap (λ (l : List ℕ). take from piece ++ l) (sym same ∙ sym (take_all (length rest) rest (omega arith))))

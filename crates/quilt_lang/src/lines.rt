@@ -11,7 +11,7 @@ use crate::cutting::silent_front;
 use crate::front::{Front, front_item};
 use crate::keeping::kept_progress;
 use crate::progress::Progress;
-use crate::shortening::shortened;
+use crate::shortening::{is_short, shortened};
 use quilt_types::Code;
 use quilt_words::{Command, Item};
 use std::alloc::{AllocError, Global};
@@ -179,6 +179,9 @@ fn put_piece(
     match progress.bounds() {
         None => put_behind(bytes, from, progress.len(), piece),
         Some((most, missing)) => {
+            if is_short(piece, most, missing) {
+                return put_behind(bytes, from, progress.len(), piece);
+            }
             let part = shortened(*bytes.allocator(), piece, most, missing)?;
             put_behind(bytes, from, progress.len(), &part)
         }
