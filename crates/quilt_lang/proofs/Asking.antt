@@ -124,7 +124,7 @@ line_other n line other = record {
 }
 
 -- a word that stands first, and another
-other_word : (ws : List (List ℕ)) (a b : List ℕ) → begins_with ws a ≡ true → bytes_eq a b ≡ false → begins_with ws b ≡ false
+pub other_word : (ws : List (List ℕ)) (a b : List ℕ) → begins_with ws a ≡ true → bytes_eq a b ≡ false → begins_with ws b ≡ false
 other_word [] a b first other = refl
 other_word (w ∷ ws) a b first other = let P : List ℕ → Type 0 = λ (x : List ℕ). bytes_eq x b ≡ false in subst P (sym ((bytes_eq-Decides w a).0 first)) other
 

@@ -1,21 +1,11 @@
--- Hexadecimal digits by their table, and the bytes that two of them spell.
-use Rattle.std.proofs.Common.{◌≡◌, ℕ, ◌+◌, ◌*◌, ◌<◌, ◌≤◌, max, List, ◌∷◌, Option, Some, None, unwrap_or, map, get_or, IfSome, refl, ◌∙◌, ap, arith}
+-- Hexadecimal digits, and the bytes that two of them spell.
+use Rattle.std.proofs.Common.{◌≡◌, ℕ, ◌+◌, ◌*◌, ◌<◌, ◌≤◌, max, List, ◌∷◌, Option, Some, None, unwrap_or, IfSome, refl, ◌∙◌, ap, arith}
 use Rattle.std.proofs.Common.{◌⊎◌, inl, inr, nat_le}
 use Rattle.std.proofs.lemmas.Bool.{leb-true, leb-false}
-use Rattle.std.specs.List.{range_with_len}
-use Rattle.std.proofs.lemmas.List.FromFn.{get_or-map-range_with_len}
 use Rattle.quilt_words.specs.Spelling.{hex_digit, row, cons_both}
 use Rattle.quilt_words.proofs.Cases.{bool_cases}
 use Rattle.quilt_words.proofs.Holding.{digit_low}
-use Rattle.quilt_lang.specs.declared.spelled.TheConstants.{DIGITS}
 use Rattle.quilt_lang.specs.Spelled.{with_byte}
-
-digits_table : DIGITS ≡ map (λ c. unwrap_or (hex_digit c) 16) (range_with_len 0 256)
-digits_table = refl
-
--- what the table has at a byte
-pub digits_at : (c : ℕ) → c < 256 → get_or DIGITS c 0 ≡ unwrap_or (hex_digit c) 16
-digits_at c lt = ap (λ l. get_or l c 0) digits_table ∙ get_or-map-range_with_len (λ k. unwrap_or (hex_digit k) 16) 0 256 c c 0 lt (omega arith)
 
 some_digit : (o : Option ℕ) (v : ℕ) → v ≡ unwrap_or o 16 → v ≤ 15 → o ≡ Some v
 some_digit None v is low = absurd (omega (arith, is, low))

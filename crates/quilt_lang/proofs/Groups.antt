@@ -1,7 +1,7 @@
 -- Lines cut from the front of a text, and the items that they are.
 use Rattle.std.proofs.Common.{◌≡◌, ◌≢◌, ℕ, zero, suc, ◌+◌, ◌-◌, ◌<◌, ◌≤◌, ◌==◌, ◌||◌, Bool, true, false, List, [], ◌∷◌, ◌++◌, length, take, drop, map, filter}
 use Rattle.std.proofs.Common.{min, refl, sym, ◌∙◌, ap, subst, arith, append_assoc, append-nil, inl, inr, length-append, length-drop}
-use Rattle.std.proofs.lemmas.List.{drop_all, take_all, drop-drop, take-append-le, length-map, map-append}
+use Rattle.std.proofs.lemmas.List.{drop_all, take_all, drop-drop, take-append-drop, take-append-le, length-map, map-append}
 use Rattle.std.proofs.lemmas.Bool.{eqb-true, eqb-false, eq-eqb, ne_eqb}
 use Rattle.quilt_lang.specs.declared.asked.Asked.{Asked}
 use Rattle.quilt_words.specs.Items.{Group, asked, is_complete, is_silent, groups_from, items_of, lines_of, whole_items, whole_lines, words_of}
@@ -21,7 +21,26 @@ cuts_then e ls ms a b c first second = record {
   whole = λ open_ v. first.whole open_ v ∙ ap (λ (l : List (List ℕ)). ls ++ l) (second.whole open_ v) ∙ sym (append_assoc ls ms (whole_lines (c ++ v)));
 }
 
-cuts_line : (e : Bool) (line u : List ℕ) → IsLine line → Cuts e (line ∷ []) (line ++ 10 ∷ u) u
+-- lines that stand at the front, and whatever is behind them
+pub fronts_then : (ls ms : List (List ℕ)) (a b : List ℕ) → Cuts false ls a [] → Cuts false ms b [] → Cuts false (ls ++ ms) (a ++ b) []
+fronts_then ls ms a b first second = record {
+  all = λ v may. ap lines_of (append_assoc a b v) ∙ first.all (b ++ v) tt ∙ ap (λ (l : List (List ℕ)). ls ++ l) (second.all v tt)
+      ∙ sym (append_assoc ls ms (lines_of v));
+  whole = λ open_ v. ap whole_lines (append_assoc a b v) ∙ first.whole refl (b ++ v) ∙ ap (λ (l : List (List ℕ)). ls ++ l) (second.whole refl v)
+      ∙ sym (append_assoc ls ms (whole_lines v));
+}
+
+front_on : (ls : List (List ℕ)) (a u : List ℕ) → Cuts false ls a [] → Cuts false ls (a ++ u) u
+front_on ls a u so = record {
+  all = λ v may. ap lines_of (append_assoc a u v) ∙ so.all (u ++ v) tt;
+  whole = λ open_ v. ap whole_lines (append_assoc a u v) ∙ so.whole refl (u ++ v);
+}
+
+pub front_cuts : (ls : List (List ℕ)) (m : ℕ) (text : List ℕ) → Cuts false ls (take m text) [] → Cuts false ls text (drop m text)
+front_cuts ls m text so =
+    subst (λ (t : List ℕ). Cuts false ls t (drop m text)) (take-append-drop m text) (front_on ls (take m text) (drop m text) so)
+
+pub cuts_line : (e : Bool) (line u : List ℕ) → IsLine line → Cuts e (line ∷ []) (line ++ 10 ∷ u) u
 cuts_line e line u none = record {
   all = λ v may. rw (append_assoc line (10 ∷ u) v) (lines_line line (u ++ v) none);
   whole = λ open_ v. rw (append_assoc line (10 ∷ u) v) (whole_line line (u ++ v) none);

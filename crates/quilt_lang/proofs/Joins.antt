@@ -82,7 +82,7 @@ byte_onto got b (Some r) = ap Some (sym (append_assoc got (b ∷ []) r))
 pub bytes_none : (line : List ℕ) → BytesSoFar line 0 []
 bytes_none line = some_same (row line)
 
-bytes_at : (line : List ℕ) (i j k : ℕ) (r : Option ℕ) (got : List ℕ) → j ≡ suc i → k ≡ suc j → j < length line → BytesSoFar line i got →
+pub bytes_at : (line : List ℕ) (i j k : ℕ) (r : Option ℕ) (got : List ℕ) → j ≡ suc i → k ≡ suc j → j < length line → BytesSoFar line i got →
     ((rest : List ℕ) → row (get_or line i 0 ∷ get_or line j 0 ∷ rest) ≡ with_byte r (row rest))
     → row line ≡ option_map (λ x. got ++ x) (with_byte r (row (drop k line)))
 bytes_at line i j k r got second third within so is =
@@ -110,7 +110,7 @@ wide_onto got b None = refl
 wide_onto got b (Some r) =
     ap Some (sym (append_assoc (got ++ 0 ∷ []) (b ∷ []) (colour_bytes 1 r) ∙ append_assoc got (0 ∷ []) (b ∷ colour_bytes 1 r)))
 
-wide_at : (line : List ℕ) (i j k : ℕ) (r : Option ℕ) (got : List ℕ) → j ≡ suc i → k ≡ suc j → j < length line → WideSoFar line i got →
+pub wide_at : (line : List ℕ) (i j k : ℕ) (r : Option ℕ) (got : List ℕ) → j ≡ suc i → k ≡ suc j → j < length line → WideSoFar line i got →
     ((rest : List ℕ) → row (get_or line i 0 ∷ get_or line j 0 ∷ rest) ≡ with_byte r (row rest))
     → option_map (colour_bytes 1) (row line) ≡ option_map (λ x. got ++ x) (option_map (colour_bytes 1) (with_byte r (row (drop k line))))
 wide_at line i j k r got second third within so is =

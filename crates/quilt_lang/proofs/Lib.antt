@@ -2,10 +2,16 @@ pub mod Asking
 pub mod Commands
 pub mod Counts
 pub mod Cuts
+pub mod DigitPairs
 pub mod Digits
+pub mod Enough
+pub mod Feeding
 pub mod Groups
 pub mod Joins
 pub mod LineLaws
 pub mod Long
 pub mod Pieces
+pub mod ShortLines
+pub mod Shortened
 pub mod Takes
+pub mod Unfinished

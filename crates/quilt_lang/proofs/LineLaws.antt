@@ -8,11 +8,11 @@ use Rattle.quilt_lang.specs.Reading.{IsLine, alone, begins_silent, first_is_sile
 use Rattle.quilt_lang.specs.Cutting.{grouped}
 
 -- a list of parts is not empty
-not_empty_end : (l : List ℕ) (ps : List (List ℕ)) (k : ℕ) → length ps ≡ k + 1 → without_empty_end (l ∷ ps) ≡ l ∷ without_empty_end ps
+pub not_empty_end : (l : List ℕ) (ps : List (List ℕ)) (k : ℕ) → length ps ≡ k + 1 → without_empty_end (l ∷ ps) ≡ l ∷ without_empty_end ps
 not_empty_end l [] k size = absurd (omega (arith, size))
 not_empty_end l (p ∷ ps) k size = refl
 
-not_last : (l : List ℕ) (ps : List (List ℕ)) (k : ℕ) → length ps ≡ k + 1 → without_last (l ∷ ps) ≡ l ∷ without_last ps
+pub not_last : (l : List ℕ) (ps : List (List ℕ)) (k : ℕ) → length ps ≡ k + 1 → without_last (l ∷ ps) ≡ l ∷ without_last ps
 not_last l [] k size = absurd (omega (arith, size))
 not_last l (p ∷ ps) k size = refl
 

@@ -1,5 +1,5 @@
 -- A line that is too long may be cut short, since only that it is too long is held.
-use Rattle.std.proofs.Common.{◌≡◌, inl, inr, ℕ, ◌+◌, ◌<◌, ◌≤◌, Bool, true, false, ◌==◌, nat_lt, List, [], ◌∷◌, ◌++◌, length, take, drop, map, cond, subst, refl}
+use Rattle.std.proofs.Common.{◌≡◌, inl, inr, ℕ, ◌+◌, ◌<◌, Bool, true, false, ◌==◌, nat_lt, List, [], ◌∷◌, ◌++◌, length, take, map, cond, subst, refl}
 use Rattle.std.proofs.Common.{sym, ◌∙◌, ap, arith, length-append, length-take, filter}
 use Rattle.std.specs.List.{slice_split, onto_first}
 use Rattle.std.proofs.lemmas.List.Splits.{length-slice_split}
@@ -10,29 +10,29 @@ use Rattle.quilt_words.specs.declared.item.Item.{Item}
 use Rattle.quilt_words.specs.declared.item.Item.TheVariants.{Long}
 use Rattle.quilt_words.specs.Items.{Group, line_limit, is_long, is_silent, lines_of, whole_lines, without_empty_end, without_last, groups_from, items_of}
 use Rattle.quilt_words.specs.Items.{whole_items, held, held_as, asked, is_complete}
-use Rattle.quilt_lang.specs.Reading.{Unread, HasNewline, IsLine, Gives, Same, alone, kept_limit, is_some_line}
+use Rattle.quilt_lang.specs.Reading.{Unread, IsLine, Gives, Same, alone}
 use Rattle.quilt_words.proofs.Cases.{bool_cases}
 use Rattle.quilt_lang.proofs.Pieces.{same_by, gives_none, gives_then, gives_fed}
-use Rattle.quilt_lang.proofs.LineLaws.{asked_long, groups_alone, complete_first, whole_line, whole_none}
+use Rattle.quilt_lang.proofs.LineLaws.{asked_long, groups_alone, complete_first}
 
 -- onto the first part go the bytes before
-abbrev onto : List ℕ → List (List ℕ) → List (List ℕ)
+abbrev pub onto : List ℕ → List (List ℕ) → List (List ℕ)
 onto front [] = []
 onto front (l ∷ ls) = (front ++ l) ∷ ls
 
-abbrev pieces : List ℕ → List (List ℕ)
+abbrev pub pieces : List ℕ → List (List ℕ)
 pieces t = slice_split (λ c. c == 10) t
 
-onto_one : (c : ℕ) (cs : List ℕ) (ps : List (List ℕ)) (k : ℕ) → length ps ≡ k + 1 → onto_first c (onto cs ps) ≡ onto (c ∷ cs) ps
+pub onto_one : (c : ℕ) (cs : List ℕ) (ps : List (List ℕ)) (k : ℕ) → length ps ≡ k + 1 → onto_first c (onto cs ps) ≡ onto (c ∷ cs) ps
 onto_one c cs [] k size = absurd (omega (arith, size))
 onto_one c cs (l ∷ ls) k size = refl
 
-onto_none : (ps : List (List ℕ)) → ps ≡ onto [] ps
+pub onto_none : (ps : List (List ℕ)) → ps ≡ onto [] ps
 onto_none [] = refl
 onto_none (l ∷ ls) = refl
 
 -- a front with no newline goes onto the first piece
-split_onto : (front v : List ℕ) → IsLine front → pieces (front ++ v) ≡ onto front (pieces v)
+pub split_onto : (front v : List ℕ) → IsLine front → pieces (front ++ v) ≡ onto front (pieces v)
 split_onto [] v none = onto_none (pieces v)
 split_onto (c ∷ cs) v none =
     let inner : (c == 10) ≡ false = All-head (λ (x : ℕ). (x == 10) ≡ false) c cs none in
@@ -40,11 +40,11 @@ split_onto (c ∷ cs) v none =
     ∙ onto_one c cs (pieces v) _ (length-slice_split (λ x. x == 10) v))
 
 -- what follows up to the first newline, and the lines behind it
-abbrev first_of : List (List ℕ) → List ℕ
+abbrev pub first_of : List (List ℕ) → List ℕ
 first_of [] = []
 first_of (l ∷ ls) = l
 
-abbrev later_of : List (List ℕ) → List (List ℕ)
+abbrev pub later_of : List (List ℕ) → List (List ℕ)
 later_of [] = []
 later_of (l ∷ []) = []
 later_of (l ∷ m ∷ ls) = without_empty_end (m ∷ ls)
@@ -56,7 +56,7 @@ ends_onto [] (l ∷ ls) k some size = absurd (omega (arith, some))
 ends_onto (c ∷ cs) (l ∷ []) k some size = refl
 ends_onto (c ∷ cs) (l ∷ m ∷ ls) k some size = refl
 
-lines_onto : (front v : List ℕ) → IsLine front → 0 < length front → lines_of (front ++ v) ≡ (front ++ first_of (pieces v)) ∷ later_of (pieces v)
+pub lines_onto : (front v : List ℕ) → IsLine front → 0 < length front → lines_of (front ++ v) ≡ (front ++ first_of (pieces v)) ∷ later_of (pieces v)
 unfolding lines_of
 lines_onto front v none some =
     ap without_empty_end (split_onto front v none) ∙ ends_onto front (pieces v) _ some (length-slice_split (λ x. x == 10) v)
@@ -104,7 +104,7 @@ lasts_onto front [] = refl
 lasts_onto front (l ∷ []) = refl
 lasts_onto front (l ∷ m ∷ ls) = refl
 
-whole_onto : (front v : List ℕ) → IsLine front → whole_lines (front ++ v) ≡ onto front (whole_lines v)
+pub whole_onto : (front v : List ℕ) → IsLine front → whole_lines (front ++ v) ≡ onto front (whole_lines v)
 unfolding whole_lines
 whole_onto front v none = ap without_last (split_onto front v none) ∙ lasts_onto front (pieces v)
 
@@ -127,7 +127,7 @@ unfolding whole_items
 whole_same n a b v is_a is_b long_a long_b =
     rw (whole_onto a v is_a, whole_onto b v is_b) (whole_swap n a b (whole_lines v) long_a long_b)
 
-line_front : (m : ℕ) (text : List ℕ) → IsLine text → IsLine (take m text)
+pub line_front : (m : ℕ) (text : List ℕ) → IsLine text → IsLine (take m text)
 line_front m text none = λ j d below. let less : j < m = omega (arith, below, length-take m text) in
     rw (get_or-take m text j d less) (none j d (omega (arith, below, length-take m text)))
 
@@ -155,23 +155,9 @@ fed n m old joined piece keeps all =
     subst Q (sym all) (gives_fed n [] old (take m old) piece keeps)
 
 -- and of that the lines that begin no item are let go
-pub fed_on : (s : Unread) (old joined piece new : List ℕ) → old ≡ s.rest → ((n : ℕ) → Gives false n [] (old ++ piece) joined)
+pub fed_on : (s : Unread) (old joined piece new : List ℕ) → old ≡ s.rest → Gives false s.level [] (old ++ piece) joined
     → ((n : ℕ) → Gives false n [] joined new) →
     Gives false s.level [] (s.rest ++ piece) new
 fed_on s old joined piece new rest first read =
     let P : List ℕ → Type 0 = λ (l : List ℕ). Gives false s.level [] (l ++ piece) new in
-    subst P rest (gives_then false s.level [] [] (old ++ piece) joined new (first s.level) (read s.level))
-
--- all of a text with a whole line may be kept
-pub kept_all : (text : List ℕ) (k : ℕ) → HasNewline text k → length text ≤ kept_limit text
-kept_all text k at =
-    let lines : whole_lines text ≡ take k text ∷ whole_lines (drop (k + 1) text) =
-    ap whole_lines at.is ∙ whole_line (take k text) (drop (k + 1) text) at.before in
-    let same : kept_limit text ≡ length text = ap (λ (ls : List (List ℕ)). cond (is_some_line ls) (length text) (line_limit + 1)) lines in
-    omega (arith, same)
-
--- of a text with no newline what shows that it is too long may be kept
-pub kept_line : (text : List ℕ) (m : ℕ) → IsLine text → m ≤ line_limit + 1 → m ≤ kept_limit text
-kept_line text m none few =
-    let same : kept_limit text ≡ line_limit + 1 = ap (λ (ls : List (List ℕ)). cond (is_some_line ls) (length text) (line_limit + 1)) (whole_none text none) in
-    omega (arith, same, few)
+    subst P rest (gives_then false s.level [] [] (old ++ piece) joined new first (read s.level))

@@ -1,12 +1,12 @@
 -- Lines cut from the front of a text, and how many further lines a line asks for.
-use Rattle.std.specs.Prelude.{◌≡◌, ℕ, ◌<◌, ◌≤◌, Bool, true, false, List, [], ◌++◌, length, codes}
+use Rattle.std.specs.Prelude.{◌≡◌, ℕ, ◌<◌, ◌≤◌, Bool, true, false, List, [], ◌++◌, length, codes, Option, Some, None}
 use Rattle.quilt_types.specs.Plane.{side}
 use Rattle.quilt_lang.specs.declared.asked.Asked.{Asked}
 use Rattle.quilt_lang.specs.declared.asked.Asked.TheVariants as kinds
 use Rattle.quilt_words.specs.declared.item.Item.{Item}
 use Rattle.quilt_words.specs.declared.item.Item.TheVariants.{Line, Rows, PointLines, RingLines}
-use Rattle.quilt_words.specs.Items.{Group, begins_with, lines_of, whole_lines, rows_of, points_of, rings_of}
-use Rattle.quilt_lang.specs.Reading.{MayFollow}
+use Rattle.quilt_words.specs.Items.{Group, begins_with, line_limit, lines_of, whole_lines, rows_of, points_of, rings_of}
+use Rattle.quilt_lang.specs.Reading.{MayFollow, point_limit}
 
 -- a line with these further lines
 abbrev pub grouped : List ℕ → List (List ℕ) → Group
@@ -34,6 +34,13 @@ number_of n kinds.Nothing = 0
 number_of n kinds.Rows = side n
 number_of n (kinds.Points k) = k
 number_of n (kinds.Rings k) = k
+
+-- the most bytes that one of them may have; a row has no such bound
+abbrev pub limit_of : Asked → Option ℕ
+limit_of kinds.Nothing = None
+limit_of kinds.Rows = None
+limit_of (kinds.Points k) = Some point_limit
+limit_of (kinds.Rings k) = Some line_limit
 
 -- the words begin with the one that asks for them, and for one line at least
 abbrev pub IsAsking : List (List ℕ) → Asked → Type 0

@@ -1,5 +1,5 @@
 -- How far the item at the front of a text is cut.
-use Rattle.std.specs.Prelude.{◌≡◌, ℕ, ◌+◌, ◌<◌, ◌≤◌, Bool, false, List, [], ◌∷◌, length, take, drop}
+use Rattle.std.specs.Prelude.{◌≡◌, ℕ, ◌+◌, ◌-◌, ◌<◌, ◌≤◌, Bool, false, Some, List, [], ◌∷◌, ◌++◌, length, take, drop}
 use Rattle.quilt_lang.specs.declared.asked.Asked.{Asked}
 use Rattle.quilt_lang.specs.declared.progress.CutLines.{CutLines}
 use Rattle.quilt_lang.specs.declared.progress.Waiting.{Waiting}
@@ -9,8 +9,9 @@ use Rattle.quilt_lang.specs.declared.front.Front.{Front}
 use Rattle.quilt_lang.specs.declared.front.Front.TheVariants as fronts
 use Rattle.quilt_lang.specs.declared.cutting.FirstLine.{FirstLine}
 use Rattle.quilt_lang.specs.declared.cutting.FirstLine.TheVariants as firsts
-use Rattle.quilt_words.specs.Items.{asked, is_silent, words_of}
-use Rattle.quilt_lang.specs.Reading.{Gives, GivesItem, HasNone, IsLine, begins_silent}
+use Rattle.quilt_words.specs.Items.{asked, is_silent, whole_lines, words_of}
+use Rattle.quilt_lang.specs.Reading.{Gives, GivesItem, HasNone, IsLine, begins_silent, kept_limit, limit_behind, unfinished}
+use Rattle.quilt_lang.specs.Shortening.{Misses, bounds_of}
 use Rattle.quilt_lang.specs.Cutting.{Cuts, IsAsked, number_of}
 
 -- so many bytes at the front have no newline
@@ -25,7 +26,7 @@ pub record IsCount (most : ℕ) (cut : CutLines) (text : List ℕ) : Type 0 wher
   pub number : length lines ≡ cut.count
   pub few : cut.count ≤ most
   pub short : cut.count ≤ cut.len
-  pub cuts : Cuts false lines text (drop cut.len text)
+  pub cuts : Cuts false lines (take cut.len text) []
   pub behind : IsUncut cut.scanned (drop cut.len text)
 
 -- the first line has so many bytes, begins an item and asks for this
@@ -33,6 +34,7 @@ pub record IsFirst (ended : Bool) (n : ℕ) (line : ℕ) (what : Asked) (text : 
   pub within : line ≤ length text
   pub whole : ended ≡ false → line < length text
   pub cuts : Cuts ended (take line text ∷ []) text (drop (line + 1) text)
+  pub front : ended ≡ false → Cuts false (take line text ∷ []) (take (line + 1) text) []
   pub loud : is_silent (take line text) ≡ false
   pub asks : IsAsked n (asked n (take line text)) (words_of (take line text)) what
 
@@ -55,3 +57,22 @@ IsFront ended n f text (fronts.Waits progress) = HasNone ended n text × IsProgr
 abbrev pub IsFirstLine : List ℕ → FirstLine → Type 0
 IsFirstLine text (firsts.Silent k) = (0 < k) × (k ≤ length text) × ((n : ℕ) → Gives false n [] text (drop k text))
 IsFirstLine text (firsts.Begun scanned) = (begins_silent text ≡ false) × IsUncut scanned text
+
+-- of how many bytes it tells
+abbrev pub told_len : Progress → ℕ
+told_len (progresses.Begun scanned) = scanned
+told_len (progresses.Waiting waiting) = waiting.line + 1 + waiting.cut.len + waiting.cut.scanned
+
+-- So many bytes of a rest are kept that waits for more: it holds the same with them alone, they are no more than may be kept, and
+-- the item at the front is cut so far, whatever follows them. All lines stand there that end with a newline, and what is known of
+-- further lines is how many are missing, where they have a greatest length.
+pub record IsKept (n : ℕ) (rest : List ℕ) (progress : Progress) : Type 0 where
+  pub within : told_len progress ≤ length rest
+  pub gives : Gives false n [] rest (take (told_len progress) rest)
+  pub short : told_len progress ≤ kept_limit rest
+  pub behind : (piece : List ℕ) → IsProgress n progress (take (told_len progress) rest ++ piece)
+  pub lines : whole_lines (take (told_len progress) rest) ≡ whole_lines rest
+  pub misses : (b : ℕ × ℕ) → bounds_of progress ≡ Some b → Misses n b.0 b.1 (take (told_len progress) rest)
+  pub part : (b : ℕ × ℕ) → bounds_of progress ≡ Some b → length (unfinished (take (told_len progress) rest)) ≤ b.0 + 1
+  pub bounds : (line : List ℕ) (more : List (List ℕ)) (most : ℕ) → whole_lines rest ≡ line ∷ more → limit_behind (whole_lines rest) ≡ Some most
+      → bounds_of progress ≡ Some (most, asked n line - length more)

@@ -1,10 +1,12 @@
 -- What reading a text in pieces gives.
-use Rattle.std.specs.Prelude.{◌≡◌, ℕ, ◌+◌, ◌<◌, ◌==◌, Bool, true, false, List, [], ◌∷◌, ◌++◌, length, take, drop, map, All, Option, Some, None, Result, if◌then◌else◌}
+use Rattle.std.specs.Prelude.{◌≡◌, ℕ, ◌+◌, ◌-◌, ◌<◌, ◌==◌, min, Bool, true, false, List, [], ◌∷◌, ◌++◌, length, take, drop, map, All, Option, Some, None, Result}
+use Rattle.std.specs.Prelude.{if◌then◌else◌, codes}
+use Rattle.std.specs.List.{slice_split}
 use Rattle.quilt_types.specs.declared.code.Code.{Code}
 use Rattle.quilt_words.specs.declared.command.Command.{Command}
 use Rattle.quilt_words.specs.declared.item.Item.{Item}
 use Rattle.quilt_words.specs.Forms.{form}
-use Rattle.quilt_words.specs.Items.{Group, is_silent, line_limit, whole_lines, items_of, whole_items, held}
+use Rattle.quilt_words.specs.Items.{Group, begins_with, is_silent, line_limit, whole_lines, words_of, items_of, whole_items, held}
 
 -- what contracts see of a reader of pieces: the level, and a text that has the items not given yet
 pub record Unread : Type 0 where
@@ -74,12 +76,33 @@ begins_silent text = first_is_silent (whole_lines text)
 abbrev pub alone : List ℕ → Group
 alone line = record { line = line; more = [] }
 
--- there is a line
-abbrev pub is_some_line : List (List ℕ) → Bool
-is_some_line [] = false
-is_some_line (l ∷ ls) = true
+-- the last of these
+abbrev pub last_part : List (List ℕ) → List ℕ
+last_part [] = []
+last_part (l ∷ []) = l
+last_part (l ∷ m ∷ ls) = last_part (m ∷ ls)
 
--- The most bytes that are kept of a rest whose whole items are all given: all of them where its first line stands there and waits
--- for further lines, and else no more than show that a line is too long.
+-- the bytes behind the last newline
+unfoldable pub unfinished : List ℕ → List ℕ
+unfinished text = last_part (slice_split (λ c. c == 10) text)
+
+-- the most bytes that a list line may have
+abbrev pub point_limit : ℕ
+point_limit = 64
+
+-- The most bytes that a line may have behind these whole lines: one that begins an item, a list line or a ring line; a row has no such bound.
+abbrev pub limit_behind : List (List ℕ) → Option ℕ
+limit_behind [] = Some line_limit
+limit_behind (l ∷ ls) =
+    if begins_with (words_of l) (codes "scatter") then Some point_limit
+    else if begins_with (words_of l) (codes "polygon") then Some line_limit else None
+
+-- so many bytes, and no more than show that they are too many
+abbrev pub enough_of : Option ℕ → ℕ → ℕ
+enough_of None k = k
+enough_of (Some most) k = min k (most + 1)
+
+-- The most bytes that are kept of a rest whose whole items are all given: all that end with a newline, and of the last line no more
+-- than show that it is too long.
 abbrev pub kept_limit : List ℕ → ℕ
-kept_limit rest = if is_some_line (whole_lines rest) then length rest else line_limit + 1
+kept_limit rest = length rest - length (unfinished rest) + enough_of (limit_behind (whole_lines rest)) (length (unfinished rest))

@@ -3,9 +3,11 @@ ghost use Rattle.std.specs.Prelude.{◌≡◌, ◌==◌, ◌||◌, ℕ, false, c
 ghost use Rattle.std.specs.Str.{bytes_eq};
 ghost use Rattle.quilt_types.specs.Plane.{side};
 ghost use Rattle.quilt_words.specs.Items.{asked, asked_by, begins_with, words_of};
-ghost use Rattle.quilt_lang.specs.Cutting.{IsAsked, number_of};
+ghost use Rattle.quilt_lang.specs.Cutting.{IsAsked, limit_of, number_of};
+ghost use Rattle.quilt_lang.specs.Reading.{enough_of};
+ghost use Rattle.quilt_lang.specs.Shortening.{bounds};
 
-use crate::spelled::listed;
+use crate::spelled::{POINT_LIMIT, listed};
 use quilt_words::{LINE_LIMIT, first_word, is_plain_line, line_words};
 use std::alloc::{AllocError, Global};
 
@@ -31,6 +33,28 @@ impl Asked {
             Asked::Rows => is_side(level, count),
             Asked::Points(k) => is_count(k, count),
             Asked::Rings(k) => is_count(k, count),
+        }
+    }
+
+    /// So many bytes of one of them, and no more than show that it is too long.
+    pub fn enough_of(self, len: usize) -> usize
+        ensures { result ≡ enough_of (limit_of self) len }
+    {
+        match self {
+            Asked::Points(_) => len.min(POINT_LIMIT + 1),
+            Asked::Rings(_) => len.min(LINE_LIMIT + 1),
+            _ => len,
+        }
+    }
+
+    /// The most bytes that one of them may have, and how many are missing where so many stand there; none for rows.
+    pub fn bounds(self, count: usize) -> Option<(usize, usize)>
+        ensures { result ≡ bounds self count }
+    {
+        match self {
+            Asked::Points(k) => Some((POINT_LIMIT, (k as usize).saturating_sub(count))),
+            Asked::Rings(k) => Some((LINE_LIMIT, (k as usize).saturating_sub(count))),
+            _ => None,
         }
     }
 

@@ -1,5 +1,5 @@
 //! The further lines of an item, counted as they come.
-ghost use Rattle.std.specs.Prelude.{◌≡◌, ◌<◌, [], drop};
+ghost use Rattle.std.specs.Prelude.{◌≡◌, ◌<◌, ◌+◌, [], drop, length};
 ghost use Rattle.quilt_words.specs.Items.{whole_lines};
 ghost use Rattle.quilt_lang.specs.Cutting.{number_of};
 ghost use Rattle.quilt_lang.specs.Progress.{IsCount};
@@ -12,6 +12,7 @@ use crate::progress::CutLines;
 pub fn count_lines(level: u8, what: Asked, text: &[u8], so_far: CutLines) -> CutLines
     requires { IsCount (number_of level what) so_far text.now }
     ensures is { IsCount (number_of level what) result text.now }
+    ensures all { result.count < number_of level what → result.len + result.scanned ≡ length text.now }
     ensures stops { result.count < number_of level what → whole_lines (drop result.len text.now) ≡ [] }
 {
     let mut cut = so_far;

@@ -1,14 +1,14 @@
 ghost use Rattle.std.specs.Prelude.{◌≡◌, ◌<◌, ◌≤◌, ◌+◌, ℕ, false, [], ◌∷◌, length, take, drop, IfSome, MatchOption};
 ghost use Rattle.quilt_words.specs.Items.{is_silent};
-ghost use Rattle.quilt_lang.specs.Reading.{IsLine, IsCut, Gives, HasNone, begins_silent, kept_limit};
+ghost use Rattle.quilt_lang.specs.Reading.{IsLine, IsCut, Gives, HasNone, begins_silent};
 ghost use Rattle.quilt_lang.specs.Cutting.{Cuts, HasNoLine};
 ghost use Rattle.quilt_lang.specs.Progress.{IsUncut, IsFirstLine};
 
 use memchr::memchr;
-use quilt_words::{LINE_LIMIT, is_comment_line};
+use quilt_words::is_comment_line;
 
 /// The index of the first newline. That it stands first, as it does where a line was looked at before, is tested without a search.
-fn newline(bytes: &[u8]) -> Option<usize>
+pub fn newline(bytes: &[u8]) -> Option<usize>
     ensures { IsCut bytes.now result }
 {
     match bytes {
@@ -113,6 +113,7 @@ pub fn line_len(text: &[u8], scanned: usize, ended: bool) -> Option<usize>
     ensures loud { IfSome result (λ k. is_silent (take k text.now) ≡ false) }
     ensures within { IfSome result (λ k. k ≤ length text.now) }
     ensures whole { IfSome result (λ k. ended ≡ false → k < length text.now) }
+    ensures front { IfSome result (λ k. ended ≡ false → Cuts false (take k text.now ∷ []) (take (k + 1) text.now) []) }
 {
     match newline_behind(text, scanned) {
         Some(k) => Some(k),
@@ -128,23 +129,10 @@ fn last_len(text: &[u8], ended: bool) -> Option<usize>
     ensures loud { IfSome result (λ k. is_silent (take k text.now) ≡ false) }
     ensures within { IfSome result (λ k. k ≤ length text.now) }
     ensures whole { IfSome result (λ k. ended ≡ false → k < length text.now) }
+    ensures front { IfSome result (λ k. ended ≡ false → Cuts false (take k text.now ∷ []) (take (k + 1) text.now) []) }
 {
     if !ended || is_comment_line(text) {
         return None;
     }
     Some(text.len())
-}
-
-/// How many bytes are kept of a rest that waits for more, whose first line is not cut and has so many bytes with no newline: of a
-/// line that is not whole no more than show that it is too long.
-pub fn kept_len(rest: &[u8], scanned: usize) -> usize
-    requires { IsUncut scanned rest.now }
-    ensures within { result ≤ length rest.now }
-    ensures gives { (n : ℕ) → Gives false n [] rest.now (take result rest.now) }
-    ensures short { result ≤ kept_limit rest.now }
-{
-    match newline_behind(rest, scanned) {
-        Some(_) => rest.len(),
-        None => rest.len().min(LINE_LIMIT + 1),
-    }
 }

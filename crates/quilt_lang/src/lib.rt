@@ -7,9 +7,11 @@ mod counting;
 mod cutting;
 mod front;
 mod held;
+mod keeping;
 mod lines;
 mod progress;
 mod reading;
+mod shortening;
 mod spelled;
 
 pub use lines::Lines;

@@ -1,13 +1,17 @@
-ghost use Rattle.std.specs.Prelude.{◌≡◌, ◌≤◌, ◌+◌, ℕ, false, [], ◌∷◌, ◌++◌, drop, take, length, vec_len, OnOk, OnErr, IfOk, IfSome, MatchOption};
+ghost use Rattle.std.specs.Prelude.{◌≡◌, ◌≤◌, ◌+◌, ℕ, List, false, [], ◌∷◌, ◌++◌, drop, take, length, vec_len, OnOk, OnErr, IfOk, IfSome, MatchOption};
 ghost use Rattle.quilt_words.specs.Items.{whole_items};
 ghost use Rattle.quilt_words.specs.Forms.{Spelled};
 ghost use Rattle.quilt_words.specs.Fitting.{IsFitting};
 ghost use Rattle.quilt_lang.specs.Reading.{Gives, GivesCommand, GivesItem, HasNone, kept_limit};
+ghost use Rattle.quilt_lang.specs.Progress.{told_len};
+ghost use Rattle.quilt_lang.specs.Shortening.{IsPart, KeepsShort, bounds_of};
 
 use crate::commanding::{CommandFront, front_command};
-use crate::cutting::{kept_len, silent_front};
+use crate::cutting::silent_front;
 use crate::front::{Front, front_item};
+use crate::keeping::kept_progress;
 use crate::progress::Progress;
+use crate::shortening::{is_short, shortened};
 use quilt_types::Code;
 use quilt_words::{Command, Item};
 use std::alloc::{AllocError, Global};
@@ -57,24 +61,25 @@ impl Lines {
         ensures level { self.new.level ≡ self.old.level }
         ensures fed { OnOk result (Gives false self.old.level [] (self.old.rest ++ piece.now) self.new.rest) }
         ensures short { OnOk result (length self.new.rest ≤ kept_limit self.old.rest + length piece.now) }
+        ensures lines { OnOk result (KeepsShort self.old.level self.old.rest self.new.rest) }
         ensures err { OnErr result (self.new ≡ self.old) }
     {
-        match self.progress {
+        let alloc = *self.bytes.allocator();
+        let rest = &self.bytes[self.from..];
+        let progress = kept_progress(alloc, self.level, rest, self.progress)?;
+        put_piece(&mut self.bytes, self.from, progress, piece)?;
+        match progress {
             Progress::Waiting(_) => {
-                let kept = self.bytes.len() - self.from;
-                put_behind(&mut self.bytes, self.from, kept, piece)?;
                 self.from = 0;
-                Ok(())
+                self.progress = progress;
             }
             Progress::Begun(scanned) => {
-                let kept = kept_len(&self.bytes[self.from..], scanned);
-                put_behind(&mut self.bytes, self.from, kept, piece)?;
-                let (from, known) = silent_front(&self.bytes, scanned.min(kept));
+                let (from, known) = silent_front(&self.bytes, scanned);
                 self.from = from;
                 self.progress = Progress::Begun(known);
-                Ok(())
             }
         }
+        Ok(())
     }
 
     /// The next item: one whose lines all stand there with their newlines, or, where the input has ended, any. Its further lines
@@ -98,6 +103,7 @@ impl Lines {
                 let (silent, scanned) = silent_front(&self.bytes[from..], 0);
                 self.from = from + silent;
                 self.progress = Progress::Begun(scanned);
+                self.let_go();
                 Ok(Some(item))
             }
         }
@@ -130,25 +136,86 @@ impl Lines {
                 let (silent, scanned) = silent_front(&self.bytes[from..], 0);
                 self.from = from + silent;
                 self.progress = Progress::Begun(scanned);
+                self.let_go();
                 Ok(Some(command))
             }
         }
     }
 }
 
+/// From how many bytes on that were given they are let go.
+const MUCH: usize = 65536;
+
+impl Lines {
+    /// Gives the memory back of what was given, where it is much and at least half of all, so that each byte is copied but once for
+    /// two that are let go. Where there is no memory for what is left, all stays.
+    fn let_go(&mut self)
+        ensures { self.new ≡ self.old }
+    {
+        let left = self.bytes.len() - self.from;
+        if self.from < MUCH || self.from < left {
+            return;
+        }
+        if let Ok(bytes) = Vec::from_slice(*self.bytes.allocator(), &self.bytes[self.from..]) {
+            self.bytes = bytes;
+            self.from = 0;
+        }
+    }
+}
+
+/// Puts a piece behind the bytes from an index on of which this tells, and gives the others up; of further lines that have a greatest
+/// length no more than shows that they are too long. An Err leaves all as it was.
+fn put_piece(
+    bytes: &mut Vec<u8>,
+    from: usize,
+    progress: Progress,
+    piece: &[u8],
+) -> Result<(), AllocError>
+    requires { from + told_len progress ≤ vec_len bytes.old }
+    ensures put { OnOk result ((new : List ℕ) × (bytes.new.items ≡ take (told_len progress) (drop from bytes.old.items) ++ new)
+        × IsPart (bounds_of progress) piece.now new) }
+    ensures err { OnErr result (bytes.new.items ≡ bytes.old.items) }
+{
+    match progress.bounds() {
+        None => put_behind(bytes, from, progress.len(), piece),
+        Some((most, missing)) => {
+            if is_short(piece, most, missing) {
+                return put_behind(bytes, from, progress.len(), piece);
+            }
+            let part = shortened(*bytes.allocator(), piece, most, missing)?;
+            put_behind(bytes, from, progress.len(), &part)
+        }
+    }
+}
+
 /// Puts a piece behind so many bytes from an index on, and gives the others up. An Err leaves them as they were.
-/// Where all are kept from the first on, only the piece is copied.
+/// Where they begin with the first byte, only the piece is copied.
 fn put_behind(bytes: &mut Vec<u8>, from: usize, kept: usize, piece: &[u8]) -> Result<(), AllocError>
     requires { from + kept ≤ vec_len bytes.old }
     ensures put { OnOk result (bytes.new.items ≡ take kept (drop from bytes.old.items) ++ piece.now) }
     ensures err { OnErr result (bytes.new.items ≡ bytes.old.items) }
 {
-    if from == 0 && kept == bytes.len() {
-        bytes.extend_from_slice(piece)?;
-        return Ok(());
+    if from == 0 {
+        return put_over(bytes, kept, piece);
     }
     let mut joined = Vec::from_slice(*bytes.allocator(), &bytes[from..from + kept])?;
     joined.extend_from_slice(piece)?;
     *bytes = joined;
+    Ok(())
+}
+
+/// Puts a piece in the place of what stands behind so many bytes. An Err leaves them as they were.
+fn put_over(bytes: &mut Vec<u8>, kept: usize, piece: &[u8]) -> Result<(), AllocError>
+    requires { kept ≤ vec_len bytes.old }
+    ensures put { OnOk result (bytes.new.items ≡ take kept bytes.old.items ++ piece.now) }
+    ensures err { OnErr result (bytes.new.items ≡ bytes.old.items) }
+{
+    if kept == bytes.len() {
+        bytes.extend_from_slice(piece)?;
+        return Ok(());
+    }
+    bytes.reserve(piece.len())?;
+    bytes.truncate(kept);
+    bytes.extend_from_slice(piece)?;
     Ok(())
 }

@@ -1,3 +1,7 @@
+ghost use Rattle.std.specs.Prelude.{◌≡◌, ◌<◌, ◌^◌};
+ghost use Rattle.quilt_lang.specs.Progress.{told_len};
+ghost use Rattle.quilt_lang.specs.Shortening.{bounds_of};
+
 use crate::asked::Asked;
 
 /// Lines that are cut from the front of a text.
@@ -37,4 +41,27 @@ pub enum Progress {
     Begun(usize),
     /// Its line is cut, and further lines behind it.
     Waiting(Waiting),
+}
+
+impl Progress {
+    /// Of how many bytes it tells.
+    pub fn len(self) -> usize
+        requires { told_len self < 2 ^ 64 }
+        ensures { result ≡ told_len self }
+    {
+        match self {
+            Progress::Begun(scanned) => scanned,
+            Progress::Waiting(Waiting { line, cut, .. }) => line + 1 + cut.len + cut.scanned,
+        }
+    }
+
+    /// The most bytes of a further line that waits, and how many are missing; none where a line begins an item, or is a row.
+    pub fn bounds(self) -> Option<(usize, usize)>
+        ensures { result ≡ bounds_of self }
+    {
+        match self {
+            Progress::Begun(_) => None,
+            Progress::Waiting(Waiting { what, cut, .. }) => what.bounds(cut.count),
+        }
+    }
 }

@@ -1,11 +1,10 @@
 //! What the further lines of an item spell: rows, list lines and ring lines.
-ghost use Rattle.std.specs.Prelude.{◌≡◌, List, ◌≤◌, ◌*◌, ◌==◌, ℕ, [], ◌∷◌, ◌++◌, map, flat_map, length, nat_le, Some, None, option_map, unwrap_or};
+ghost use Rattle.std.specs.Prelude.{◌≡◌, List, ◌≤◌, ◌+◌, ◌%◌, ◌*◌, ◌==◌, ℕ, [], ◌∷◌, ◌++◌, map, flat_map, length, nat_le, Some, None, option_map, unwrap_or};
 ghost use Rattle.std.specs.Prelude.{if◌then◌else◌, IfOk, codes};
 ghost use Rattle.std.specs.Str.{bytes_eq};
 ghost use Rattle.quilt_words.specs.Items.{listed_by, colour_bytes, corner_of, corners_of, point, point_of, points_joined, ring_of, rings_joined, rows_joined};
 ghost use Rattle.quilt_words.specs.Items.{words_of};
 ghost use Rattle.quilt_words.specs.Spelling.{number, row, hex_digit};
-ghost use Rattle.quilt_lang.specs.Spelled.{with_byte};
 
 use quilt_types::{Corner, Pixel, Point, PointList, RingList, Text};
 use quilt_words::{LINE_LIMIT, few_words, line_words, number_of, push_ring};
@@ -32,38 +31,63 @@ fn asked_by_word(word: &[u8], name: &[u8], k: &[u8], most: u32) -> u32
     number_of(1, most, k).unwrap_or(0)
 }
 
-/// The value of a hexadecimal digit of either case at its byte, and 16 at each other byte.
-const DIGITS: [u8; 256] = [
-    16, 16, 16, 16, 16, 16, 16, 16, 16, 16, 16, 16, 16, 16, 16, 16, 16, 16, 16, 16, 16, 16, 16, 16,
-    16, 16, 16, 16, 16, 16, 16, 16, 16, 16, 16, 16, 16, 16, 16, 16, 16, 16, 16, 16, 16, 16, 16, 16,
-    0, 1, 2, 3, 4, 5, 6, 7, 8, 9, 16, 16, 16, 16, 16, 16, 16, 10, 11, 12, 13, 14, 15, 16, 16, 16,
-    16, 16, 16, 16, 16, 16, 16, 16, 16, 16, 16, 16, 16, 16, 16, 16, 16, 16, 16, 16, 16, 16, 16, 10,
-    11, 12, 13, 14, 15, 16, 16, 16, 16, 16, 16, 16, 16, 16, 16, 16, 16, 16, 16, 16, 16, 16, 16, 16,
-    16, 16, 16, 16, 16, 16, 16, 16, 16, 16, 16, 16, 16, 16, 16, 16, 16, 16, 16, 16, 16, 16, 16, 16,
-    16, 16, 16, 16, 16, 16, 16, 16, 16, 16, 16, 16, 16, 16, 16, 16, 16, 16, 16, 16, 16, 16, 16, 16,
-    16, 16, 16, 16, 16, 16, 16, 16, 16, 16, 16, 16, 16, 16, 16, 16, 16, 16, 16, 16, 16, 16, 16, 16,
-    16, 16, 16, 16, 16, 16, 16, 16, 16, 16, 16, 16, 16, 16, 16, 16, 16, 16, 16, 16, 16, 16, 16, 16,
-    16, 16, 16, 16, 16, 16, 16, 16, 16, 16, 16, 16, 16, 16, 16, 16, 16, 16, 16, 16, 16, 16, 16, 16,
-    16, 16, 16, 16, 16, 16, 16, 16, 16, 16, 16, 16, 16, 16,
-];
-
 /// The value of a hexadecimal digit of either case, and 16 for each other byte.
 fn digit_value(c: u8) -> u8
     ensures { result ≡ unwrap_or (hex_digit c) 16 }
 {
-    DIGITS[usize::from(c)]
+    if 48 <= c && c <= 57 {
+        c - 48
+    } else if 97 <= c && c <= 102 {
+        c - 87
+    } else if 65 <= c && c <= 70 {
+        c - 55
+    } else {
+        16
+    }
 }
 
-/// The byte that two hexadecimal digits spell.
-fn byte_of(high: u8, low: u8) -> Option<u8>
-    ensures { (rest : List ℕ) → row (high ∷ low ∷ rest) ≡ with_byte result (row rest) }
+/// The byte that two digits of these values spell.
+fn byte_of(high: u8, low: u8) -> u8
+    ensures { high ≤ 15 → low ≤ 15 → result ≡ 16 * high + low }
 {
-    let high = digit_value(high);
-    let low = digit_value(low);
-    if high.max(low) > 15 {
-        return None;
+    16 * (high % 16) + low % 16
+}
+
+/// Reads pairs of hexadecimal digits into the bytes that they spell. Says whether all are digits; else the bytes are only given up.
+fn read_pairs(line: &[u8], bytes: &mut [u8]) -> bool
+    requires { length line.now ≡ 2 * length bytes.old }
+    ensures { (if result then Some bytes.new else None) ≡ row line.now }
+{
+    let mut most = 0_u8;
+    let mut i = 0;
+    while i < bytes.len() {
+        let high = digit_value(line[2 * i]);
+        let low = digit_value(line[2 * i + 1]);
+        bytes[i] = byte_of(high, low);
+        most = most.max(high).max(low);
+        i += 1;
     }
-    Some(16 * high + low)
+    most <= 15
+}
+
+/// Reads pairs of hexadecimal digits into the bytes that they spell, each behind a byte of 0. Says whether all are digits; else the
+/// bytes are only given up.
+fn read_wide_pairs(line: &[u8], bytes: &mut [u8]) -> bool
+    requires same { length line.now ≡ length bytes.old }
+    requires even { length line.now % 2 ≡ 0 }
+    ensures { (if result then Some bytes.new else None) ≡ option_map (colour_bytes 1) (row line.now) }
+{
+    let mut most = 0_u8;
+    let mut i = 0;
+    while i < bytes.len() {
+        let high = digit_value(line[i]);
+        let low = digit_value(line[i + 1]);
+        bytes[i] = 0;
+        bytes[i + 1] = byte_of(high, low);
+        most = most.max(high).max(low);
+        i += 2;
+    }
+    most <= 15
 }
 
 /// The bytes that pairs of hexadecimal digits spell, or none.
@@ -73,23 +97,21 @@ fn row_bytes(alloc: Global, line: &[u8]) -> Result<Option<Vec<u8>>, AllocError>
     if line.len() % 2 != 0 {
         return Ok(None);
     }
-    let mut bytes = Vec::with_capacity(alloc, line.len() / 2)?;
-    let mut i = 0;
-    while i < line.len() {
-        let Some(byte) = byte_of(line[i], line[i + 1]) else {
-            return Ok(None);
-        };
-        bytes.push(byte)?;
-        i += 2;
+    let mut bytes = vec![in alloc; 0; line.len() / 2]?;
+    if !read_pairs(line, &mut bytes) {
+        return Ok(None);
     }
     Ok(Some(bytes))
 }
+
+/// The most bytes that a list line may have.
+pub const POINT_LIMIT: usize = 64;
 
 /// The point that a list line spells.
 fn list_point(line: &[u8]) -> Option<Point>
     ensures { result ≡ (if nat_le (length line.now) 64 then point_of (words_of line.now) else None) }
 {
-    if line.len() > 64 {
+    if line.len() > POINT_LIMIT {
         return None;
     }
     let words = few_words(line)?;
@@ -173,15 +195,9 @@ fn wide_bytes(alloc: Global, line: &[u8]) -> Result<Option<Vec<u8>>, AllocError>
     if line.len() % 2 != 0 {
         return Ok(None);
     }
-    let mut bytes = Vec::with_capacity(alloc, line.len())?;
-    let mut i = 0;
-    while i < line.len() {
-        let Some(byte) = byte_of(line[i], line[i + 1]) else {
-            return Ok(None);
-        };
-        bytes.push(0)?;
-        bytes.push(byte)?;
-        i += 2;
+    let mut bytes = vec![in alloc; 0; line.len()]?;
+    if !read_wide_pairs(line, &mut bytes) {
+        return Ok(None);
     }
     Ok(Some(bytes))
 }

@@ -275,3 +275,95 @@ fn asks_by_words(rt: HostRuntime) -> Result<(), Fail> {
     }
     Ok(())
 }
+
+/// A line of so many bytes that spells these words, with spaces behind them.
+fn padded(alloc: Global, words: &[u8], len: usize) -> Result<Vec<u8>, Fail> {
+    let mut line = Vec::from_slice(alloc, words)?;
+    line.resize(len, b' ')?;
+    Ok(line)
+}
+
+/// A text of a line, a line behind it of so many bytes that spells these words, and one line more.
+fn padded_text(alloc: Global, head: &[u8], words: &[u8], len: usize) -> Result<Vec<u8>, Fail> {
+    let mut text = Vec::from_slice(alloc, head)?;
+    text.extend_from_slice(&padded(alloc, words, len)?)?;
+    text.extend_from_slice(b"\nat a 1 0\n")?;
+    Ok(text)
+}
+
+/// Whether the items are one whose further lines hold something, as is asked, and a line behind it.
+fn are_held(items: &[Item], held: bool) -> bool {
+    match items {
+        [Item::PointLines(_, points), Item::Line(_)] => points.is_some() == held,
+        [Item::RingLines(_, rings), Item::Line(_)] => rings.is_some() == held,
+        _ => false,
+    }
+}
+
+/// Reads a text in pieces of so many bytes, and in two that are cut at each byte from an index on.
+fn check_held(
+    alloc: Global,
+    text: &[u8],
+    held: bool,
+    piece: usize,
+    from: usize,
+) -> Result<(), Fail> {
+    let pieces: Vec<&[u8]> = text.chunks(piece.max(1)).collect(alloc)?;
+    if !are_held(&items_in(alloc, LEVEL, 1, &pieces)?, held) {
+        return Err(Fail::from("read otherwise in pieces"));
+    }
+    for cut in from..text.len() {
+        let items = items_in(alloc, LEVEL, 1, &[&text[..cut], &text[cut..]])?;
+        if !are_held(&items, held) {
+            return Err(Fail::from("cut otherwise"));
+        }
+    }
+    Ok(())
+}
+
+#[test]
+fn reads_list_lines_up_to_their_limit(rt: HostRuntime) -> Result<(), Fail> {
+    let alloc = rt.alloc();
+    for (len, held) in [(64, true), (65, false), (66, false), (200, false)] {
+        let text = padded_text(alloc, b"scatter p 1\n", b"1 1 7", len)?;
+        for piece in [1, 7, 64, 65, 66] {
+            check_held(alloc, &text, held, piece, 0)?;
+        }
+    }
+    Ok(())
+}
+
+#[test]
+fn reads_ring_lines_up_to_their_limit(rt: HostRuntime) -> Result<(), Fail> {
+    let alloc = rt.alloc();
+    for (len, held) in [(8320, true), (8321, false), (8322, false), (20_000, false)] {
+        let text = padded_text(alloc, b"polygon a 1 1\n", b"0 0 1 0 0 1", len)?;
+        for piece in [100, 4096, 8320, 8321] {
+            check_held(alloc, &text, held, piece, text.len().saturating_sub(20))?;
+        }
+    }
+    Ok(())
+}
+
+/// A text of three list lines, of which the one at the index has so many bytes.
+fn list_text(alloc: Global, index: usize, len: usize) -> Result<Vec<u8>, Fail> {
+    let mut text = Vec::from_slice(alloc, b"scatter p 3\n")?;
+    for i in 0..3_usize {
+        let size = if i == index { len } else { 5 };
+        text.extend_from_slice(&padded(alloc, b"1 1 7", size)?)?;
+        text.push(b'\n')?;
+    }
+    text.extend_from_slice(b"at a 1 0\n")?;
+    Ok(text)
+}
+
+#[test]
+fn reads_each_list_line_up_to_its_limit(rt: HostRuntime) -> Result<(), Fail> {
+    let alloc = rt.alloc();
+    for index in 0..3_usize {
+        check_held(alloc, &list_text(alloc, index, 64)?, true, 3, 0)?;
+        check_held(alloc, &list_text(alloc, index, 65)?, false, 3, 0)?;
+        check_held(alloc, &list_text(alloc, index, 300)?, false, 70, 0)?;
+    }
+    Ok(())
+}

@@ -13,6 +13,7 @@ further_command-requires c = record {
     within = c.in-Some.ensures.within;
     whole = c.in-Some.ensures.whole;
     cuts = c.in-Some.ensures.found;
+    front = c.in-Some.ensures.front;
     loud = c.in-Some.ensures.loud;
     asks = (rw c.in-Asks.is at c.in_ok-begun.ensures.form) c.args.level;
   };

@@ -7,6 +7,7 @@ further_item-requires c = record {
     within = c.in-Some.ensures.within;
     whole = c.in-Some.ensures.whole;
     cuts = c.in-Some.ensures.found;
+    front = c.in-Some.ensures.front;
     loud = c.in-Some.ensures.loud;
     asks = c.in_ok-what.ensures c.args.level;
   };

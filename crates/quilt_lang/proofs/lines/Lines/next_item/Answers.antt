@@ -15,6 +15,8 @@ returns-in-Given-clause-given c =
     let same : take (length now - from) (drop from now) ≡ c.args.self.now.rest = rw c.deref.ensures.value (behind from bytes ∙ rest) in
     let then_ : List ℕ = c.deref-in-Given.result.now in
     let back : take (length then_ - (from + m)) (drop (from + m) then_) ≡ drop (from + m) bytes = rw c.deref-in-Given.ensures.value (behind (from + m) bytes) in
-    given c.args.ended c.args.format c.args.self.now c.in-Given.item bytes (take (length then_ - (from + m)) (drop (from + m) then_))
+    let kept = ap (λ (s : Unread). s.rest) c.let_go.ensures in
+    rw kept
+    (given c.args.ended c.args.format c.args.self.now c.in-Given.item bytes (take (length then_ - (from + m)) (drop (from + m) then_))
     from m c.silent_front-silent.result.0 rest
-    (rw (same, level) at ((rw c.in-Given.is at c.in_ok-progress.ensures).1)) back c.silent_front-silent.ensures.gives
+    (rw (same, level) at ((rw c.in-Given.is at c.in_ok-progress.ensures).1)) back c.silent_front-silent.ensures.gives)
