@@ -10,3 +10,4 @@ pub mod Rings
 pub mod Slices
 pub mod SpelledLaws
 pub mod Table
+pub mod Takes
