@@ -116,7 +116,6 @@ impl<W: World> Session<W> {
         ensures sound { IfErr result (λ stop. (s : State) → IsAtState self.old s → IsSound stop) }
         ensures cause { HasStopCause (W.faults (books.world_of self.old.book)) (W.faults (books.world_of self.new.book)) result }
         ensures keeps { KeepsAll self.old self.new }
-        ensures warm { self.new.warm ≡ self.old.warm }
         ensures reads { IfOk result (λ reply. (s : State) → IsAtState self.old s → IsAnswered reply → (side : ℕ) → IsSideOver w side →
             Goes (λ old new. new ≤ old + show_pages s.last.level (grid_in (layer_of s name.now)) side w) (reads_in self.old.book) (reads_in self.new.book)) }
     {
@@ -141,7 +140,6 @@ impl<W: World> Session<W> {
         ensures sound { IfErr result (λ stop. (s : State) → IsAtState self.old s → IsSound stop) }
         ensures cause { HasStopCause (W.faults (books.world_of self.old.book)) (W.faults (books.world_of self.new.book)) result }
         ensures keeps { KeepsAll self.old self.new }
-        ensures warm { self.new.warm ≡ self.old.warm }
     {
         match region_number(self.catalog.entries(), name) {
             Err(code) => Ok(Reply::No(code)),

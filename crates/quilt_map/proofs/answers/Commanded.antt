@@ -334,41 +334,16 @@ module _ {W : Type 0} {D : disk.Ghosts W} (old new : Session W D) (command other
       applied_going old new command other (sym is) r answers sound cause reads (refused_still old new r keeps) ready
       (goes_of old.book new.book keeps.book.later) only.0 (λ back. absurd (never_both (goes_back command) only.1 back)) (λ is. keeps_state old new law keeps)
 
--- another last pixel leaves what was promised
-module _ {W : Type 0} {D : disk.Ghosts W} (old new : Session W D) where
-  pub applied_forgets : (w : Option (List ℕ × Pixel)) (command : Command) (r : Result Reply Stop) → IsAppliedBy IsAtState command old new r
-      → IsAppliedBy IsAtState command old
-      (record { book = new.book; catalog = new.catalog; last = new.last; changes = new.changes; warm = w; alloc = new.alloc }) r
-  unfolding world_of level_of head_of format_of changes_of reads_of IsReady
-  applied_forgets w command r h = record {
-    answer = if_ok _ _ r (λ reply p s at. let a = p s at in (a.0, warm_at {D = D} new w (after s command) a.1)) h.answer;
-    refused = if_ok _ _ r (λ reply p no_ s at. warm_at {D = D} new w s (p no_ s at)) h.refused;
-    changes = h.changes;
-    level = h.level;
-    later = h.later;
-    device = h.device;
-    damaged = h.damaged;
-    door = h.door;
-    events = h.events;
-    input = h.input;
-    crash = h.crash;
-    writes = h.writes;
-    reads = h.reads;
-    ready = h.ready;
-    kept = h.kept;
-    stays = λ is s at. warm_at {D = D} new w s (h.stays is s at);
-    whole = if_err _ _ r (λ e p is some. let k = p is some in
-        record { book = k.book; catalog = k.catalog; last = k.last; changes = k.changes; at = λ s at. warm_at {D = D} new w s (k.at s at) }) h.whole;
-    quiet = h.quiet;
-    back = h.back;
-  }
-
-  -- and with the pages of the last pixel held, it is what is promised above this crate
-  pub applied_warm : (command : Command) (r : Result Reply Stop) → IsWarm new → IsAppliedBy IsAtState command old new r → IsApplied command old new r
-  unfolding IsAt
+-- behind the pages of another last pixel, which are held, it is what is promised above this crate
+module _ {W : Type 0} {D : disk.Ghosts W} (old new : Session W D) (w : Option (List ℕ × Pixel)) where
+  pub applied_warm : (command : Command) (r : Result Reply Stop)
+      → IsWarm (record { book = new.book; catalog = new.catalog; last = new.last; changes = new.changes; warm = w; alloc = new.alloc })
+      → IsAppliedBy IsAtState command old new r
+      → IsApplied command old (record { book = new.book; catalog = new.catalog; last = new.last; changes = new.changes; warm = w; alloc = new.alloc }) r
+  unfolding IsAt world_of level_of head_of format_of changes_of reads_of IsReady
   applied_warm command r warm h = record {
-    answer = if_ok _ _ r (λ reply p s at. let a = p s at.at in (a.0, record { at = a.1; warm = warm })) h.answer;
-    refused = if_ok _ _ r (λ reply p no_ s at. record { at = p no_ s at.at; warm = warm }) h.refused;
+    answer = if_ok _ _ r (λ reply p s at. let a = p s at.at in (a.0, record { at = warm_at {D = D} new w (after s command) a.1; warm = warm })) h.answer;
+    refused = if_ok _ _ r (λ reply p no_ s at. record { at = warm_at {D = D} new w s (p no_ s at.at); warm = warm }) h.refused;
     changes = if_ok _ _ r (λ reply p s at. p s at.at) h.changes;
     level = h.level;
     later = h.later;
@@ -382,13 +357,13 @@ module _ {W : Type 0} {D : disk.Ghosts W} (old new : Session W D) where
     reads = λ s at. h.reads s at.at;
     ready = h.ready;
     kept = h.kept;
-    stays = λ is s at. record { at = h.stays is s at.at; warm = warm };
+    stays = λ is s at. record { at = warm_at {D = D} new w s (h.stays is s at.at); warm = warm };
     whole = if_err _ _ r (λ e p is some. let k = p is some in record {
       book = k.book;
       catalog = k.catalog;
       last = k.last;
       changes = k.changes;
-      at = λ s at. record { at = k.at s at.at; warm = warm };
+      at = λ s at. record { at = warm_at {D = D} new w s (k.at s at.at); warm = warm };
     }) h.whole;
     quiet = h.quiet;
     back = h.back;

@@ -19,7 +19,7 @@ use Rattle.quilt_map.specs.Sessions.{IsAtState}
 use Rattle.quilt_map.specs.Steps.{Leaves, asks, gives_edition, goes_back}
 use Rattle.quilt_map.specs.declared.session.Session.{Session}
 use Rattle.quilt_map.proofs.answers.Answered.{keeps_here}
-use Rattle.quilt_map.proofs.answers.Commanded.{WritesPages, applied_asking, applied_forgets, applied_giving, applied_going, applied_warm, never_both, sound_at}
+use Rattle.quilt_map.proofs.answers.Commanded.{WritesPages, applied_asking, applied_giving, applied_going, applied_warm, never_both, sound_at}
 use Rattle.quilt_map.proofs.questions.Warming.{cold}
 use Rattle.quilt_map.proofs.states.Moving.{IsLawful}
 
@@ -114,5 +114,4 @@ module _ {W : Type 0} {D : disk.Ghosts W} (old new : Session W D) (w : Option (L
   pub served_warm : w ≡ warm_left command r → IsServed command old new r
       → IsApplied command old (record { book = new.book; catalog = new.catalog; last = new.last; changes = new.changes; warm = w; alloc = new.alloc }) r
   served_warm is served =
-      applied_warm old (record { book = new.book; catalog = new.catalog; last = new.last; changes = new.changes; warm = w; alloc = new.alloc }) command r
-      (subst (λ (x : Option (List ℕ × Pixel)). IsHeldIn x new) (sym is) served.held) (applied_forgets old new w command r served.applied)
+      applied_warm old new w command r (subst (λ (x : Option (List ℕ × Pixel)). IsHeldIn x new) (sym is) served.held) served.applied
