@@ -10,4 +10,3 @@ pub mod Rings
 pub mod Slices
 pub mod SpelledLaws
 pub mod Table
-pub mod Takes

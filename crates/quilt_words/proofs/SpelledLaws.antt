@@ -1,5 +1,5 @@
 -- What a command that an item spells has fits the format and the level.
-use Rattle.std.proofs.Common.{◌≡◌, inl, inr, ℕ, zero, suc, ◌+◌, ◌-◌, ◌/◌, ◌<◌, ◌≤◌, ◌^◌, arith, Bool, true, false, cond, List, [], ◌∷◌, ◌++◌, length, All}
+use Rattle.std.proofs.Common.{◌≡◌, inl, inr, ℕ, zero, suc, ◌+◌, ◌-◌, ◌*◌, ◌/◌, ◌<◌, ◌≤◌, ◌^◌, arith, Bool, true, false, cond, List, [], ◌∷◌, ◌++◌, length, All}
 use Rattle.std.proofs.Common.{Option, Some, None, Result, Ok, Err, refl, sym, ◌∙◌, ap, subst, ◌==◌, option_map, find, ℤ, pos, neg_ℤ, codes, IfOk, IfSome}
 use Rattle.std.specs.List.{list_all}
 use Rattle.std.specs.Str.{bytes_eq}
@@ -27,8 +27,7 @@ use Rattle.quilt_words.specs.Made.{made, row_formed, recoloured, has_pairs, form
 use Rattle.quilt_words.specs.Spelling.{number, signed, name}
 use Rattle.quilt_words.proofs.Cases.{bool_cases}
 use Rattle.quilt_words.proofs.Holding.{number_within, further_fits}
-use Rattle.quilt_words.specs.Pairs.{paired}
-use Rattle.quilt_words.proofs.Recolours.{pair_number, paired_length}
+use Rattle.quilt_words.proofs.Recolours.{paired, pair_number}
 use Rattle.quilt_words.proofs.Forming.{formed_is}
 
 -- ---- the values of arguments
@@ -163,6 +162,10 @@ pairs_fit f k (suc m) (Number o ∷ Number p ∷ vs) fit =
 
 number_of_pairs : (count : ℕ) → has_pairs count ≡ true → IsWithin 1 16 ((count - 2) / 2)
 number_of_pairs count is = record { least = grind arith; most = grind arith }
+
+paired_length : (f k m : ℕ) → length (paired f k m) ≡ 2 * m
+paired_length f k zero = refl
+paired_length f k (suc m) = omega (arith, paired_length f (k + 1) m)
 
 no_words : (f : ℕ) (more : Further) → form_of_words f more [] ≡ Err codes_of.Word
 unfolding form_of_words

@@ -4,6 +4,5 @@ pub mod Items
 pub mod Made
 pub mod Pairs
 pub mod Parsing
-pub mod Reading
 pub mod Spelling
 pub mod Words

@@ -24,6 +24,11 @@ WantsMemory (Rows line rows) = IsSome rows ⊎ (8 < length (words_of line))
 WantsMemory (PointLines line points) = IsSome points ⊎ (8 < length (words_of line))
 WantsMemory (RingLines line rings) = IsSome rings ⊎ (8 < length (words_of line))
 
+-- the values are what the parts of the answer are, or the code is the answer's
+abbrev pub Reads : {A : Type 0} → (A → List Value) → Result A Code → Result (List Value) Code → Type 0
+Reads values (Ok x) r = r ≡ Ok (values x)
+Reads values (Err code) r = r ≡ Err code
+
 -- the values of so many arguments, or the code of the first refusal
 abbrev pub counted : List Argument → List (List ℕ) → Result (List Value) Code
 counted arguments words = if length arguments == length words then values_of arguments words else Err codes_of.Count

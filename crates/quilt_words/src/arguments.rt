@@ -7,18 +7,21 @@ ghost use Rattle.quilt_words.specs.Forms.{or_err};
 ghost use Rattle.quilt_words.specs.Fitting.{IsWithin};
 ghost use Rattle.quilt_types.specs.Layers.{colours};
 
-use quilt_types::Name;
+use quilt_types::{Code, Name};
 use std::str;
 
-/// The name that a word is, if it is one.
+/// The name that a word is.
 #[tactic(auto, unfolding(crate::specs::Spelling::name))]
-pub fn name_of(word: &[u8]) -> Option<Name>
-    ensures { result ≡ name word.now }
+pub fn parse_name(word: &[u8]) -> Result<Name, Code>
+    ensures { or_err codes_of.Name (name word.now) ≡ result }
 {
     let Ok(text) = str::from_utf8(word) else {
-        return None;
+        return Err(Code::Name);
     };
-    Name::of(text)
+    match Name::of(text) {
+        Some(name) => Ok(name),
+        None => Err(Code::Name),
+    }
 }
 
 fn is_digit_byte(c: u8) -> bool
@@ -73,17 +76,46 @@ pub fn number_of(low: u32, high: u32, word: &[u8]) -> Option<u32>
     }
 }
 
-/// The number that a word spells, at most 65535, or a minus before one that is not 0.
-pub fn signed_of(word: &[u8]) -> Option<i32>
-    ensures { result ≡ signed 65535 word.now }
+/// The number from `low` to `high` that a word spells.
+pub fn parse_number(low: u32, high: u32, word: &[u8]) -> Result<u32, Code>
+    ensures is { or_err codes_of.Number (number low high word.now) ≡ result }
+    ensures within { IfOk result (IsWithin low high) }
 {
-    let (first, digits) = word.split_first()?;
-    if *first == b'-' {
-        let n = number_of(1, 65535, digits)?;
-        return Some(-(n as i32));
+    match number_of(low, high, word) {
+        Some(n) => Ok(n),
+        None => Err(Code::Number),
     }
-    let n = number_of(0, 65535, word)?;
-    Some(n as i32)
+}
+
+/// A coordinate.
+pub fn parse_coordinate(word: &[u8]) -> Result<u16, Code>
+    ensures { or_err codes_of.Number (number 0 65535 word.now) ≡ result }
+{
+    let n = parse_number(0, 65535, word)?;
+    Ok(n as u16)
+}
+
+/// An extent of a window, at least 1.
+pub fn parse_extent(word: &[u8]) -> Result<u16, Code>
+    ensures { or_err codes_of.Number (number 1 65535 word.now) ≡ result }
+{
+    let n = parse_number(1, 65535, word)?;
+    Ok(n as u16)
+}
+
+/// A number of at most 65535, or a minus before one that is not 0.
+pub fn parse_signed(word: &[u8]) -> Result<i32, Code>
+    ensures { or_err codes_of.Number (signed 65535 word.now) ≡ result }
+{
+    let Some((first, digits)) = word.split_first() else {
+        return Err(Code::Number);
+    };
+    if *first == b'-' {
+        let n = parse_number(1, 65535, digits)?;
+        return Ok(-(n as i32));
+    }
+    let n = parse_number(0, 65535, word)?;
+    Ok(n as i32)
 }
 
 /// The greatest colour of a format.

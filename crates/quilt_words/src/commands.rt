@@ -1,14 +1,19 @@
 //! The command that a word makes of the words behind it.
-ghost use Rattle.std.specs.Prelude.{◌≡◌, ℕ, map, codes};
+ghost use Rattle.std.specs.Prelude.{◌≡◌, ◌≤◌, ◌-◌, ◌%◌, ◌==◌, true, ℕ, [], ◌∷◌, map, length, codes};
 ghost use Rattle.quilt_words.specs.Forms.{Further};
-ghost use Rattle.quilt_words.specs.Made.{formed, spelled_by};
+ghost use Rattle.quilt_words.specs.Made.{formed, row_formed, recoloured, made, spelled_by};
 ghost use Rattle.quilt_words.specs.Words.{spelling, map_spelling, region_spelling, algebra_spelling, point_spelling, line_spelling};
 
-use crate::reader::{Reader, done};
+use crate::arguments::most_colour;
 use crate::recolour::recolour_command;
+use crate::shapes::{
+    name_id_segment, name_number, name_number_rings, name_pixel, name_pixel_number,
+    name_radius_name, name_shift_name, name_window, name_window_name, name_window_number, nothing,
+    one_name, three_names, two_names,
+};
 use crate::word::{AlgebraWord, LineWord, MapWord, PointWord, RegionWord, Word};
 use crate::{Command, FurtherLines};
-use quilt_types::Code;
+use quilt_types::{Code, Colour};
 
 /// The command that a word makes of the words behind it, and of what further lines spell, which goes into the command.
 pub fn command(
@@ -31,43 +36,70 @@ pub fn command(
 fn map_command(format: u8, word: MapWord, words: &[&[u8]]) -> Result<Command, Code>
     ensures { (more : Further) → formed format more (map_spelling word) (map (λ w. w.now) words.now) ≡ result }
 {
-    let mut r = Reader::new(words);
     match word {
         MapWord::Region => {
-            let (a, c) = (r.layer(), r.colour(format));
-            done(Command::Region { a, c }, &r)
+            let (a, c) = name_number(words, 0, most_colour(format))?;
+            Ok(Command::Region {
+                a,
+                c: Colour(c as u16),
+            })
         }
         MapWord::Lines => {
-            let (l, t) = (r.layer(), r.number(1, 32) as u8);
-            done(Command::Lines { l, t }, &r)
+            let (l, t) = name_number(words, 1, 32)?;
+            Ok(Command::Lines { l, t: t as u8 })
         }
-        MapWord::Drop => done(Command::Drop { a: r.layer() }, &r),
+        MapWord::Drop => {
+            let a = one_name(words)?;
+            Ok(Command::Drop { a })
+        }
         MapWord::Copy => {
-            let (a, b) = (r.layer(), r.layer());
-            done(Command::Copy { a, b }, &r)
+            let (a, b) = two_names(words)?;
+            Ok(Command::Copy { a, b })
         }
-        MapWord::Blocks => done(Command::Blocks { a: r.layer() }, &r),
+        MapWord::Blocks => {
+            let a = one_name(words)?;
+            Ok(Command::Blocks { a })
+        }
         MapWord::Points => points_command(words),
-        MapWord::Layers => done(Command::Layers, &r),
-        MapWord::Records => done(Command::Records, &r),
-        MapWord::Edition => done(Command::Edition, &r),
-        MapWord::Publish => done(Command::Publish, &r),
-        MapWord::Upgrade => done(Command::Upgrade, &r),
-        MapWord::Revert => done(Command::Revert, &r),
+        MapWord::Layers => {
+            nothing(words)?;
+            Ok(Command::Layers)
+        }
+        MapWord::Records => {
+            nothing(words)?;
+            Ok(Command::Records)
+        }
+        MapWord::Edition => {
+            nothing(words)?;
+            Ok(Command::Edition)
+        }
+        MapWord::Publish => {
+            nothing(words)?;
+            Ok(Command::Publish)
+        }
+        MapWord::Upgrade => {
+            nothing(words)?;
+            Ok(Command::Upgrade)
+        }
+        MapWord::Revert => {
+            nothing(words)?;
+            Ok(Command::Revert)
+        }
     }
 }
 
-/// How many points a block may hold can be left out.
 fn points_command(words: &[&[u8]]) -> Result<Command, Code>
     ensures { (f : ℕ) (more : Further) → formed f more (codes "points") (map (λ w. w.now) words.now) ≡ result }
 {
-    let mut r = Reader::new(words);
-    let p = r.layer();
     if words.len() == 1 {
-        return done(Command::Points { p, bucket: 1 }, &r);
+        let p = one_name(words)?;
+        return Ok(Command::Points { p, bucket: 1 });
     }
-    let bucket = r.number(1, 16) as u8;
-    done(Command::Points { p, bucket }, &r)
+    let (p, bucket) = name_number(words, 1, 16)?;
+    Ok(Command::Points {
+        p,
+        bucket: bucket as u8,
+    })
 }
 
 fn region_command(
@@ -78,42 +110,63 @@ fn region_command(
 ) -> Result<Command, Code>
     ensures { formed format (spelled_by further.old) (region_spelling word) (map (λ w. w.now) words.now) ≡ result }
 {
-    let mut r = Reader::new(words);
+    let most = most_colour(format);
     match word {
         RegionWord::Set => {
-            let (a, at, c) = (r.layer(), r.pixel(), r.colour(format));
-            done(Command::Set { a, at, c }, &r)
+            let (a, at, c) = name_pixel_number(words, 0, most)?;
+            Ok(Command::Set {
+                a,
+                at,
+                c: Colour(c as u16),
+            })
         }
         RegionWord::Rect => {
-            let (a, w, c) = (r.layer(), r.window(), r.colour(format));
-            done(Command::Rect { a, w, c }, &r)
+            let (a, w, c) = name_window_number(words, 0, most)?;
+            Ok(Command::Rect {
+                a,
+                w,
+                c: Colour(c as u16),
+            })
         }
         RegionWord::Raster => {
-            let (a, rows) = (r.layer(), further.rows.take());
-            done(Command::Raster { a, rows }, &r)
+            let a = one_name(words)?;
+            let rows = further.rows.take();
+            Ok(Command::Raster { a, rows })
         }
         RegionWord::At => {
-            let (a, at) = (r.layer(), r.pixel());
-            done(Command::At { a, at }, &r)
+            let (a, at) = name_pixel(words)?;
+            Ok(Command::At { a, at })
         }
         RegionWord::Show => {
-            let (a, w) = (r.layer(), r.window());
-            done(Command::Show { a, w }, &r)
+            let (a, w) = name_window(words)?;
+            Ok(Command::Show { a, w })
         }
-        RegionWord::Leaves => done(Command::Leaves { a: r.layer() }, &r),
+        RegionWord::Leaves => {
+            let a = one_name(words)?;
+            Ok(Command::Leaves { a })
+        }
         RegionWord::Area => {
-            let (a, c) = (r.layer(), r.colour(format));
-            done(Command::Area { a, c }, &r)
+            let (a, c) = name_number(words, 0, most)?;
+            Ok(Command::Area {
+                a,
+                c: Colour(c as u16),
+            })
         }
         RegionWord::Perimeter => {
-            let (a, c) = (r.layer(), r.colour(format));
-            done(Command::Perimeter { a, c }, &r)
+            let (a, c) = name_number(words, 0, most)?;
+            Ok(Command::Perimeter {
+                a,
+                c: Colour(c as u16),
+            })
         }
         RegionWord::Polygon => {
-            let (c, colour) = (r.layer(), r.colour(format));
-            r.number(1, 1000);
+            let (c, colour, _) = name_number_rings(words, 0, most)?;
             let rings = further.rings.take();
-            done(Command::Polygon { c, colour, rings }, &r)
+            Ok(Command::Polygon {
+                c,
+                colour: Colour(colour as u16),
+                rings,
+            })
         }
     }
 }
@@ -121,31 +174,30 @@ fn region_command(
 fn algebra_command(format: u8, word: AlgebraWord, words: &[&[u8]]) -> Result<Command, Code>
     ensures { (more : Further) → formed format more (algebra_spelling word) (map (λ w. w.now) words.now) ≡ result }
 {
-    let mut r = Reader::new(words);
     match word {
         AlgebraWord::Union => {
-            let (a, b, c) = (r.layer(), r.layer(), r.layer());
-            done(Command::Union { a, b, c }, &r)
+            let (a, b, c) = three_names(words)?;
+            Ok(Command::Union { a, b, c })
         }
         AlgebraWord::Inter => {
-            let (a, b, c) = (r.layer(), r.layer(), r.layer());
-            done(Command::Inter { a, b, c }, &r)
+            let (a, b, c) = three_names(words)?;
+            Ok(Command::Inter { a, b, c })
         }
         AlgebraWord::Diff => {
-            let (a, b, c) = (r.layer(), r.layer(), r.layer());
-            done(Command::Diff { a, b, c }, &r)
+            let (a, b, c) = three_names(words)?;
+            Ok(Command::Diff { a, b, c })
         }
         AlgebraWord::Window => {
-            let (a, w, c) = (r.layer(), r.window(), r.layer());
-            done(Command::Window { a, w, c }, &r)
+            let (a, w, c) = name_window_name(words)?;
+            Ok(Command::Window { a, w, c })
         }
         AlgebraWord::Shift => {
-            let (a, dx, dy, c) = (r.layer(), r.shift(), r.shift(), r.layer());
-            done(Command::Shift { a, dx, dy, c }, &r)
+            let (a, dx, dy, c) = name_shift_name(words)?;
+            Ok(Command::Shift { a, dx, dy, c })
         }
         AlgebraWord::Buffer => {
-            let (a, radius, c) = (r.layer(), r.coordinate(), r.layer());
-            done(Command::Buffer { a, r: radius, c }, &r)
+            let (a, r, c) = name_radius_name(words)?;
+            Ok(Command::Buffer { a, r, c })
         }
         AlgebraWord::Recolour => recolour_command(format, words),
     }
@@ -158,28 +210,27 @@ fn point_command(
 ) -> Result<Command, Code>
     ensures { (f : ℕ) → formed f (spelled_by further.old) (point_spelling word) (map (λ w. w.now) words.now) ≡ result }
 {
-    let mut r = Reader::new(words);
     match word {
         PointWord::Put => {
-            let (p, at, label) = (r.layer(), r.pixel(), r.number(0, u32::MAX));
-            done(Command::Put { p, at, label }, &r)
+            let (p, at, label) = name_pixel_number(words, 0, u32::MAX)?;
+            Ok(Command::Put { p, at, label })
         }
         PointWord::Del => {
-            let (p, at) = (r.layer(), r.pixel());
-            done(Command::Del { p, at }, &r)
+            let (p, at) = name_pixel(words)?;
+            Ok(Command::Del { p, at })
         }
         PointWord::Scatter => {
-            let (p, _) = (r.layer(), r.number(1, 100_000));
+            let (p, _) = name_number(words, 1, 100_000)?;
             let points = further.points.take();
-            done(Command::Scatter { p, points }, &r)
+            Ok(Command::Scatter { p, points })
         }
         PointWord::Find => {
-            let (p, at) = (r.layer(), r.pixel());
-            done(Command::Find { p, at }, &r)
+            let (p, at) = name_pixel(words)?;
+            Ok(Command::Find { p, at })
         }
         PointWord::Within => {
-            let (p, w) = (r.layer(), r.window());
-            done(Command::Within { p, w }, &r)
+            let (p, w) = name_window(words)?;
+            Ok(Command::Within { p, w })
         }
     }
 }
@@ -187,39 +238,38 @@ fn point_command(
 fn line_command(word: LineWord, words: &[&[u8]]) -> Result<Command, Code>
     ensures { (f : ℕ) (more : Further) → formed f more (line_spelling word) (map (λ w. w.now) words.now) ≡ result }
 {
-    let mut r = Reader::new(words);
     match word {
         LineWord::Line => {
-            let (l, id, seg) = (r.layer(), r.number(0, u32::MAX), r.segment());
-            done(Command::Line { l, id, seg }, &r)
+            let (l, id, seg) = name_id_segment(words)?;
+            Ok(Command::Line { l, id, seg })
         }
         LineWord::Unline => {
-            let (l, id) = (r.layer(), r.number(0, u32::MAX));
-            done(Command::Unline { l, id }, &r)
+            let (l, id) = name_number(words, 0, u32::MAX)?;
+            Ok(Command::Unline { l, id })
         }
         LineWord::Cross => {
-            let (l, w) = (r.layer(), r.window());
-            done(Command::Cross { l, w }, &r)
+            let (l, w) = name_window(words)?;
+            Ok(Command::Cross { l, w })
         }
         LineWord::Clip => {
-            let (l, w) = (r.layer(), r.window());
-            done(Command::Clip { l, w }, &r)
+            let (l, w) = name_window(words)?;
+            Ok(Command::Clip { l, w })
         }
         LineWord::Nearest => {
-            let (l, at) = (r.layer(), r.pixel());
-            done(Command::Nearest { l, at }, &r)
+            let (l, at) = name_pixel(words)?;
+            Ok(Command::Nearest { l, at })
         }
         LineWord::Over => {
-            let (l, a) = (r.layer(), r.layer());
-            done(Command::Over { l, a }, &r)
+            let (l, a) = two_names(words)?;
+            Ok(Command::Over { l, a })
         }
         LineWord::Rank => {
-            let (l, at, k) = (r.layer(), r.pixel(), r.number(1, 100_000));
-            done(Command::Rank { l, at, k }, &r)
+            let (l, at, k) = name_pixel_number(words, 1, 100_000)?;
+            Ok(Command::Rank { l, at, k })
         }
         LineWord::Crossings => {
-            let (l, m) = (r.layer(), r.layer());
-            done(Command::Crossings { l, m }, &r)
+            let (l, m) = two_names(words)?;
+            Ok(Command::Crossings { l, m })
         }
     }
 }

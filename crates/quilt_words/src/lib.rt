@@ -9,9 +9,9 @@ mod item;
 mod pairs;
 mod parse_err;
 mod parser;
-mod reader;
 mod recolour;
 mod refusal;
+mod shapes;
 mod word;
 mod words;
 

@@ -1,13 +1,12 @@
 //! The command that gives colours new ones.
-ghost use Rattle.std.specs.Prelude.{◌≡◌, ◌≤◌, map};
+ghost use Rattle.std.specs.Prelude.{◌≡◌, ◌≤◌, ◌-◌, ◌*◌, ◌/◌, ℕ, true, [], ◌∷◌, map, length, Ok, Err, IfOk};
 ghost use Rattle.quilt_words.specs.Forms.{Further};
 ghost use Rattle.quilt_words.specs.Made.{recoloured, has_pairs};
-ghost use Rattle.quilt_words.specs.Pairs.{paired, values_in};
-ghost use Rattle.quilt_words.specs.Reading.{Takes};
+ghost use Rattle.quilt_words.specs.Pairs.{pairs_in, ReadsPair};
 
-use crate::reader::{Reader, done};
+use crate::arguments::{most_colour, parse_name, parse_number};
 use crate::{Command, Pairs};
-use quilt_types::Code;
+use quilt_types::{Code, Colour, Name};
 
 /// The command that makes a layer of another by 1 to 16 pairs of colours.
 pub fn recolour_command(format: u8, words: &[&[u8]]) -> Result<Command, Code>
@@ -16,10 +15,10 @@ pub fn recolour_command(format: u8, words: &[&[u8]]) -> Result<Command, Code>
     if !is_number_of_words(words.len()) {
         return Err(Code::Count);
     }
-    let mut r = Reader::new(words);
-    let (a, c) = (r.layer(), r.layer());
-    let pairs = read_pairs(format, &mut r, (words.len() - 2) / 2);
-    done(Command::Recolour { a, c, pairs }, &r)
+    let a = parse_name(words[0])?;
+    let c = parse_name(words[1])?;
+    let pairs = parse_pairs(format, &words[2..])?;
+    Ok(Command::Recolour { a, c, pairs })
 }
 
 /// Whether so many words are two layers and from 1 to 16 pairs.
@@ -29,19 +28,30 @@ fn is_number_of_words(count: usize) -> bool
     count >= 4 && count <= 34 && count % 2 == 0
 }
 
-/// So many pairs of colours: an old one, and what it becomes.
-fn read_pairs(format: u8, r: &mut Reader, count: usize) -> Pairs
-    requires some { 1 ≤ count }
-    requires few { count ≤ 16 }
-    ensures { Takes (paired format 0 count) (values_in result) r.old r.new }
+/// One pair of colours: an old one, and what it becomes.
+fn parse_pair(format: u8, o: &[u8], n: &[u8]) -> Result<(Colour, Colour), Code>
+    ensures { ReadsPair format result o.now n.now }
 {
-    let (first, second) = (r.colour(format), r.colour(format));
-    let mut pairs = Pairs::of(first, second);
-    let mut read = 1;
-    while read < count {
-        let (o, n) = (r.colour(format), r.colour(format));
+    let most = most_colour(format);
+    let o = parse_number(0, most, o)?;
+    let n = parse_number(0, most, n)?;
+    Ok((Colour(o as u16), Colour(n as u16)))
+}
+
+/// From 1 to 16 pairs of colours.
+fn parse_pairs(format: u8, words: &[&[u8]]) -> Result<Pairs, Code>
+    requires few { length words.now ≤ 32 }
+    requires some { 2 ≤ length words.now }
+    requires even { (length words.now / 2) * 2 ≡ length words.now }
+    ensures { pairs_in format (map (λ w. w.now) words.now) ≡ result }
+{
+    let (o, n) = parse_pair(format, words[0], words[1])?;
+    let mut pairs = Pairs::of(o, n);
+    let mut i = 2;
+    while i < words.len() {
+        let (o, n) = parse_pair(format, words[i], words[i + 1])?;
         pairs.push(o, n);
-        read += 1;
+        i += 2;
     }
-    pairs
+    Ok(pairs)
 }

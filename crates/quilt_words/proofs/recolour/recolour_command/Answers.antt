@@ -1,15 +1,17 @@
-use Rattle.std.proofs.Common.{◌-◌, ◌/◌, sym, ◌∙◌, ap}
-use Rattle.std.proofs.lemmas.List.{length-map}
-use Rattle.quilt_words.specs.Forms.{recolour_command}
-use Rattle.quilt_words.specs.Made.{has_pairs}
-use Rattle.quilt_words.proofs.Recolours.{recoloured_by, recolours}
-use Rattle.quilt_words.proofs.Takes.{◌&◌, by_row}
+use Rattle.std.proofs.Common.{rules, sym, ◌∙◌}
+use Rattle.quilt_words.proofs.Slices.{behind}
+use Rattle.quilt_words.proofs.Recolours.{recolour_ok, recolour_err}
 use Rattle.quilt_words.proofs.recolour.recolour_command.Goals as goal
+
+pub returns-in_err-pairs : goal.returns-in_err-pairs
+returns-in_err-pairs c = λ more.
+    let third = rw (behind 2 c.args.words.now) at c.in_err-pairs.ensures in
+    let fact = recolour_err c.args.format more (λ w. w.now) c.args.words.now _ _ _ _
+    (sym c.is_number_of_words.ensures ∙ c.if-not-is_number_of_words.false) c.in_ok-a.ensures c.in_ok-c.ensures third in
+    search (rules, fact)
 
 pub returns : goal.returns
 returns c = λ more.
-    let size = length-map c.args.words.now (λ w. w.now) in
-    recoloured_by c.args.format more _ _ _ (ap has_pairs size ∙ sym c.is_number_of_words.ensures ∙ c.if-not-is_number_of_words.false)
-    (ap (λ k. (k - 2) / 2) size)
-    (by_row _ _ recolour_command more c.new-r.ensures (c.layer-a.ensures & c.layer-c.ensures & c.read_pairs-pairs.ensures) c.done.ensures
-    (recolours more _ _ c.read_pairs-pairs.result))
+    let third = rw (behind 2 c.args.words.now) at c.in_ok-pairs.ensures in
+    recolour_ok c.args.format more (λ w. w.now) c.args.words.now _ _ _ _ (sym c.is_number_of_words.ensures ∙ c.if-not-is_number_of_words.false)
+    c.in_ok-a.ensures c.in_ok-c.ensures third

@@ -1,5 +1,0 @@
-use Rattle.quilt_words.proofs.Names.{unnamed}
-use Rattle.quilt_words.proofs.arguments.name_of.Goals as goal
-
-pub returns-in_default : goal.returns-in_default
-returns-in_default c = unnamed c.args.word.now c.in_default.ensures.cases.0

@@ -1,5 +1,0 @@
-use Rattle.quilt_words.proofs.Takes.{◌&◌}
-use Rattle.quilt_words.proofs.reader.Reader.pixel.Goals as goal
-
-pub returns : goal.returns
-returns c = c.coordinate-x.ensures & c.coordinate-y.ensures

@@ -1,0 +1,18 @@
+use Rattle.std.proofs.Common.{rules}
+use Rattle.quilt_words.proofs.Slices.{four_words}
+use Rattle.quilt_words.proofs.shapes.name_pixel_number.Goals as goal
+
+pub returns-in_err-a-clause-is : goal.returns-in_err-a-clause-is
+returns-in_err-a-clause-is c = rw (four_words c.args.words.now c.in-len4.len_at_least c.in-len4.len_below) (search rules)
+
+pub returns-in_err-x-clause-is : goal.returns-in_err-x-clause-is
+returns-in_err-x-clause-is c = rw (four_words c.args.words.now c.in-len4.len_at_least c.in-len4.len_below) (search rules)
+
+pub returns-in_err-y-clause-is : goal.returns-in_err-y-clause-is
+returns-in_err-y-clause-is c = rw (four_words c.args.words.now c.in-len4.len_at_least c.in-len4.len_below) (search rules)
+
+pub returns-in_err-n-clause-is : goal.returns-in_err-n-clause-is
+returns-in_err-n-clause-is c = rw (four_words c.args.words.now c.in-len4.len_at_least c.in-len4.len_below) (search rules)
+
+pub returns-clause-is : goal.returns-clause-is
+returns-clause-is c = rw (four_words c.args.words.now c.in-len4.len_at_least c.in-len4.len_below) (search rules)

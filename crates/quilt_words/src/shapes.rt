@@ -1,0 +1,207 @@
+//! The arguments of commands, by what they are.
+ghost use Rattle.std.specs.Prelude.{◌≡◌, ◌≤◌, ◌<◌, ◌^◌, ℕ, [], ◌∷◌, map, IfOk};
+ghost use Rattle.quilt_words.specs.Forms.{A_name, A_number, A_signed, Called, Number, Signed, coordinate, extent, label};
+ghost use Rattle.quilt_words.specs.Fitting.{IsWithin};
+ghost use Rattle.quilt_words.specs.Parsing.{Reads, counted};
+
+use crate::arguments::{parse_coordinate, parse_extent, parse_name, parse_number, parse_signed};
+use quilt_types::{Code, Name, Pixel, Seg, Window};
+
+/// No arguments.
+pub fn nothing(words: &[&[u8]]) -> Result<(), Code>
+    ensures { Reads (λ v. []) result (counted [] (map (λ w. w.now) words.now)) }
+{
+    match words {
+        [] => Ok(()),
+        _ => Err(Code::Count),
+    }
+}
+
+/// A layer.
+pub fn one_name(words: &[&[u8]]) -> Result<Name, Code>
+    ensures { Reads (λ v. Called v ∷ []) result (counted (A_name ∷ []) (map (λ w. w.now) words.now)) }
+{
+    match words {
+        [a] => parse_name(a),
+        _ => Err(Code::Count),
+    }
+}
+
+/// Two layers.
+pub fn two_names(words: &[&[u8]]) -> Result<(Name, Name), Code>
+    ensures { Reads (λ v. Called v.0 ∷ Called v.1 ∷ []) result (counted (A_name ∷ A_name ∷ []) (map (λ w. w.now) words.now)) }
+{
+    let [a, b] = words else {
+        return Err(Code::Count);
+    };
+    let a = parse_name(a)?;
+    let b = parse_name(b)?;
+    Ok((a, b))
+}
+
+/// Three layers.
+pub fn three_names(words: &[&[u8]]) -> Result<(Name, Name, Name), Code>
+    ensures { Reads (λ v. Called v.0 ∷ Called v.1 ∷ Called v.2 ∷ []) result (counted (A_name ∷ A_name ∷ A_name ∷ []) (map (λ w. w.now) words.now)) }
+{
+    let [a, b, c] = words else {
+        return Err(Code::Count);
+    };
+    let a = parse_name(a)?;
+    let b = parse_name(b)?;
+    let c = parse_name(c)?;
+    Ok((a, b, c))
+}
+
+/// A layer and a number from `low` to `high`.
+pub fn name_number(words: &[&[u8]], low: u32, high: u32) -> Result<(Name, u32), Code>
+    ensures is { Reads (λ v. Called v.0 ∷ Number v.1 ∷ []) result (counted (A_name ∷ A_number low high ∷ []) (map (λ w. w.now) words.now)) }
+    ensures within { IfOk result (λ v. IsWithin low high v.1) }
+{
+    let [a, n] = words else {
+        return Err(Code::Count);
+    };
+    let a = parse_name(a)?;
+    let n = parse_number(low, high, n)?;
+    Ok((a, n))
+}
+
+/// A layer and a pixel.
+pub fn name_pixel(words: &[&[u8]]) -> Result<(Name, Pixel), Code>
+    ensures { Reads (λ v. Called v.0 ∷ Number v.1.x ∷ Number v.1.y ∷ []) result
+        (counted (A_name ∷ coordinate ∷ coordinate ∷ []) (map (λ w. w.now) words.now)) }
+{
+    let [a, x, y] = words else {
+        return Err(Code::Count);
+    };
+    let a = parse_name(a)?;
+    let x = parse_coordinate(x)?;
+    let y = parse_coordinate(y)?;
+    Ok((a, Pixel { x, y }))
+}
+
+/// A layer, a pixel and a number from `low` to `high`.
+pub fn name_pixel_number(words: &[&[u8]], low: u32, high: u32) -> Result<(Name, Pixel, u32), Code>
+    ensures is { Reads (λ v. Called v.0 ∷ Number v.1.x ∷ Number v.1.y ∷ Number v.2 ∷ []) result
+        (counted (A_name ∷ coordinate ∷ coordinate ∷ A_number low high ∷ []) (map (λ w. w.now) words.now)) }
+    ensures within { IfOk result (λ v. IsWithin low high v.2) }
+{
+    let [a, x, y, n] = words else {
+        return Err(Code::Count);
+    };
+    let a = parse_name(a)?;
+    let x = parse_coordinate(x)?;
+    let y = parse_coordinate(y)?;
+    let n = parse_number(low, high, n)?;
+    Ok((a, Pixel { x, y }, n))
+}
+
+/// A layer and a window.
+pub fn name_window(words: &[&[u8]]) -> Result<(Name, Window), Code>
+    ensures { Reads (λ v. Called v.0 ∷ Number v.1.x ∷ Number v.1.y ∷ Number v.1.w ∷ Number v.1.h ∷ []) result
+        (counted (A_name ∷ coordinate ∷ coordinate ∷ extent ∷ extent ∷ []) (map (λ w. w.now) words.now)) }
+{
+    let [a, x, y, w, h] = words else {
+        return Err(Code::Count);
+    };
+    let a = parse_name(a)?;
+    let x = parse_coordinate(x)?;
+    let y = parse_coordinate(y)?;
+    let w = parse_extent(w)?;
+    let h = parse_extent(h)?;
+    Ok((a, Window { x, y, w, h }))
+}
+
+/// A layer, a window and a number from `low` to `high`.
+pub fn name_window_number(words: &[&[u8]], low: u32, high: u32) -> Result<(Name, Window, u32), Code>
+    ensures is { Reads (λ v. Called v.0 ∷ Number v.1.x ∷ Number v.1.y ∷ Number v.1.w ∷ Number v.1.h ∷ Number v.2 ∷ []) result
+        (counted (A_name ∷ coordinate ∷ coordinate ∷ extent ∷ extent ∷ A_number low high ∷ []) (map (λ w. w.now) words.now)) }
+    ensures within { IfOk result (λ v. IsWithin low high v.2) }
+{
+    let [a, x, y, w, h, n] = words else {
+        return Err(Code::Count);
+    };
+    let a = parse_name(a)?;
+    let x = parse_coordinate(x)?;
+    let y = parse_coordinate(y)?;
+    let w = parse_extent(w)?;
+    let h = parse_extent(h)?;
+    let n = parse_number(low, high, n)?;
+    Ok((a, Window { x, y, w, h }, n))
+}
+
+/// A layer, a window and a layer.
+pub fn name_window_name(words: &[&[u8]]) -> Result<(Name, Window, Name), Code>
+    ensures { Reads (λ v. Called v.0 ∷ Number v.1.x ∷ Number v.1.y ∷ Number v.1.w ∷ Number v.1.h ∷ Called v.2 ∷ []) result
+        (counted (A_name ∷ coordinate ∷ coordinate ∷ extent ∷ extent ∷ A_name ∷ []) (map (λ w. w.now) words.now)) }
+{
+    let [a, x, y, w, h, c] = words else {
+        return Err(Code::Count);
+    };
+    let a = parse_name(a)?;
+    let x = parse_coordinate(x)?;
+    let y = parse_coordinate(y)?;
+    let w = parse_extent(w)?;
+    let h = parse_extent(h)?;
+    let c = parse_name(c)?;
+    Ok((a, Window { x, y, w, h }, c))
+}
+
+/// A layer, how far to the right and down, and a layer.
+pub fn name_shift_name(words: &[&[u8]]) -> Result<(Name, i32, i32, Name), Code>
+    ensures { Reads (λ v. Called v.0 ∷ Signed v.1 ∷ Signed v.2 ∷ Called v.3 ∷ []) result
+        (counted (A_name ∷ A_signed ∷ A_signed ∷ A_name ∷ []) (map (λ w. w.now) words.now)) }
+{
+    let [a, x, y, c] = words else {
+        return Err(Code::Count);
+    };
+    let a = parse_name(a)?;
+    let x = parse_signed(x)?;
+    let y = parse_signed(y)?;
+    let c = parse_name(c)?;
+    Ok((a, x, y, c))
+}
+
+/// A layer, a radius and a layer.
+pub fn name_radius_name(words: &[&[u8]]) -> Result<(Name, u16, Name), Code>
+    ensures { Reads (λ v. Called v.0 ∷ Number v.1 ∷ Called v.2 ∷ []) result (counted (A_name ∷ coordinate ∷ A_name ∷ []) (map (λ w. w.now) words.now)) }
+{
+    let [a, r, c] = words else {
+        return Err(Code::Count);
+    };
+    let a = parse_name(a)?;
+    let r = parse_coordinate(r)?;
+    let c = parse_name(c)?;
+    Ok((a, r, c))
+}
+
+/// A layer, a number from `low` to `high`, and a number of rings.
+pub fn name_number_rings(words: &[&[u8]], low: u32, high: u32) -> Result<(Name, u32, u32), Code>
+    ensures is { Reads (λ v. Called v.0 ∷ Number v.1 ∷ Number v.2 ∷ []) result
+        (counted (A_name ∷ A_number low high ∷ A_number 1 1000 ∷ []) (map (λ w. w.now) words.now)) }
+    ensures within { IfOk result (λ v. IsWithin low high v.1) }
+{
+    let [a, n, k] = words else {
+        return Err(Code::Count);
+    };
+    let a = parse_name(a)?;
+    let n = parse_number(low, high, n)?;
+    let k = parse_number(1, 1000, k)?;
+    Ok((a, n, k))
+}
+
+/// A layer, an id and the ends of a segment.
+pub fn name_id_segment(words: &[&[u8]]) -> Result<(Name, u32, Seg), Code>
+    ensures { Reads (λ v. Called v.0 ∷ Number v.1 ∷ Number v.2.x1 ∷ Number v.2.y1 ∷ Number v.2.x2 ∷ Number v.2.y2 ∷ []) result
+        (counted (A_name ∷ label ∷ coordinate ∷ coordinate ∷ coordinate ∷ coordinate ∷ []) (map (λ w. w.now) words.now)) }
+{
+    let [a, id, x1, y1, x2, y2] = words else {
+        return Err(Code::Count);
+    };
+    let a = parse_name(a)?;
+    let id = parse_number(0, u32::MAX, id)?;
+    let x1 = parse_coordinate(x1)?;
+    let y1 = parse_coordinate(y1)?;
+    let x2 = parse_coordinate(x2)?;
+    let y2 = parse_coordinate(y2)?;
+    Ok((a, id, Seg { x1, y1, x2, y2 }))
+}
