@@ -10,5 +10,6 @@ pub mod Parts
 pub mod PastQuota
 pub mod Placing
 pub mod Prefixes
+pub mod Serves
 pub mod TextLaws
 pub mod WholeItems

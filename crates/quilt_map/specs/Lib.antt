@@ -16,6 +16,7 @@ pub mod PointLayers
 pub mod Reading
 pub mod Renewing
 pub mod Selecting
+pub mod Serving
 pub mod Sessions
 pub mod Settled
 pub mod Steps

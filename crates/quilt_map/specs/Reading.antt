@@ -1,5 +1,5 @@
 -- How many pages the answer to a command may cost.
-use Rattle.std.specs.Prelude.{ℕ, ◌+◌, ◌≤◌, ◌==◌, Bool, true, false, List, Option, None, Result, Ok, Err, if◌then◌else◌}
+use Rattle.std.specs.Prelude.{ℕ, ◌+◌, ◌≤◌, ◌==◌, List, Option, None, Result, Ok, Err, if◌then◌else◌}
 use Rattle.quilt_types.specs.declared.plane.Pixel.{Pixel}
 use Rattle.quilt_types.specs.declared.stop.Stop.{Stop}
 use Rattle.quilt_words.specs.declared.command.Command.{Command}
@@ -11,20 +11,6 @@ use Rattle.quilt_replies.specs.declared.reply.Reply.{Reply}
 use Rattle.quilt_map.specs.Asking.{warm_after}
 use Rattle.quilt_map.specs.Costs.{within_pages, show_pages, cut_pages, block_pages_in}
 use Rattle.quilt_map.specs.Selecting.{HasFound, IsAnswered, pages_for}
-
--- the commands that have a bound on the pages that they read
-abbrev pub is_bounded : Command → Bool
-is_bounded (commands.At a p) = true
-is_bounded (commands.Find p at) = true
-is_bounded (commands.Show a w) = true
-is_bounded (commands.Within p w) = true
-is_bounded (commands.Window a w c) = true
-is_bounded (commands.Blocks a) = true
-is_bounded (commands.Cross l w) = true
-is_bounded (commands.Clip l w) = true
-is_bounded (commands.Nearest l at) = true
-is_bounded (commands.Rank l at k) = true
-is_bounded command = false
 
 -- it is answered, and not refused
 abbrev pub IsAnsweredOk : Result Reply Stop → Type 0
@@ -77,8 +63,3 @@ ReadsFew s command = Goes (λ before now. now ≤ before + pages_most s command)
 abbrev pub warm_left : Command → Result Reply Stop → Option (List ℕ × Pixel)
 warm_left (commands.At a p) r = warm_after r a p
 warm_left command r = None
-
--- it asks for the colour of a pixel
-abbrev pub is_at : Command → Bool
-is_at (commands.At a p) = true
-is_at command = false

@@ -7,11 +7,12 @@ ghost use Rattle.quilt_store.specs.Stops.{HasStopCause, IsSound};
 ghost use Rattle.quilt_edition.specs.Books as books;
 ghost use Rattle.quilt_region.specs.Covers.{IsSideOver};
 ghost use Rattle.quilt_replies.specs.Answers.{State, layer as layer_of, grid_in};
-ghost use Rattle.quilt_map.specs.Asking.{HasText, KeepsAll, warm_after, reads_in, ReadsNothing};
+ghost use Rattle.quilt_map.specs.Asking.{HasText, KeepsAll, warm_after, reads_in};
 ghost use Rattle.quilt_map.specs.Commanding.{Answered};
 ghost use Rattle.quilt_map.specs.Costs.{show_pages};
 ghost use Rattle.quilt_map.specs.Selecting.{IsAnswered};
-ghost use Rattle.quilt_map.specs.Sessions.{IsAtState, IsWarm};
+ghost use Rattle.quilt_map.specs.Serving.{IsHeldIn, ReadsNoneAgain};
+ghost use Rattle.quilt_map.specs.Sessions.{IsAtState};
 
 use crate::regions::{read_colour, read_part, read_region, region_number};
 use crate::session::Session;
@@ -88,12 +89,10 @@ impl<W: World> Session<W> {
         ensures sound { IfErr result (λ stop. (s : State) → IsAtState self.old s → IsSound stop) }
         ensures cause { HasStopCause (W.faults (books.world_of self.old.book)) (W.faults (books.world_of self.new.book)) result }
         ensures keeps { KeepsAll self.old self.new }
-        ensures warm { self.new.warm ≡ warm_after result name.now at }
-        ensures held { IsWarm self.new }
+        ensures held { IsHeldIn (warm_after result name.now at) self.new }
         ensures reads { Goes (λ old new. new ≤ old + 6) (reads_in self.old.book) (reads_in self.new.book) }
-        ensures again { (s : State) → IsAtState self.old s → IsWarm self.old → self.old.warm ≡ Some (name.now, at) → ReadsNothing self.old.book self.new.book }
+        ensures again { ReadsNoneAgain (commands.At name.now at) self.old self.new }
     {
-        self.warm = None;
         match region_number(self.catalog.entries(), name) {
             Err(code) => Ok(Reply::No(code)),
             Ok(number) => {
@@ -104,10 +103,7 @@ impl<W: World> Session<W> {
                     Err(stop) => Err(stop),
                     Ok(colour) => match number_text(self.alloc, u64::from(colour.0)) {
                         Err(_) => Err(Stop::Memory),
-                        Ok(text) => {
-                            self.warm = Some((name.copy(), at));
-                            Ok(Reply::Ok(text))
-                        }
+                        Ok(text) => Ok(Reply::Ok(text)),
                     },
                 }
             }
@@ -120,7 +116,6 @@ impl<W: World> Session<W> {
         ensures sound { IfErr result (λ stop. (s : State) → IsAtState self.old s → IsSound stop) }
         ensures cause { HasStopCause (W.faults (books.world_of self.old.book)) (W.faults (books.world_of self.new.book)) result }
         ensures keeps { KeepsAll self.old self.new }
-        ensures warm { self.new.warm ≡ self.old.warm }
         ensures reads { IfOk result (λ reply. (s : State) → IsAtState self.old s → IsAnswered reply → (side : ℕ) → IsSideOver w side →
             Goes (λ old new. new ≤ old + show_pages s.last.level (grid_in (layer_of s name.now)) side w) (reads_in self.old.book) (reads_in self.new.book)) }
     {
@@ -145,7 +140,6 @@ impl<W: World> Session<W> {
         ensures sound { IfErr result (λ stop. (s : State) → IsAtState self.old s → IsSound stop) }
         ensures cause { HasStopCause (W.faults (books.world_of self.old.book)) (W.faults (books.world_of self.new.book)) result }
         ensures keeps { KeepsAll self.old self.new }
-        ensures warm { self.new.warm ≡ self.old.warm }
     {
         match region_number(self.catalog.entries(), name) {
             Err(code) => Ok(Reply::No(code)),

@@ -48,7 +48,6 @@ impl<W: World> Session<W> {
         ensures sound { IfErr result (λ stop. (s : State) → IsAtState self.old s → IsSound stop) }
         ensures cause { HasStopCause (W.faults (books.world_of self.old.book)) (W.faults (books.world_of self.new.book)) result }
         ensures keeps { KeepsAll self.old self.new }
-        ensures warm { self.new.warm ≡ self.old.warm }
         ensures reads { IfOk result (λ reply. (s : State) → IsAtState self.old s → IsAnswered reply →
             Goes (λ old new. new ≤ old + block_pages_in s.last.level (layer_of s name.now)) (reads_in self.old.book) (reads_in self.new.book)) }
     {

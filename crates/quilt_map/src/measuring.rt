@@ -36,7 +36,6 @@ impl<W: World> Session<W> {
         ensures sound { IfErr result (λ stop. (s : State) → IsAtState self.old s → IsSound stop) }
         ensures cause { HasStopCause (W.faults (books.world_of self.old.book)) (W.faults (books.world_of self.new.book)) result }
         ensures keeps { KeepsAll self.old self.new }
-        ensures warm { self.new.warm ≡ self.old.warm }
     {
         match region_number(self.catalog.entries(), name) {
             Err(code) => Ok(Reply::No(code)),

@@ -115,7 +115,6 @@ impl<W: World> Session<W> {
         ensures sound { IfErr result (λ e. (s : State) → IsAtState self.old s → IsSound e) }
         ensures cause { HasStopCause (W.faults (books.world_of self.old.book)) (W.faults (books.world_of self.new.book)) result }
         ensures keeps { KeepsAll self.old self.new }
-        ensures warm { self.new.warm ≡ self.old.warm }
         ensures reads { (s : State) → IsAtState self.old s →
             Goes (λ old new. new ≤ old + (if capacity_in (layer_of s name.now) == 1 then 6 else 9)) (reads_in self.old.book) (reads_in self.new.book) }
     {
@@ -140,7 +139,6 @@ impl<W: World> Session<W> {
         ensures sound { IfErr result (λ e. (s : State) → IsAtState self.old s → IsSound e) }
         ensures cause { HasStopCause (W.faults (books.world_of self.old.book)) (W.faults (books.world_of self.new.book)) result }
         ensures keeps { KeepsAll self.old self.new }
-        ensures warm { self.new.warm ≡ self.old.warm }
         ensures reads { IfOk result (λ reply. (s : State) → IsAtState self.old s → IsAnswered reply →
             Goes (λ old new. new ≤ old + within_pages s.last.level (capacity_in (layer_of s name.now)) (points_in (layer_of s name.now)) w)
             (reads_in self.old.book) (reads_in self.new.book)) }

@@ -110,7 +110,6 @@ impl<W: World> Session<W> {
         ensures sound { IfErr result (λ e. (s : State) → IsAtState self.old s → IsSound e) }
         ensures cause { HasStopCause (W.faults (books.world_of self.old.book)) (W.faults (books.world_of self.new.book)) result }
         ensures keeps { KeepsAll self.old self.new }
-        ensures warm { self.new.warm ≡ self.old.warm }
         ensures reads { IfOk result (λ reply. (s : State) → IsAtState self.old s → HasFound command.now (segs_in (layer_of s name.now)) → IsAnswered reply →
             Goes (λ old new. new ≤ old + pages_for s.last.level command.now (segs_in (layer_of s name.now)) (cover_in (layer_of s name.now)))
             (reads_in self.old.book) (reads_in self.new.book)) }
@@ -132,7 +131,6 @@ impl<W: World> Session<W> {
         ensures sound { IfErr result (λ e. (s : State) → IsAtState self.old s → IsSound e) }
         ensures cause { HasStopCause (W.faults (books.world_of self.old.book)) (W.faults (books.world_of self.new.book)) result }
         ensures keeps { KeepsAll self.old self.new }
-        ensures warm { self.new.warm ≡ self.old.warm }
     {
         match lines_and_region(self.catalog.entries(), l, a) {
             Err(code) => Ok(Reply::No(code)),
@@ -155,7 +153,6 @@ impl<W: World> Session<W> {
         ensures sound { IfErr result (λ e. (s : State) → IsAtState self.old s → IsSound e) }
         ensures cause { HasStopCause (W.faults (books.world_of self.old.book)) (W.faults (books.world_of self.new.book)) result }
         ensures keeps { KeepsAll self.old self.new }
-        ensures warm { self.new.warm ≡ self.old.warm }
     {
         match both_lines(self.catalog.entries(), l, m) {
             Err(code) => Ok(Reply::No(code)),

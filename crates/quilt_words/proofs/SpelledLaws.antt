@@ -1,6 +1,6 @@
 -- What a command that an item spells has fits the format and the level.
 use Rattle.std.proofs.Common.{◌≡◌, inl, inr, ℕ, zero, suc, ◌+◌, ◌-◌, ◌*◌, ◌/◌, ◌<◌, ◌≤◌, ◌^◌, arith, Bool, true, false, cond, List, [], ◌∷◌, ◌++◌, length, All}
-use Rattle.std.proofs.Common.{Option, Some, None, Result, Ok, Err, refl, sym, ◌∙◌, ap, subst, ◌==◌, option_map, find, ℤ, pos, neg_ℤ, codes, IfOk}
+use Rattle.std.proofs.Common.{Option, Some, None, Result, Ok, Err, refl, sym, ◌∙◌, ap, subst, ◌==◌, option_map, find, ℤ, pos, neg_ℤ, codes, IfOk, IfSome}
 use Rattle.std.specs.List.{list_all}
 use Rattle.std.specs.Str.{bytes_eq}
 use Rattle.std.proofs.lemmas.Bool.{eqb-true}
@@ -11,17 +11,15 @@ use Rattle.quilt_types.specs.Layers.{colours, is_name}
 use Rattle.quilt_types.specs.declared.code.Code.{Code}
 use Rattle.quilt_types.specs.declared.code.Code.TheVariants as codes_of
 use Rattle.quilt_words.specs.declared.command.Command.{Command}
+use Rattle.quilt_words.specs.declared.command.Command.TheVariants as commands
 use Rattle.quilt_words.specs.declared.item.Item.{Item}
 use Rattle.quilt_words.specs.declared.item.Item.TheVariants.{Long, Line, Rows, PointLines, RingLines}
 use Rattle.quilt_words.specs.Fitting.{IsFitting, FurtherFits, IsName, IsWithin, IsShift, IsColour, IsPixelOf16, IsWindowOf16}
 use Rattle.quilt_words.specs.Forms.{Further, Argument, A_name, A_number, A_signed, Value, Called, Number, Signed, coordinate, colour, label, pixel, window}
-use Rattle.quilt_words.specs.Forms.{pairs_of, or_err, ◌>>=◌, Entry, table, argument_value, values_of, form_of_words, form_of_line, form, Spelled, area_command, at_command}
-use Rattle.quilt_words.specs.Forms.{blocks_command, buffer_command, clip_command, copy_command, cross_command, crossings_command, del_command, diff_command}
-use Rattle.quilt_words.specs.Forms.{drop_command, edition_command, find_command, inter_command, layers_command, leaves_command, line_command, lines_command}
-use Rattle.quilt_words.specs.Forms.{nearest_command, over_command, perimeter_command, points_command, polygon_command, publish_command, put_command}
-use Rattle.quilt_words.specs.Forms.{rank_command, raster_command, recolour_command, records_command, rect_command, region_command, revert_command}
-use Rattle.quilt_words.specs.Forms.{scatter_command, set_command, shift_command, show_command, union_command, unline_command, upgrade_command, window_command}
-use Rattle.quilt_words.specs.Forms.{within_command}
+use Rattle.quilt_words.specs.Forms.{pairs_of, or_err, ◌>>=◌, Entry, table, argument_value, values_of, form_of_words, form_of_line, form, Spelled, at_command}
+use Rattle.quilt_words.specs.Forms.{buffer_command, copy_command, drop_command, layers_command, line_command, lines_command, points_command, polygon_command}
+use Rattle.quilt_words.specs.Forms.{put_command, rank_command, raster_command, recolour_command, rect_command, region_command, scatter_command, set_command}
+use Rattle.quilt_words.specs.Forms.{shift_command, show_command, union_command, unline_command, window_command}
 use Rattle.quilt_words.specs.Items.{Group, held, is_plain, words_of}
 use Rattle.quilt_words.specs.Parsing.{Answers}
 use Rattle.quilt_words.specs.declared.parse_err.ParseErr.{ParseErr}
@@ -46,9 +44,23 @@ AllFit [] (v ∷ vs) = ⊥
 AllFit (a ∷ rest) [] = ⊥
 AllFit (a ∷ rest) (v ∷ vs) = Fits a v × AllFit rest vs
 
--- as many values as arguments, each one that its argument may be
-record AreValues (arguments : List Argument) (vs : List Value) : Type 0 where
-  pub each : AllFit arguments vs
+-- for all values that the arguments may be
+abbrev Each : List Argument → (List Value → Type 0) → Type 0
+Each [] P = P []
+Each (A_name ∷ rest) P = (a : List ℕ) → IsName a → Each rest (λ vs. P (Called a ∷ vs))
+Each (A_number low high ∷ rest) P = (k : ℕ) → IsWithin low high k → Each rest (λ vs. P (Number k ∷ vs))
+Each (A_signed ∷ rest) P = (z : ℤ) → IsShift z → Each rest (λ vs. P (Signed z ∷ vs))
+
+of_each : (arguments : List Argument) (P : List Value → Type 0) → Each arguments P → (vs : List Value) → AllFit arguments vs → P vs
+of_each [] P all [] fit = all
+of_each [] P all (v ∷ vs) fit = absurd fit
+of_each (a ∷ rest) P all [] fit = absurd fit
+of_each (A_name ∷ rest) P all (Called a ∷ vs) fit = of_each rest (λ us. P (Called a ∷ us)) (all a fit.0) vs fit.1
+of_each (A_name ∷ rest) P all (v ∷ vs) fit = absurd fit.0
+of_each (A_number low high ∷ rest) P all (Number k ∷ vs) fit = of_each rest (λ us. P (Number k ∷ us)) (all k fit.0) vs fit.1
+of_each (A_number low high ∷ rest) P all (v ∷ vs) fit = absurd fit.0
+of_each (A_signed ∷ rest) P all (Signed z ∷ vs) fit = of_each rest (λ us. P (Signed z ∷ us)) (all z fit.0) vs fit.1
+of_each (A_signed ∷ rest) P all (v ∷ vs) fit = absurd fit.0
 
 bound : {A B : Type 0} (r : Result A Code) (f : A → Result B Code) (y : B) → (r >>= f) ≡ Ok y → (x : A) × (r ≡ Ok x) × (f x ≡ Ok y)
 bound (Ok x) f y is = (x, refl, is)
@@ -165,12 +177,15 @@ no_words f more = refl
 record FitsWith (f n : ℕ) (more : Further) (c : Command) : Type 0 where
   pub fits : FurtherFits f n more → IsFitting f n c
 
-module _ (f n : ℕ) where
-  abbrev Row : List Argument → (Further → List Value → Option Command) → Type 0
-  Row arguments command = (more : Further) (vs : List Value) (c : Command) → AreValues arguments vs → command more vs ≡ Some c → FitsWith f n more c
+-- two rows of a table, or one and those behind it
+infixr 20 ◌&◌
+◌&◌ : {A B : Type 0} → A → B → A × B
+◌&◌ x y = (x, y)
 
-  made_by : (more : Further) (d c : Command) → Some d ≡ Some c → (FurtherFits f n more → IsFitting f n d) → FitsWith f n more c
-  made_by more d c is fits = let same : d ≡ c = cc in subst (FitsWith f n more) same (record { fits = fits })
+module _ (f n : ℕ) where
+  -- a row makes what fits of all that its arguments may be
+  abbrev Row : List Argument → (Further → List Value → Option Command) → Type 0
+  Row arguments command = (more : Further) → FurtherFits f n more → Each arguments (λ vs. IfSome (command more vs) (IsFitting f n))
 
   by_row : (arguments : List Argument) (command : Further → List Value → Option Command) (more : Further) (ws : List (List ℕ)) (c : Command)
       → Row arguments command → made arguments command more ws ≡ Ok c → FitsWith f n more c
@@ -178,196 +193,101 @@ module _ (f n : ℕ) where
     | inl same ↦
         let all : (values_of arguments ws >>= λ vs. or_err codes_of.Word (command more vs)) ≡ Ok c = rw same at is in
         let first = bound (values_of arguments ws) _ c all in
-        row more first.0 c (record { each = values_fit arguments ws first.0 (eqb-true (length arguments) (length ws) same) first.1 })
-        (or_some codes_of.Word _ c first.2)
+        let fit = values_fit arguments ws first.0 (eqb-true (length arguments) (length ws) same) first.1 in
+        record {
+          fits = λ further.
+              subst (λ (o : Option Command). IfSome o (IsFitting f n)) (or_some codes_of.Word _ c first.2)
+              (of_each arguments (λ vs. IfSome (command more vs) (IsFitting f n)) (row more further) first.0 fit);
+        }
     | inr other ↦ let none : Err codes_of.Count ≡ Ok c = rw other at is in absurd (cc)
   ]
 
-  region_fits : Row (A_name ∷ colour f ∷ []) region_command
-  region_fits more (Called a ∷ Number k ∷ []) c fit is = made_by more _ c is (λ further. (fit.each.0, few_colours f k fit.each.1.0))
-  region_fits more vs c fit is = cc
+  -- ---- by what the arguments are
 
-  lines_fits : Row (A_name ∷ A_number 1 32 ∷ []) lines_command
-  lines_fits more (Called l ∷ Number t ∷ []) c fit is = made_by more _ c is (λ further. (fit.each.0, fit.each.1.0))
-  lines_fits more vs c fit is = cc
+  none_fits : Row [] layers_command
+  none_fits more further = tt
 
-  drop_fits : Row (A_name ∷ []) drop_command
-  drop_fits more (Called a ∷ []) c fit is = made_by more _ c is (λ further. fit.each.0)
-  drop_fits more vs c fit is = cc
+  name_fits_one : Row (A_name ∷ []) drop_command
+  name_fits_one more further a named = named
 
-  copy_fits : Row (A_name ∷ A_name ∷ []) copy_command
-  copy_fits more (Called a ∷ Called b ∷ []) c fit is = made_by more _ c is (λ further. (fit.each.0, fit.each.1.0))
-  copy_fits more vs c fit is = cc
+  two_fit : Row (A_name ∷ A_name ∷ []) copy_command
+  two_fit more further a named b also_ = (named, also_)
 
-  layers_fits : Row [] layers_command
-  layers_fits more [] c fit is = made_by more _ c is (λ further. tt)
-  layers_fits more (v ∷ vs) c fit is = cc
+  three_fit : Row (A_name ∷ A_name ∷ A_name ∷ []) union_command
+  three_fit more further a named b also_ c last = (named, also_, last)
 
-  blocks_fits : Row (A_name ∷ []) blocks_command
-  blocks_fits more (Called a ∷ []) c fit is = made_by more _ c is (λ further. fit.each.0)
-  blocks_fits more vs c fit is = cc
+  colour_fits : Row (A_name ∷ colour f ∷ []) region_command
+  colour_fits more further a named k within = (named, few_colours f k within)
 
-  records_fits : Row [] records_command
-  records_fits more [] c fit is = made_by more _ c is (λ further. tt)
-  records_fits more (v ∷ vs) c fit is = cc
-
-  edition_fits : Row [] edition_command
-  edition_fits more [] c fit is = made_by more _ c is (λ further. tt)
-  edition_fits more (v ∷ vs) c fit is = cc
-
-  publish_fits : Row [] publish_command
-  publish_fits more [] c fit is = made_by more _ c is (λ further. tt)
-  publish_fits more (v ∷ vs) c fit is = cc
-
-  upgrade_fits : Row [] upgrade_command
-  upgrade_fits more [] c fit is = made_by more _ c is (λ further. tt)
-  upgrade_fits more (v ∷ vs) c fit is = cc
-
-  revert_fits : Row [] revert_command
-  revert_fits more [] c fit is = made_by more _ c is (λ further. tt)
-  revert_fits more (v ∷ vs) c fit is = cc
+  threshold_fits : Row (A_name ∷ A_number 1 32 ∷ []) lines_command
+  threshold_fits more further a named t within = (named, within)
 
   set_fits : Row (A_name ∷ pixel ++ colour f ∷ []) set_command
-  set_fits more (Called a ∷ Number x ∷ Number y ∷ Number k ∷ []) c fit is =
-      made_by more _ c is (λ further. (fit.each.0, pixel_within fit.each.1.0 fit.each.1.1.0, few_colours f k fit.each.1.1.1.0))
-  set_fits more vs c fit is = cc
+  set_fits more further a named x first y second k within = (named, pixel_within first second, few_colours f k within)
 
   rect_fits : Row (A_name ∷ window ++ colour f ∷ []) rect_command
-  rect_fits more (Called a ∷ Number x ∷ Number y ∷ Number w ∷ Number h ∷ Number k ∷ []) c fit is =
-      made_by more _ c is (λ further.
-      (fit.each.0, window_within fit.each.1.0 fit.each.1.1.0 fit.each.1.1.1.0 fit.each.1.1.1.1.0, few_colours f k fit.each.1.1.1.1.1.0))
-  rect_fits more vs c fit is = cc
+  rect_fits more further a named x first y second w third h fourth k within = (named, window_within first second third fourth, few_colours f k within)
 
   raster_fits : Row (A_name ∷ []) raster_command
-  raster_fits more (Called a ∷ []) c fit is = made_by more _ c is (λ further. (fit.each.0, further.rows))
-  raster_fits more vs c fit is = cc
+  raster_fits more further a named = (named, further.rows)
 
-  at_fits : Row (A_name ∷ pixel) at_command
-  at_fits more (Called a ∷ Number x ∷ Number y ∷ []) c fit is = made_by more _ c is (λ further. (fit.each.0, pixel_within fit.each.1.0 fit.each.1.1.0))
-  at_fits more vs c fit is = cc
+  pixel_fits : Row (A_name ∷ pixel) at_command
+  pixel_fits more further a named x first y second = (named, pixel_within first second)
 
-  show_fits : Row (A_name ∷ window) show_command
-  show_fits more (Called a ∷ Number x ∷ Number y ∷ Number w ∷ Number h ∷ []) c fit is =
-      made_by more _ c is (λ further. (fit.each.0, window_within fit.each.1.0 fit.each.1.1.0 fit.each.1.1.1.0 fit.each.1.1.1.1.0))
-  show_fits more vs c fit is = cc
+  window_fits : Row (A_name ∷ window) show_command
+  window_fits more further a named x first y second w third h fourth = (named, window_within first second third fourth)
 
-  leaves_fits : Row (A_name ∷ []) leaves_command
-  leaves_fits more (Called a ∷ []) c fit is = made_by more _ c is (λ further. fit.each.0)
-  leaves_fits more vs c fit is = cc
-
-  area_fits : Row (A_name ∷ colour f ∷ []) area_command
-  area_fits more (Called a ∷ Number k ∷ []) c fit is = made_by more _ c is (λ further. (fit.each.0, few_colours f k fit.each.1.0))
-  area_fits more vs c fit is = cc
-
-  perimeter_fits : Row (A_name ∷ colour f ∷ []) perimeter_command
-  perimeter_fits more (Called a ∷ Number k ∷ []) c fit is = made_by more _ c is (λ further. (fit.each.0, few_colours f k fit.each.1.0))
-  perimeter_fits more vs c fit is = cc
-
-  polygon_fits : Row (A_name ∷ colour f ∷ A_number 1 1000 ∷ []) polygon_command
-  polygon_fits more (Called a ∷ Number k ∷ Number j ∷ []) c fit is = made_by more _ c is (λ further. (fit.each.0, few_colours f k fit.each.1.0, further.rings))
-  polygon_fits more vs c fit is = cc
-
-  union_fits : Row (A_name ∷ A_name ∷ A_name ∷ []) union_command
-  union_fits more (Called a ∷ Called b ∷ Called d ∷ []) c fit is = made_by more _ c is (λ further. (fit.each.0, fit.each.1.0, fit.each.1.1.0))
-  union_fits more vs c fit is = cc
-
-  inter_fits : Row (A_name ∷ A_name ∷ A_name ∷ []) inter_command
-  inter_fits more (Called a ∷ Called b ∷ Called d ∷ []) c fit is = made_by more _ c is (λ further. (fit.each.0, fit.each.1.0, fit.each.1.1.0))
-  inter_fits more vs c fit is = cc
-
-  diff_fits : Row (A_name ∷ A_name ∷ A_name ∷ []) diff_command
-  diff_fits more (Called a ∷ Called b ∷ Called d ∷ []) c fit is = made_by more _ c is (λ further. (fit.each.0, fit.each.1.0, fit.each.1.1.0))
-  diff_fits more vs c fit is = cc
-
-  window_fits : Row (A_name ∷ window ++ A_name ∷ []) window_command
-  window_fits more (Called a ∷ Number x ∷ Number y ∷ Number w ∷ Number h ∷ Called d ∷ []) c fit is =
-      made_by more _ c is (λ further. (fit.each.0, window_within fit.each.1.0 fit.each.1.1.0 fit.each.1.1.1.0 fit.each.1.1.1.1.0, fit.each.1.1.1.1.1.0))
-  window_fits more vs c fit is = cc
+  cut_fits : Row (A_name ∷ window ++ A_name ∷ []) window_command
+  cut_fits more further a named x first y second w third h fourth b also_ = (named, window_within first second third fourth, also_)
 
   shift_fits : Row (A_name ∷ A_signed ∷ A_signed ∷ A_name ∷ []) shift_command
-  shift_fits more (Called a ∷ Signed dx ∷ Signed dy ∷ Called d ∷ []) c fit is =
-      made_by more _ c is (λ further. (fit.each.0, fit.each.1.0, fit.each.1.1.0, fit.each.1.1.1.0))
-  shift_fits more vs c fit is = cc
+  shift_fits more further a named dx right dy down b also_ = (named, right, down, also_)
 
   buffer_fits : Row (A_name ∷ coordinate ∷ A_name ∷ []) buffer_command
-  buffer_fits more (Called a ∷ Number r ∷ Called d ∷ []) c fit is = made_by more _ c is (λ further. (fit.each.0, fit.each.1.0.most, fit.each.1.1.0))
-  buffer_fits more vs c fit is = cc
+  buffer_fits more further a named r within b also_ = (named, within.most, also_)
 
   put_fits : Row (A_name ∷ pixel ++ label ∷ []) put_command
-  put_fits more (Called p ∷ Number x ∷ Number y ∷ Number j ∷ []) c fit is =
-      made_by more _ c is (λ further. (fit.each.0, pixel_within fit.each.1.0 fit.each.1.1.0, few_labels j fit.each.1.1.1.0))
-  put_fits more vs c fit is = cc
-
-  del_fits : Row (A_name ∷ pixel) del_command
-  del_fits more (Called p ∷ Number x ∷ Number y ∷ []) c fit is = made_by more _ c is (λ further. (fit.each.0, pixel_within fit.each.1.0 fit.each.1.1.0))
-  del_fits more vs c fit is = cc
+  put_fits more further p named x first y second k within = (named, pixel_within first second, few_labels k within)
 
   scatter_fits : Row (A_name ∷ A_number 1 100000 ∷ []) scatter_command
-  scatter_fits more (Called p ∷ Number k ∷ []) c fit is = made_by more _ c is (λ further. (fit.each.0, further.points))
-  scatter_fits more vs c fit is = cc
-
-  find_fits : Row (A_name ∷ pixel) find_command
-  find_fits more (Called p ∷ Number x ∷ Number y ∷ []) c fit is = made_by more _ c is (λ further. (fit.each.0, pixel_within fit.each.1.0 fit.each.1.1.0))
-  find_fits more vs c fit is = cc
-
-  within_fits : Row (A_name ∷ window) within_command
-  within_fits more (Called p ∷ Number x ∷ Number y ∷ Number w ∷ Number h ∷ []) c fit is =
-      made_by more _ c is (λ further. (fit.each.0, window_within fit.each.1.0 fit.each.1.1.0 fit.each.1.1.1.0 fit.each.1.1.1.1.0))
-  within_fits more vs c fit is = cc
+  scatter_fits more further p named k within = (named, further.points)
 
   line_fits : Row (A_name ∷ label ∷ pixel ++ pixel) line_command
-  line_fits more (Called l ∷ Number i ∷ Number x ∷ Number y ∷ Number u ∷ Number v ∷ []) c fit is =
-      made_by more _ c is (λ further. (
-        fit.each.0,
-        few_labels i
-            fit.each.1.0,
-        record { first = pixel_within fit.each.1.1.0 fit.each.1.1.1.0; second = pixel_within fit.each.1.1.1.1.0 fit.each.1.1.1.1.1.0 },
-      ))
-  line_fits more vs c fit is = cc
+  line_fits more further l named k within x first y second u third v fourth =
+      (named, few_labels k within, record { first = pixel_within first second; second = pixel_within third fourth })
 
   unline_fits : Row (A_name ∷ label ∷ []) unline_command
-  unline_fits more (Called l ∷ Number i ∷ []) c fit is = made_by more _ c is (λ further. (fit.each.0, few_labels i fit.each.1.0))
-  unline_fits more vs c fit is = cc
+  unline_fits more further l named k within = (named, few_labels k within)
 
-  cross_fits : Row (A_name ∷ window) cross_command
-  cross_fits more (Called l ∷ Number x ∷ Number y ∷ Number w ∷ Number h ∷ []) c fit is =
-      made_by more _ c is (λ further. (fit.each.0, window_within fit.each.1.0 fit.each.1.1.0 fit.each.1.1.1.0 fit.each.1.1.1.1.0))
-  cross_fits more vs c fit is = cc
-
-  clip_fits : Row (A_name ∷ window) clip_command
-  clip_fits more (Called l ∷ Number x ∷ Number y ∷ Number w ∷ Number h ∷ []) c fit is =
-      made_by more _ c is (λ further. (fit.each.0, window_within fit.each.1.0 fit.each.1.1.0 fit.each.1.1.1.0 fit.each.1.1.1.1.0))
-  clip_fits more vs c fit is = cc
-
-  nearest_fits : Row (A_name ∷ pixel) nearest_command
-  nearest_fits more (Called l ∷ Number x ∷ Number y ∷ []) c fit is = made_by more _ c is (λ further. (fit.each.0, pixel_within fit.each.1.0 fit.each.1.1.0))
-  nearest_fits more vs c fit is = cc
-
-  over_fits : Row (A_name ∷ A_name ∷ []) over_command
-  over_fits more (Called l ∷ Called a ∷ []) c fit is = made_by more _ c is (λ further. (fit.each.0, fit.each.1.0))
-  over_fits more vs c fit is = cc
+  polygon_fits : Row (A_name ∷ colour f ∷ A_number 1 1000 ∷ []) polygon_command
+  polygon_fits more further c named k within m rings = (named, few_colours f k within, further.rings)
 
   rank_fits : Row (A_name ∷ pixel ++ A_number 1 100000 ∷ []) rank_command
-  rank_fits more (Called l ∷ Number x ∷ Number y ∷ Number k ∷ []) c fit is =
-      made_by more _ c is (λ further. (fit.each.0, pixel_within fit.each.1.0 fit.each.1.1.0, fit.each.1.1.1.0))
-  rank_fits more vs c fit is = cc
-
-  crossings_fits : Row (A_name ∷ A_name ∷ []) crossings_command
-  crossings_fits more (Called l ∷ Called m ∷ []) c fit is = made_by more _ c is (λ further. (fit.each.0, fit.each.1.0))
-  crossings_fits more vs c fit is = cc
+  rank_fits more further l named x first y second k within = (named, pixel_within first second, within)
 
   points_fits : (b : Bool) → Row (A_name ∷ cond b [] (A_number 1 16 ∷ [])) points_command
-  points_fits true more (Called p ∷ []) c fit is = made_by more _ c is (λ further. (fit.each.0, record { least = omega arith; most = omega arith }))
-  points_fits true more (v ∷ u ∷ vs) c fit is = absurd (fit.each.1)
-  points_fits false more (v ∷ []) c fit is = absurd (fit.each.1)
-  points_fits false more (Called p ∷ Number b ∷ []) c fit is = made_by more _ c is (λ further. (fit.each.0, fit.each.1.0))
-  points_fits b more vs c fit is = cc
+  points_fits true = λ more further p named. (named, record { least = omega arith; most = omega arith })
+  points_fits false = λ more further p named k within. (named, within)
 
-  recolour_fits : (m : ℕ) → IsWithin 1 16 m → Row (A_name ∷ A_name ∷ paired f 0 m) recolour_command
+  -- each row of a table
+  abbrev AllRows : List Entry → Type 0
+  AllRows [] = Unit {0}
+  AllRows (e ∷ es) = Row e.arguments e.command × AllRows es
+
+  all_rows : AllRows (table f)
+  all_rows =
+      colour_fits & threshold_fits & name_fits_one & two_fit & none_fits & name_fits_one & none_fits & set_fits & rect_fits & raster_fits & pixel_fits
+      & window_fits & name_fits_one & three_fit & three_fit & three_fit & cut_fits & shift_fits & buffer_fits & colour_fits & colour_fits & put_fits
+      & pixel_fits & scatter_fits & pixel_fits & window_fits & line_fits & unline_fits & window_fits & window_fits & pixel_fits & two_fit & none_fits
+      & none_fits & none_fits & none_fits & polygon_fits & rank_fits & two_fit & tt
+
+  recolour_fits : (m : ℕ) → IsWithin 1 16 m → (more : Further) (vs : List Value) (c : Command) → AllFit (A_name ∷ A_name ∷ paired f 0 m) vs
+      → recolour_command more vs ≡ Some c → FitsWith f n more c
   recolour_fits m within more (Called a ∷ Called d ∷ vs) c fit is =
-      let pairs = pairs_fit f 0 m vs fit.each.1.1 in
+      let pairs = pairs_fit f 0 m vs fit.1.1 in
       let many : IsWithin 1 16 (length (pairs_of vs)) = subst (IsWithin 1 16) (sym pairs.0) within in
-      made_by more _ c is (λ further. (fit.each.0, fit.each.1.0, record { number = many; each = pairs.1 }))
+      let same : commands.Recolour a d (pairs_of vs) ≡ c = cc in
+      subst (FitsWith f n more) same (record { fits = λ further. (fit.0, fit.1.0, record { number = many; each = pairs.1 }) })
   recolour_fits m within more vs c fit is = cc
 
   recolour_made : (more : Further) (ws : List (List ℕ)) (c : Command) → recoloured f more ws ≡ Ok c → FitsWith f n more c
@@ -378,125 +298,9 @@ module _ (f n : ℕ) where
         let first = bound (values_of (A_name ∷ A_name ∷ paired f 0 m) ws) _ c all in
         let size : length (A_name ∷ A_name ∷ paired f 0 m) ≡ length ws = omega (arith, paired_length f 0 m, pair_number (length ws) some) in
         recolour_fits m (number_of_pairs (length ws) some) more first.0 c
-        (record { each = values_fit (A_name ∷ A_name ∷ paired f 0 m) ws first.0 size first.1 }) (or_some codes_of.Word _ c first.2)
+        (values_fit (A_name ∷ A_name ∷ paired f 0 m) ws first.0 size first.1) (or_some codes_of.Word _ c first.2)
     | inr not_ ↦ let none : Err codes_of.Count ≡ Ok c = rw not_ at is in absurd (cc)
   ]
-
-  -- each row of a table
-  abbrev AllRows : List Entry → Type 0
-  AllRows [] = Unit {0}
-  AllRows (e ∷ es) = Row e.arguments e.command × AllRows es
-
-  all_rows : AllRows (table f)
-  all_rows = (
-    region_fits,
-    (
-      lines_fits,
-      (
-        drop_fits,
-        (
-          copy_fits,
-          (
-            layers_fits,
-            (
-              blocks_fits,
-              (
-                records_fits,
-                (
-                  set_fits,
-                  (
-                    rect_fits,
-                    (
-                      raster_fits,
-                      (
-                        at_fits,
-                        (
-                          show_fits,
-                          (
-                            leaves_fits,
-                            (
-                              union_fits,
-                              (
-                                inter_fits,
-                                (
-                                  diff_fits,
-                                  (
-                                    window_fits,
-                                    (
-                                      shift_fits,
-                                      (
-                                        buffer_fits,
-                                        (
-                                          area_fits,
-                                          (
-                                            perimeter_fits,
-                                            (
-                                              put_fits,
-                                              (
-                                                del_fits,
-                                                (
-                                                  scatter_fits,
-                                                  (
-                                                    find_fits,
-                                                    (
-                                                      within_fits,
-                                                      (
-                                                        line_fits,
-                                                        (
-                                                          unline_fits,
-                                                          (
-                                                            cross_fits,
-                                                            (
-                                                              clip_fits,
-                                                              (
-                                                                nearest_fits,
-                                                                (
-                                                                  over_fits,
-                                                                  (
-                                                                    edition_fits,
-                                                                    (
-                                                                      publish_fits,
-                                                                      (
-                                                                        upgrade_fits,
-                                                                        (
-                                                                          revert_fits,
-                                                                          (polygon_fits, (rank_fits, (crossings_fits, tt))),
-                                                                        ),
-                                                                      ),
-                                                                    ),
-                                                                  ),
-                                                                ),
-                                                              ),
-                                                            ),
-                                                          ),
-                                                        ),
-                                                      ),
-                                                    ),
-                                                  ),
-                                                ),
-                                              ),
-                                            ),
-                                          ),
-                                        ),
-                                      ),
-                                    ),
-                                  ),
-                                ),
-                              ),
-                            ),
-                          ),
-                        ),
-                      ),
-                    ),
-                  ),
-                ),
-              ),
-            ),
-          ),
-        ),
-      ),
-    ),
-  )
 
   by_found : (p : Entry → Bool) (es : List Entry) (more : Further) (ws : List (List ℕ)) (c : Command) → AllRows es →
       row_formed (find p es) more ws ≡ Ok c → FitsWith f n more c
@@ -512,7 +316,7 @@ module _ (f n : ℕ) where
   formed_good more bs ws c is = elim (bool_cases (bytes_eq bs (codes "recolour"))) [
     | inl same ↦ recolour_made more ws c (rw same at is)
     | inr other ↦ elim (bool_cases (bytes_eq bs (codes "points"))) [
-      | inl same ↦ by_row _ _ more ws c (points_fits (length ws == 1)) (rw (other, same) at is)
+      | inl same ↦ by_row (A_name ∷ cond (length ws == 1) [] (A_number 1 16 ∷ [])) points_command more ws c (points_fits (length ws == 1)) (rw (other, same) at is)
       | inr not_ ↦ by_found (λ e. bytes_eq e.word bs) (table f) more ws c all_rows (rw (other, not_) at is)
     ]
   ]

@@ -74,18 +74,6 @@ device_of : {T : Type 0} (before now : ℕ) (r : Result T Stop) → HasStopCause
 device_of before now (Ok x) h = tt
 device_of before now (Err e) h = λ is. h.device (ap Err is)
 
-pub quiet_revert : (c : Command) → c ≡ commands.Revert → gives_edition c ≡ false
-quiet_revert c is = ap gives_edition is
-
-pub quiet_else : (c : Command) → (c ≡ commands.Publish → ⊥) → (c ≡ commands.Upgrade → ⊥) → gives_edition c ≡ false
-quiet_else commands.Publish publish upgrade = absurd (publish refl)
-quiet_else commands.Upgrade publish upgrade = absurd (upgrade refl)
-quiet_else c publish upgrade = refl
-
-pub forward_else : (c : Command) → (c ≡ commands.Revert → ⊥) → goes_back c ≡ false
-forward_else commands.Revert revert = absurd (revert refl)
-forward_else c revert = refl
-
 pub never_both : (b : Bool) → b ≡ false → b ≡ true → ⊥
 never_both b no_ is = let e : false ≡ true = sym no_ ∙ is in cc
 
@@ -94,9 +82,6 @@ gives_else : (c : Command) → gives_edition c ≡ true → (goes_back c ≡ fal
 gives_else commands.Publish gives = (refl, refl)
 gives_else commands.Upgrade gives = (refl, refl)
 gives_else c gives = absurd (never_both (gives_edition c) refl gives)
-
-pub asks_else : (c : Command) → c ≡ commands.Revert → asks c ≡ false
-asks_else c is = ap asks is
 
 -- a command that only asks gives no edition and does not go back
 asks_only : (c : Command) → asks c ≡ true → (gives_edition c ≡ false) × (goes_back c ≡ false)
@@ -113,9 +98,9 @@ module _ {W : Type 0} {D : disk.Ghosts W} where
       let format = old.book.work.format in
       subst (IsFitting format old.book.last.level) is (spelled_fits format old.book.last.level command old.book.next.format.0 old.book.next.format.1 spelled)
 
-  pub fitting_of : (old : Session W D) (command other : Command) (s : State) → Spelled old.book.work.format old.book.last.level command
-      → command ≡ other → IsAtState old s → IsFitting s.last.format s.last.level other
-  fitting_of old command other s spelled is at =
+  pub fitting_of : (old : Session W D) (command other : Command) → Spelled old.book.work.format old.book.last.level command → command ≡ other
+      → (s : State) → IsAtState old s → IsFitting s.last.format s.last.level other
+  fitting_of old command other spelled is s at =
       subst (λ (f : ℕ). IsFitting f s.last.level other) (format_is old s at)
       (subst (λ (n : ℕ). IsFitting old.book.work.format n other) (sym at.last.head.level) (fitting_here old command other spelled is))
 
@@ -339,10 +324,6 @@ module _ {W : Type 0} {D : disk.Ghosts W} (old new : Session W D) (command other
 
 -- a command that only asks: all of the session stays but the last pixel, and the pages that its answer reads are few
 module _ {W : Type 0} {D : disk.Ghosts W} (old new : Session W D) (command other : Command) (is : command ≡ other) (r : Result Reply Stop) where
-  pub answered_as : IfOk r (λ reply. (s : State) → IsAtState old s → Answered s other old new reply)
-      → IfOk r (λ reply. (s : State) → IsAtState old s → Answered s command old new reply)
-  answered_as = if_ok _ _ r (λ reply p s at. subst (λ (x : Command). Answered s x old new reply) (sym is) (p s at))
-
   pub applied_asking : asks other ≡ true → books.IsReady old.book → IsLawful (D.size new.book.world) (D.told new.book.world)
       → IfOk r (λ reply. (s : State) → IsAtState old s → Answered s other old new reply) → IfErr r (λ e. (s : State) → IsAtState old s → IsSound e)
       → HasStopCause (D.faults old.book.world) (D.faults new.book.world) r → KeepsAll old new
@@ -353,41 +334,16 @@ module _ {W : Type 0} {D : disk.Ghosts W} (old new : Session W D) (command other
       applied_going old new command other (sym is) r answers sound cause reads (refused_still old new r keeps) ready
       (goes_of old.book new.book keeps.book.later) only.0 (λ back. absurd (never_both (goes_back command) only.1 back)) (λ is. keeps_state old new law keeps)
 
--- another last pixel leaves what was promised
-module _ {W : Type 0} {D : disk.Ghosts W} (old new : Session W D) where
-  pub applied_forgets : (w : Option (List ℕ × Pixel)) (command : Command) (r : Result Reply Stop) → IsAppliedBy IsAtState command old new r
-      → IsAppliedBy IsAtState command old
-      (record { book = new.book; catalog = new.catalog; last = new.last; changes = new.changes; warm = w; alloc = new.alloc }) r
-  unfolding world_of level_of head_of format_of changes_of reads_of IsReady
-  applied_forgets w command r h = record {
-    answer = if_ok _ _ r (λ reply p s at. let a = p s at in (a.0, warm_at {D = D} new w (after s command) a.1)) h.answer;
-    refused = if_ok _ _ r (λ reply p no_ s at. warm_at {D = D} new w s (p no_ s at)) h.refused;
-    changes = h.changes;
-    level = h.level;
-    later = h.later;
-    device = h.device;
-    damaged = h.damaged;
-    door = h.door;
-    events = h.events;
-    input = h.input;
-    crash = h.crash;
-    writes = h.writes;
-    reads = h.reads;
-    ready = h.ready;
-    kept = h.kept;
-    stays = λ is s at. warm_at {D = D} new w s (h.stays is s at);
-    whole = if_err _ _ r (λ e p is some. let k = p is some in
-        record { book = k.book; catalog = k.catalog; last = k.last; changes = k.changes; at = λ s at. warm_at {D = D} new w s (k.at s at) }) h.whole;
-    quiet = h.quiet;
-    back = h.back;
-  }
-
-  -- and with the pages of the last pixel held, it is what is promised above this crate
-  pub applied_warm : (command : Command) (r : Result Reply Stop) → IsWarm new → IsAppliedBy IsAtState command old new r → IsApplied command old new r
-  unfolding IsAt
+-- behind the pages of another last pixel, which are held, it is what is promised above this crate
+module _ {W : Type 0} {D : disk.Ghosts W} (old new : Session W D) (w : Option (List ℕ × Pixel)) where
+  pub applied_warm : (command : Command) (r : Result Reply Stop)
+      → IsWarm (record { book = new.book; catalog = new.catalog; last = new.last; changes = new.changes; warm = w; alloc = new.alloc })
+      → IsAppliedBy IsAtState command old new r
+      → IsApplied command old (record { book = new.book; catalog = new.catalog; last = new.last; changes = new.changes; warm = w; alloc = new.alloc }) r
+  unfolding IsAt world_of level_of head_of format_of changes_of reads_of IsReady
   applied_warm command r warm h = record {
-    answer = if_ok _ _ r (λ reply p s at. let a = p s at.at in (a.0, record { at = a.1; warm = warm })) h.answer;
-    refused = if_ok _ _ r (λ reply p no_ s at. record { at = p no_ s at.at; warm = warm }) h.refused;
+    answer = if_ok _ _ r (λ reply p s at. let a = p s at.at in (a.0, record { at = warm_at {D = D} new w (after s command) a.1; warm = warm })) h.answer;
+    refused = if_ok _ _ r (λ reply p no_ s at. record { at = warm_at {D = D} new w s (p no_ s at.at); warm = warm }) h.refused;
     changes = if_ok _ _ r (λ reply p s at. p s at.at) h.changes;
     level = h.level;
     later = h.later;
@@ -401,13 +357,13 @@ module _ {W : Type 0} {D : disk.Ghosts W} (old new : Session W D) where
     reads = λ s at. h.reads s at.at;
     ready = h.ready;
     kept = h.kept;
-    stays = λ is s at. record { at = h.stays is s at.at; warm = warm };
+    stays = λ is s at. record { at = warm_at {D = D} new w s (h.stays is s at.at); warm = warm };
     whole = if_err _ _ r (λ e p is some. let k = p is some in record {
       book = k.book;
       catalog = k.catalog;
       last = k.last;
       changes = k.changes;
-      at = λ s at. record { at = k.at s at.at; warm = warm };
+      at = λ s at. record { at = warm_at {D = D} new w s (k.at s at.at); warm = warm };
     }) h.whole;
     quiet = h.quiet;
     back = h.back;

@@ -1,5 +1,5 @@
 -- A region layer of more leaves than there may be records: the quota refuses it, whatever the other layers are.
-use Rattle.std.proofs.Common.{◌≡◌, ℕ, suc, ◌+◌, ◌<◌, ◌≤◌, List, [], ◌∷◌, length, map, sum_by, Some, Contains, refl, sym, ◌∙◌, ap, subst, ⊎_elim, arith, nat_cmp}
+use Rattle.std.proofs.Common.{◌≡◌, ℕ, suc, ◌<◌, ◌≤◌, List, [], ◌∷◌, length, map, sum_by, Some, Contains, refl, sym, ◌∙◌, ap, subst, ⊎_elim, arith, nat_cmp}
 use Rattle.std.specs.Cmp.Lexicographic.{slice_cmp, nat_list_cmp_total}
 use Rattle.std.specs.FinMap as finmap
 use Rattle.std.proofs.lemmas.List.{length-map}
@@ -12,7 +12,6 @@ use Rattle.quilt_types.specs.declared.code.Code.TheVariants as no
 use Rattle.quilt_loc.proofs.Members.{Contains-nil, Contains-cons_cases}
 use Rattle.quilt_world.specs.declared.disk.Disk as disk
 use Rattle.quilt_blocks.specs.Cutting.{leaves_by_code}
-use Rattle.quilt_blocks.specs.Raster.{Raster}
 use Rattle.quilt_measure.proofs.Parts.{same_leaves}
 use Rattle.quilt_spell.proofs.Changes.{got_here}
 use Rattle.quilt_spell.proofs.Maps.{entry_from_get}

@@ -1,10 +1,8 @@
 -- The pages of the pixel that was asked for last stay among the first that are held.
-use Rattle.std.proofs.Common.{◌≡◌, ℕ, ◌≤◌, List, Option, Some, None, sym, ◌∙◌, subst, arith}
+use Rattle.std.proofs.Common.{◌≡◌, ℕ, ◌≤◌, List, Option, Some, None, sym, subst, arith}
 use Rattle.quilt_types.specs.declared.plane.Pixel.{Pixel}
 use Rattle.quilt_types.specs.Layers.{Map}
 use Rattle.quilt_world.specs.Disk.{Pages}
-use Rattle.quilt_words.specs.declared.command.Command.{Command}
-use Rattle.quilt_words.specs.declared.command.Command.TheVariants as commands
 use Rattle.quilt_record.specs.declared.entry.Entry.{Entry}
 use Rattle.quilt_record.specs.declared.record.Record.{Record}
 use Rattle.quilt_record.specs.Records.{Numbering}
@@ -55,12 +53,3 @@ module _ (entries : List Entry) (told : Option Pages) (h : Head) (held : List �
 pub reads_same : (reads : Option ℕ) → Goes (λ before now. now ≤ before) reads reads
 reads_same None = tt
 reads_same (Some n) = omega arith
-
--- a command that asks for the pixel that is kept
-pub is_again : (c : Command) (a name : List ℕ) (q p : Pixel) (warm : Option (List ℕ × Pixel)) → c ≡ commands.At a q → c ≡ commands.At name p
-    → warm ≡ Some (name, p) → warm ≡ Some (a, q)
-is_again c a name q p warm one other kept =
-    let e : commands.At name p ≡ commands.At a q = sym other ∙ one in
-    let names : name ≡ a = cc in
-    let pixels : p ≡ q = cc in
-    kept ∙ (λ i. Some (names i, pixels i))

@@ -1,7 +1,6 @@
 use Rattle.std.proofs.Common.{◌≡◌, ◌≤◌, ℕ, Option, sym, ◌∙◌, subst}
 use Rattle.std.proofs.lemmas.Result.{IfErr-weaker}
 use Rattle.quilt_types.specs.declared.stop.Stop.{Stop}
-use Rattle.quilt_types.specs.declared.plane.Kind.{Kind}
 use Rattle.quilt_types.specs.declared.plane.Kind.TheVariants as kinds
 use Rattle.quilt_types.specs.Layers.{Layer, Region, Points, Lines, Grid, PointMap, SegMap, BlockSet}
 use Rattle.quilt_world.specs.Disk.{Pages}
@@ -12,8 +11,6 @@ use Rattle.quilt_lines.specs.Layers.{HasLines}
 use Rattle.quilt_store.specs.Stops.{IsSound}
 use Rattle.quilt_spell.specs.Catalogued.{kind_of}
 use Rattle.quilt_map.specs.HeldLayers.{HoldsIn, HoldsLayer}
-use Rattle.quilt_map.specs.PointLayers.{HoldsPoints}
-use Rattle.quilt_map.specs.LineLayers.{HoldsLines}
 use Rattle.quilt_map.specs.Sessions.{told_of, tree_in}
 use Rattle.quilt_map.proofs.counting.count_blocks.Goals as goal
 

@@ -1,5 +1,4 @@
-use Rattle.std.proofs.Common.{List, refl, sym, ◌∙◌}
-use Rattle.quilt_record.specs.declared.record.Record.{Record}
+use Rattle.std.proofs.Common.{refl, sym}
 use Rattle.quilt_node.specs.Nodes.{keys_of}
 use Rattle.quilt_btree.specs.Runs.{put_all, without_all}
 use Rattle.quilt_edition.specs.Books.{pages_of, work_of}

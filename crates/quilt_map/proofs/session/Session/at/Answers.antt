@@ -1,6 +1,6 @@
 use Rattle.quilt_types.specs.declared.code.Code.TheVariants as no
 use Rattle.quilt_replies.specs.declared.reply.Reply.TheVariants as reply
-use Rattle.std.proofs.Common.{true, false, List, Option, refl, sym, subst, ◌∙◌, ap, Some, None}
+use Rattle.std.proofs.Common.{true, false, List, Option, refl, sym, subst, ◌∙◌, ap, Some}
 use Rattle.std.specs.Map.{keys_of}
 use Rattle.quilt_types.specs.Layers.{Map}
 use Rattle.quilt_world.specs.Disk.{Pages}
@@ -8,7 +8,6 @@ use Rattle.quilt_record.specs.Records.{Numbering}
 use Rattle.quilt_record.specs.declared.entry.Entry.{Entry}
 use Rattle.quilt_btree.specs.Trees.{IsTree}
 use Rattle.quilt_spell.specs.Catalogued.{IsCatalogOf}
-use Rattle.quilt_spell.specs.Written.{number_of}
 use Rattle.quilt_pool.specs.Views.{entries_of}
 use Rattle.quilt_map.specs.Asking.{reads_in}
 use Rattle.quilt_map.specs.Sessions.{told_of, tree_in}
@@ -25,22 +24,22 @@ pub returns-then-not-has_pixel-clause-answer : goal.returns-then-not-has_pixel-c
 returns-then-not-has_pixel-clause-answer g c = λ s at.
     let old = c.args.self.now in
     let region = c.in-Ok.ensures.found s.work at.work.numbers (catalog_as {D = g.W.Disk} old s at c.entries.result.now c.entries.ensures.entries) in
-    asked_here {D = g.W.Disk} s (commands.At c.args.name.now c.args.at) (at_asks s c.args.name.now c.args.at) old at None (reply.No no.Outside)
+    asked_here {D = g.W.Disk} s (commands.At c.args.name.now c.args.at) (at_asks s c.args.name.now c.args.at) old at old.warm (reply.No no.Outside)
     (at_outside s c.args.name.now region.grid region.got c.args.at
     (test_at (λ n. is_pixel n c.args.at) c.head.result.level s.last.level c.has_pixel.result false
     (ap (λ (h : Head). h.level) c.head.ensures.work ∙ level_is {D = g.W.Disk} old s at) c.has_pixel.ensures c.if-not-has_pixel.true))
 
 pub returns-then-not-has_pixel-clause-keeps : goal.returns-then-not-has_pixel-clause-keeps
-returns-then-not-has_pixel-clause-keeps g c = keeps_here {D = g.W.Disk} c.args.self.now None
+returns-then-not-has_pixel-clause-keeps g c = keeps_here {D = g.W.Disk} c.args.self.now c.args.self.now.warm
 
 pub returns-in-Err-clause-answer : goal.returns-in-Err-clause-answer
 returns-in-Err-clause-answer g c = λ s at.
-    asked_here {D = g.W.Disk} s (commands.At c.args.name.now c.args.at) (at_asks s c.args.name.now c.args.at) c.args.self.now at None (reply.No c.in-Err.code)
+    asked_here {D = g.W.Disk} s (commands.At c.args.name.now c.args.at) (at_asks s c.args.name.now c.args.at) c.args.self.now at c.args.self.now.warm (reply.No c.in-Err.code)
     (at_refused s c.args.name.now c.args.at c.in-Err.code
     (c.in-Err.ensures.refused s at.work.numbers (catalog_as {D = g.W.Disk} c.args.self.now s at c.entries.result.now c.entries.ensures.entries)))
 
 pub returns-in-Err-clause-keeps : goal.returns-in-Err-clause-keeps
-returns-in-Err-clause-keeps g c = keeps_here {D = g.W.Disk} c.args.self.now None
+returns-in-Err-clause-keeps g c = keeps_here {D = g.W.Disk} c.args.self.now c.args.self.now.warm
 
 pub returns-in-Err-read_colour-clause-sound : goal.returns-in-Err-read_colour-clause-sound
 returns-in-Err-read_colour-clause-sound g c = λ s at.
@@ -57,7 +56,7 @@ returns-in-Ok-number_text-clause-answer g c = λ s at.
     let region = c.in-Ok.ensures.found s.work at.work.numbers (catalog_as {D = g.W.Disk} old s at c.entries.result.now c.entries.ensures.entries) in
     let inside = test_at (λ n. is_pixel n c.args.at) c.head.result.level s.last.level c.has_pixel.result true
     (ap (λ (h : Head). h.level) c.head.ensures.work ∙ level_is {D = g.W.Disk} old s at) c.has_pixel.ensures c.if-not-has_pixel.false in
-    asked_on {D = g.W.Disk} s (commands.At name c.args.at) (at_asks s name c.args.at) old at c.read_colour.new.book (Some (c.copy.result, c.args.at))
+    asked_on {D = g.W.Disk} s (commands.At name c.args.at) (at_asks s name c.args.at) old at c.read_colour.new.book old.warm
     (reply.Ok c.in-Ok-number_text.text) c.read_colour.ensures.still (g.met.W.Disk.is_consistent c.read_colour.new.book.world)
     (text_tells ((answer s (commands.At name c.args.at)).reply) c.in-Ok-number_text.text
     (at_body {D = g.W.Disk} old s at name c.in-Ok.number region c.args.at c.in-Ok-read_colour.colour.0 c.from.result inside
@@ -109,11 +108,10 @@ returns-in-Ok-number_text-clause-held g c =
     let book = c.read_colour.new.book in
     let still = c.read_colour.ensures.still in
     let is = λ (layers : Map) (numbers : Numbering) (k : IsCatalogOf layers numbers old.catalog).
-    (c.in-Ok.ensures.found layers numbers (subst (λ (es : List Entry). IsCatalogOf layers numbers es) (sym c.entries.ensures.entries) k)).numbered
-    ∙ ap (number_of numbers) (sym c.copy.ensures) in
-    warm_as (Some (c.copy.result, c.args.at)) old.catalog (told_of {D = g.W.Disk} old.book) (told_of {D = g.W.Disk} book) old.book.work book.work
+    (c.in-Ok.ensures.found layers numbers (subst (λ (es : List Entry). IsCatalogOf layers numbers es) (sym c.entries.ensures.entries) k)).numbered in
+    warm_as (Some (c.args.name.now, c.args.at)) old.catalog (told_of {D = g.W.Disk} old.book) (told_of {D = g.W.Disk} book) old.book.work book.work
     (keys_of (entries_of book.pool)) (keys_of (entries_of book.pool)) still.told still.later.2.1 refl
-    (warmed old.catalog (told_of {D = g.W.Disk} old.book) old.book.work (keys_of (entries_of book.pool)) (c.copy.result, c.args.at) c.in-Ok.number is
+    (warmed old.catalog (told_of {D = g.W.Disk} old.book) old.book.work (keys_of (entries_of book.pool)) (c.args.name.now, c.args.at) c.in-Ok.number is
     c.in-Ok-read_colour.ensures.held)
 
 pub returns-in-Ok-number_text-clause-again : goal.returns-in-Ok-number_text-clause-again

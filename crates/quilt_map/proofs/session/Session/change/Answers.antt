@@ -1,12 +1,5 @@
-use Rattle.std.proofs.Common.{◌≡◌, ℕ, ◌+◌, ◌*◌, ◌≤◌, nat_lt, refl, sym, ◌∙◌, ap, length}
-use Rattle.std.proofs.lemmas.List.{length-map}
-use Rattle.quilt_record.specs.declared.record.Record.{Record}
+use Rattle.std.proofs.Common.{ℕ, ◌+◌, nat_lt, refl, sym, ◌∙◌, ap, length}
 use Rattle.quilt_node.specs.declared.head.Head.{Head}
-use Rattle.quilt_node.specs.Nodes.{keys_of}
-use Rattle.quilt_btree.specs.Edits.{IsWhole}
-use Rattle.quilt_map.specs.Sessions.{told_of, free_of, changed_of, tree_in}
-use Rattle.quilt_record.specs.declared.key.Key.{Key}
-use Rattle.quilt_btree.specs.Runs.{has_each, has_any, put_all, without_all}
 use Rattle.quilt_map.proofs.states.ChangeSteps.{goes_here, at_whole, there, new, is_full, is_within, has_layer, counted_twice}
 use Rattle.quilt_map.proofs.session.Session.change.Goals as goal
 
