@@ -1,10 +1,10 @@
-use Rattle.std.proofs.Common.{◌+◌, ◌*◌, ◌≤◌, true, get_or, arith}
-use Rattle.std.specs.FinMap as finmap
+use Rattle.std.proofs.Common.{◌+◌, ◌*◌, ◌≤◌, get_or, subst, arith}
 use Rattle.quilt_store.proofs.Reading.{read_on}
 use Rattle.quilt_near.specs.Knowing.{known_seg, many_known}
 use Rattle.quilt_near.proofs.Knowing.{knows_where}
 use Rattle.quilt_near.proofs.Telling.{tells_then}
 use Rattle.quilt_edits.proofs.Lists.{member_at}
+use Rattle.quilt_lines.specs.Marks.{IsMark}
 use Rattle.quilt_lines.proofs.Lookups.{shows_along}
 use Rattle.quilt_lines.proofs.Saying.{tree_along}
 use Rattle.quilt_lines.proofs.Followers.{unknown_more}
@@ -30,8 +30,9 @@ loop-id-preserved g c =
       taken = taken_more c.args.ids.now c.loop-id.id-index _ c.in-Ok.s _ c.loop-id.invariant.taken c.loop-id-test.true c.in-Ok-push.ensures.ok c.in-Ok.ensures.inside
           (λ m h. c.in-Ok.ensures.found m
           (shows_along _ _ c.args.self.now.tree c.args.self.now.layer c.args.self.now.level m c.loop-id.invariant.left.told h));
-      known = knows_where _ _ _ c.segment_known.new.known
-          (λ l h. shows_along _ _ c.args.self.now.tree c.args.self.now.layer c.args.self.now.level l c.loop-id.invariant.left.told h) c.in-Ok.ensures.known;
+      known = knows_where _ _ _ (IsMark (g.S.PageStore.told c.loop-id.store) c.args.self.now.tree) _ c.segment_known.new.known
+          (λ l h. shows_along _ _ c.args.self.now.tree c.args.self.now.layer c.args.self.now.level l c.loop-id.invariant.left.told h)
+          (λ m h. subst (λ o. IsMark o c.args.self.now.tree m) c.loop-id.invariant.left.told h) c.in-Ok.ensures.known;
       stays = λ q s e. c.in-Ok.ensures.stays q s (c.loop-id.invariant.stays q s e);
       left = read_on _ g.met.S.PageStore.goes_on _ _ _ c.loop-id.invariant.left c.in-Ok.ensures.left;
       reads = unknown_more (known_seg c.args.known.now) (known_seg c.loop-id.known) c.args.ids.now c.loop-id.id-index _ c.loop-id-test.true
