@@ -1,12 +1,12 @@
 -- What the leaf of a spot tells of the tree.
-use Rattle.std.proofs.Common.{◌≡◌, ◌≢◌, ℕ, ◌<◌, ◌≤◌, true, false, List, [], ◌∷◌, ◌++◌, filter, take, length, Option, Some, None, refl, sym, ◌∙◌, ap, subst, arith}
+use Rattle.std.proofs.Common.{◌≡◌, ◌≢◌, ℕ, ◌<◌, ◌≤◌, Bool, true, false, List, [], ◌∷◌, ◌++◌, filter, take, length, Option, Some, None, refl, sym, ◌∙◌, ap, subst, arith}
 use Rattle.std.specs.Prelude.{IfSome, slice_get, slice_index_or}
 use Rattle.std.specs.List.{list_all}
 use Rattle.std.specs.Ordering.{is_le, is_lt}
 use Rattle.quilt_record.specs.declared.key.Key.{Key}
 use Rattle.quilt_record.specs.declared.record.Record.{Record}
 use Rattle.quilt_record.specs.Records.{key_cmp}
-use Rattle.quilt_record.proofs.Orders.{lt_le, lt_to_le}
+use Rattle.quilt_record.proofs.Orders.{lt_le, le_le, lt_to_le}
 use Rattle.quilt_node.specs.Nodes.{keys_of, records_of}
 use Rattle.quilt_node.specs.Pages.{leaf_of, is_ascending}
 use Rattle.quilt_node.specs.Tree.{is_below}
@@ -17,9 +17,11 @@ use Rattle.quilt_btree.specs.Arrivals.{Arrives}
 use Rattle.quilt_btree.specs.Lists.{value_of, floor_of, range_of, is_from_to}
 use Rattle.quilt_btree.specs.Looks.{AddsFrom}
 use Rattle.quilt_btree.specs.Searches.{AreOf}
-use Rattle.quilt_btree.specs.Spots.{HoldsKeys, IsLeafFrom}
+use Rattle.quilt_btree.specs.Spots.{HoldsKeys, IsLeafFrom, IsAt}
+use Rattle.quilt_btree.specs.declared.spot.Spot.{Spot}
 use Rattle.quilt_btree.specs.Trees.{IsTree, LeadsTo, Before, is_past}
 use Rattle.quilt_btree.proofs.cursors.Fingers.{floor_is_near}
+use Rattle.quilt_btree.proofs.lists.Lists.{gt_not_le}
 use Rattle.quilt_btree.proofs.lists.Rising.{all_follow, all_map}
 use Rattle.quilt_btree.proofs.lists.RisingApart.{all_under}
 use Rattle.quilt_btree.proofs.ranges.Ranges.{range_first, range_next, range_ends, range_fills}
@@ -197,3 +199,26 @@ module _ (told now : Option (List (List ℕ))) (t : Tree) (page : ℕ) (from : K
 -- a key of the leaf is below the one that begins the next
 pub under_next : (k next : Key) (high : Option Key) → is_below high k ≡ true → high ≡ Some next → is_lt (key_cmp k next) ≡ true
 under_next k next high below is = subst (λ o. is_below o k ≡ true) is below
+
+-- a range of keys of a spot does not go on behind its leaf
+pub never_on : (size : ℕ) (o : Option Spot) (s : Spot) (high next : Key) → o ≡ Some s → IsAt size o high → s.high ≡ Some next
+    → is_le (key_cmp next high) ≡ true → ⊥
+never_on size o s high next is at up le =
+    let here = subst (λ z. IsAt size z high) is at in
+    let below = subst (λ z. is_below z high ≡ true) up here.3 in
+    let no = gt_not_le high next below in
+    differ (is_le (key_cmp next high)) le no
+  where
+    differ : (b : Bool) → b ≡ true → b ≡ false → ⊥
+    differ true h g = cc
+    differ false h g = cc
+
+-- a key of a leaf is a key of the spot that is put there
+pub placed_at : (size : ℕ) (s wide : Spot) (k : Key) → (1 ≤ s.page) × (s.page < size) → (is_le (key_cmp s.low k) ≡ true) × (is_below s.high k ≡ true)
+    → (wide.page ≡ s.page) × (wide.high ≡ s.high) × (is_le (key_cmp wide.low s.low) ≡ true) → IsAt size (Some wide) k
+placed_at size s wide k page key same = (
+  subst (λ (p : ℕ). 1 ≤ p) (sym same.0) page.0,
+  subst (λ (p : ℕ). p < size) (sym same.0) page.1,
+  le_le wide.low s.low k same.2 key.0,
+  subst (λ z. is_below z k ≡ true) (sym same.1) key.1,
+)

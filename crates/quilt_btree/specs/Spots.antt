@@ -1,7 +1,7 @@
 -- Where a look-up was last in a tree: the page of a leaf, and the keys that lead to it.
-use Rattle.std.specs.Prelude.{◌≡◌, ℕ, true, List, ◌++◌, Option, Some, None, IfSome}
+use Rattle.std.specs.Prelude.{◌≡◌, ℕ, ◌<◌, ◌≤◌, true, List, ◌++◌, Option, Some, None, IfSome}
 use Rattle.std.specs.List.{list_all}
-use Rattle.std.specs.Ordering.{is_lt}
+use Rattle.std.specs.Ordering.{is_le, is_lt}
 use Rattle.quilt_record.specs.declared.key.Key.{Key}
 use Rattle.quilt_record.specs.declared.record.Record.{Record}
 use Rattle.quilt_record.specs.Records.{key_cmp}
@@ -36,3 +36,12 @@ IsSpot told t s = IsLeafFrom told t s.page s.low s.high
 -- the spot, if there is one, is in the tree
 abbrev pub IsSpotIf : Option (List (List ℕ)) → Tree → Option Spot → Type 0
 IsSpotIf told t o = IfSome o (IsSpot told t)
+
+-- the key is one of the spot's, whose page is one of a store of so many
+abbrev pub IsAtKey : ℕ → Key → Spot → Type 0
+IsAtKey size k s = (1 ≤ s.page) × (s.page < size) × (is_le (key_cmp s.low k) ≡ true) × (is_below s.high k ≡ true)
+
+-- there is a spot, and the key is one of its keys
+abbrev pub IsAt : ℕ → Option Spot → Key → Type 0
+IsAt size None k = ⊥
+IsAt size (Some s) k = IsAtKey size k s

@@ -12,7 +12,7 @@ ghost use Rattle.quilt_btree.specs.Damage.{NamesBad};
 ghost use Rattle.quilt_btree.specs.Lists.{value_of, floor_of, range_of, is_from_to};
 ghost use Rattle.quilt_btree.specs.Looks.{LooksAt, AddsFrom};
 ghost use Rattle.quilt_btree.specs.Searches.{AreOf};
-ghost use Rattle.quilt_btree.specs.Spots.{IsSpot, IsSpotIf};
+ghost use Rattle.quilt_btree.specs.Spots.{IsSpot, IsSpotIf, IsAt, IsAtKey};
 ghost use Rattle.quilt_btree.specs.Stops.{NamesPage};
 ghost use Rattle.quilt_btree.specs.Trees.{IsRooted, IsTree};
 ghost use Rattle.quilt_btree.specs.declared.tree.Tree.{Tree as AnyTree};
@@ -42,6 +42,7 @@ impl Spot {
     fn widened(&self, bytes: &[u8; 4096]) -> Spot
         ensures page { result.page ≡ self.now.page }
         ensures high { result.high ≡ self.now.high }
+        ensures low { is_le (key_cmp result.low self.now.low) ≡ true }
         ensures good { (told : Option (List (List ℕ))) (t : AnyTree) → 1 ≤ t.height → AreOf told self.now.page bytes.now
             → IsSpot told t self.now → IsSpot told t result }
     {
@@ -73,6 +74,8 @@ impl Tree {
         ensures bad { IfErr result (NamesBad (S.told store.old) self.now.height self.now.root) }
         ensures left { OnlyReads S.PageStore store.old store.new result }
         ensures reads { Goes (λ old new. new ≤ old + 3) (S.reads store.old) (S.reads store.new) }
+        ensures here { IsAt (S.size store.old) spot.old k.now → Goes (λ old new. new ≤ old + 1) (S.reads store.old) (S.reads store.new) }
+        ensures placed { OnOk result (1 ≤ self.now.height → IsAt (S.size store.old) spot.new k.now) }
     {
         if self.height == 0 {
             return Ok(None);
@@ -175,6 +178,9 @@ impl Tree {
         ensures number { IfOk result (λ records. vec_len records ≤ most) }
         ensures within { IfOk result (λ records. list_all (is_from_to low.now high.now) records.items ≡ true) }
         ensures reads { IfOk result (λ records. Goes (λ old new. new ≤ old + 6 + 3 * vec_len records) (S.reads store.old) (S.reads store.new)) }
+        ensures here { IsAt (S.size store.old) spot.old low.now → IsAt (S.size store.old) spot.old high.now
+            → Goes (λ old new. new ≤ old + 1) (S.reads store.old) (S.reads store.new) }
+        ensures placed { OnOk result (1 ≤ self.now.height → IsAt (S.size store.old) spot.new low.now) }
     {
         let mut records = Vec::new(alloc);
         if self.height == 0 {
@@ -214,6 +220,8 @@ impl Tree {
         ensures page { IfOk result (λ s. (1 ≤ s.page) × (s.page < S.size store.old)) }
         ensures spot { IfOk result (IsSpot (S.told store.old) self.now) }
         ensures keys { IfOk result (λ s. (is_le (key_cmp s.low k.now) ≡ true) × (is_below s.high k.now ≡ true)) }
+        ensures here { IsAt (S.size store.old) spot.now k.now → IfOk result (λ s. spot.now ≡ Some s)
+            × Goes (λ old new. new ≤ old) (S.reads store.old) (S.reads store.new) }
         ensures sound { IfErr result (λ e. (rs : List Record) → IsTree (S.told store.old) self.now rs → IsSound e) }
         ensures names { IfErr result (NamesPage (S.size store.old)) }
         ensures bad { IfErr result (NamesBad (S.told store.old) self.now.height self.now.root) }
@@ -237,8 +245,8 @@ impl Tree {
 
 /// The spot where the key is one of its keys, and its page one of a store of so many.
 fn at_spot(spot: &Option<Spot>, pages: u32, k: &Key) -> Option<Spot>
-    ensures { IfSome result (λ s. (spot.now ≡ Some s) × (1 ≤ s.page) × (s.page < pages) × (is_le (key_cmp s.low k.now) ≡ true)
-        × (is_below s.high k.now ≡ true)) }
+    ensures here { IfSome result (λ s. (spot.now ≡ Some s) × IsAtKey pages k.now s) }
+    ensures none { result ≡ None → IsAt pages spot.now k.now → ⊥ }
 {
     match spot {
         None => None,
@@ -276,6 +284,7 @@ fn add_in<S: PageStore>(
     requires room { vec_len records.old ≤ most }
     ensures adds { OnOk result (AddsFrom (S.told store.old) spot.now.page low.now high.now most records.old.items records.new.items) }
     ensures wide { IfOk result (λ s. (t : AnyTree) → 1 ≤ t.height → IsSpot (S.told store.old) t spot.now → IsSpot (S.told store.old) t s) }
+    ensures same { IfOk result (λ s. (s.page ≡ spot.now.page) × (s.high ≡ spot.now.high) × (is_le (key_cmp s.low spot.now.low) ≡ true)) }
     ensures sound { IfErr result (λ e. IsSound e) }
     ensures looks { LooksAt S.PageStore spot.now.page store.old store.new result }
 {

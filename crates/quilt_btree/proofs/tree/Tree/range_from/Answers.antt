@@ -5,7 +5,7 @@ use Rattle.quilt_record.proofs.Orders.{lt_to_le}
 use Rattle.quilt_store.proofs.Reading.{only_reads_then, only_reads_ok, only_reads_err}
 use Rattle.quilt_btree.specs.Lists.{is_from_to}
 use Rattle.quilt_btree.specs.Spots.{IsSpot}
-use Rattle.quilt_btree.proofs.Spots.{spot_ends, spot_fills, spot_sound, spot_rest, under_next}
+use Rattle.quilt_btree.proofs.Spots.{spot_ends, spot_fills, spot_sound, spot_rest, under_next, never_on, placed_at}
 use Rattle.quilt_btree.proofs.ranges.Rests.{no_range}
 use Rattle.quilt_btree.proofs.ranges.Spans.{first_within}
 use Rattle.quilt_btree.proofs.tree.Tree.range_from.Goals as goal
@@ -90,3 +90,16 @@ pub returns-in-Ok-add_rest-clause-left : goal.returns-in-Ok-add_rest-clause-left
 returns-in-Ok-add_rest-clause-left g c =
     only_reads_ok _ (only_reads_then _ g.met.S.PageStore.goes_on _ _ _ c.in-Ok.ensures.left
     (only_reads_then _ g.met.S.PageStore.goes_on _ _ _ c.in-Ok-add_in.ensures.looks.left c.in-Ok-add_rest.ensures.left)) _
+
+pub returns-in-Err-add_rest-clause-here : goal.returns-in-Err-add_rest-clause-here
+returns-in-Err-add_rest-clause-here g c = λ at last. absurd (never_on _ c.args.spot.now c.in-Ok.found c.args.high.now c.in-Some.next
+    (c.in-Ok.ensures.here at).0 last c.in-Some.ensures.0 c.in-Some.ensures.1)
+
+pub returns-in-Ok-add_rest-clause-here : goal.returns-in-Ok-add_rest-clause-here
+returns-in-Ok-add_rest-clause-here g c = λ at last. absurd (never_on _ c.args.spot.now c.in-Ok.found c.args.high.now c.in-Some.next
+    (c.in-Ok.ensures.here at).0 last c.in-Some.ensures.0 c.in-Some.ensures.1)
+
+pub returns-in-Ok-add_rest-clause-placed : goal.returns-in-Ok-add_rest-clause-placed
+returns-in-Ok-add_rest-clause-placed g c = λ some.
+    placed_at (g.S.PageStore.size c.args.store.now) c.in-Ok.found c.in-Ok-add_in.wide c.args.low.now c.in-Ok.ensures.page c.in-Ok.ensures.keys
+    c.in-Ok-add_in.ensures.same
