@@ -166,7 +166,10 @@ impl LineView {
         ensures sound { IfErr result (λ e. (ids : List ℕ) → records.now ≡ map (pair_of self.now.level self.now.layer b) ids → IsSound e) }
         ensures no_fault { IsErrOf result Device → ⊥ }
     {
-        let mut ids = Vec::new(alloc);
+        let mut ids = match Vec::with_capacity(alloc, records.len()) {
+            Err(_) => return Err(Stop::Memory),
+            Ok(ids) => ids,
+        };
         for r in records {
             let Some(id) = self.id_said(r, b) else {
                 return Err(DAMAGED);

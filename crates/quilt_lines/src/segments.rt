@@ -271,7 +271,10 @@ impl LineView {
         ensures fresh { OnOk result (Goes (λ old new. new + 3 * many_known known.old ≤ old + 3 * many_known known.new)
             (S.reads store.old) (S.reads store.new)) }
     {
-        let mut list = SegList::new(alloc);
+        let mut list = match SegList::with_room(alloc, ids.len()) {
+            Err(_) => return Err(Stop::Memory),
+            Ok(list) => list,
+        };
         for id in ids {
             match self.segment_known(store, known, *id) {
                 Err(e) => return Err(e),
