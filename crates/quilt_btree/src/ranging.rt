@@ -77,7 +77,7 @@ fn add_span(
 
 /// Adds the records of a leaf with keys from `low` to `high`, until the list has `most`. It looks for the first and the
 /// last of them, and reads no others; of any bytes it adds some records with such keys.
-fn add_leaf(
+pub fn add_leaf(
     records: &mut Vec<Record>,
     bytes: &[u8; 4096],
     low: &Key,

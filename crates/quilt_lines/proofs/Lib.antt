@@ -8,6 +8,7 @@ pub mod Sums
 pub mod Scans
 pub mod Taken
 pub mod Spelled
+pub mod Spots
 pub mod Gathering
 pub mod Permutations
 pub mod Beginnings

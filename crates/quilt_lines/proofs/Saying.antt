@@ -1,6 +1,5 @@
 -- What records that were read say, one by one.
-use Rattle.std.proofs.Common.{◌≡◌, ℕ, ◌≤◌, List, [], ◌∷◌, ◌++◌, map, length, true, All, Contains, Option, Some, None, refl, sym, ◌∙◌, ap, subst}
-use Rattle.std.specs.Prelude.{MatchOption}
+use Rattle.std.proofs.Common.{◌≡◌, ℕ, List, [], ◌∷◌, ◌++◌, map, true, All, Option, Some, None, sym, ◌∙◌, ap, subst}
 use Rattle.std.specs.List.{list_all}
 use Rattle.std.proofs.lemmas.List.{map-append}
 use Rattle.quilt_types.specs.declared.plane.Block.{Block}
@@ -17,7 +16,7 @@ use Rattle.quilt_btree.specs.Lists.{value_of, range_of, is_from_to}
 use Rattle.quilt_spell.proofs.Spelling.{all_from}
 use Rattle.quilt_lines.specs.Layers.{fact_record}
 use Rattle.quilt_lines.specs.Reads.{segment_key, none_of}
-use Rattle.quilt_lines.specs.Said.{greatest, NamesZero, SaySegment, SaySegmentAt, last_key, records_at, segment_records}
+use Rattle.quilt_lines.specs.Said.{greatest, NamesZero, SaySegment, records_at, segment_records}
 use Rattle.quilt_lines.proofs.Keys.{range_alike}
 
 -- an answer that names no page names none but 0

@@ -1,4 +1,5 @@
 pub mod Layers
+pub mod Marks
 pub mod Reads
 pub mod Laws
 pub mod Plans

@@ -8,8 +8,8 @@ use Rattle.quilt_record.specs.declared.key.Key.{Key}
 use Rattle.quilt_record.specs.declared.record.Record.{Record}
 use Rattle.quilt_record.specs.Records.{key_cmp}
 use Rattle.quilt_btree.specs.declared.tree.Tree.{Tree}
-use Rattle.quilt_btree.specs.Fingers.{IsFinger}
 use Rattle.quilt_btree.specs.Lists.{floor_of}
+use Rattle.quilt_btree.specs.Spots.{IsSpotIf}
 use Rattle.quilt_btree.specs.Trees.{IsTree}
 use Rattle.quilt_lines.specs.declared.searching.Search.{Search}
 use Rattle.quilt_lines.specs.Said.{last_key}
@@ -32,9 +32,9 @@ pub record IsLastIn (told : Option (List (List ℕ))) (t : Tree) (n layer : ℕ)
   pub holds : in_block b at ≡ true
   pub last : IsLastAt told t n layer at o
 
--- the finger is in the tree, and what was found is the last record at the pixel
+-- the spot is in the tree, and what was found is the last record at the pixel
 pub record IsLineSearch (told : Option (List (List ℕ))) (t : Tree) (n layer : ℕ) (s : Search) : Type 0 where
-  pub finger : IsFinger told t s.finger
+  pub spot : IsSpotIf told t s.spot
   pub home : IfSome s.home (λ l. IsLastAt told t n layer s.at l.last)
 
 -- the record's key is from the one on and below the other

@@ -7,6 +7,7 @@ ghost use Rattle.quilt_record.specs.declared.record.Record.{Record as AnyRecord}
 ghost use Rattle.quilt_store.specs.Calls.{OnlyReads};
 ghost use Rattle.quilt_store.specs.Stops.{IsSound};
 ghost use Rattle.quilt_world.specs.Tale.{Goes};
+ghost use Rattle.quilt_btree.specs.Spots.{IsSpotIf};
 ghost use Rattle.quilt_btree.specs.Trees.{IsRooted, IsTree};
 ghost use Rattle.quilt_lines.specs.Layers.{HasLines, SpellsLines};
 ghost use Rattle.quilt_lines.specs.Reads.{AreIdsAt};
@@ -15,6 +16,7 @@ ghost use Rattle.quilt_lines.specs.Said.{NamesZero};
 
 use crate::searching::Search;
 use crate::view::LineView;
+use quilt_btree::Spot;
 use quilt_loc::covers;
 use quilt_record::{Record, read_pair};
 use quilt_store::PageStore;
@@ -22,11 +24,12 @@ use quilt_types::{Block, Pixel, Stop};
 use std::alloc::Global;
 
 /// A block of a line layer at a pixel, once it is found: no larger block that holds it is one of the layer's, so that none of them
-/// needs a look.
+/// needs a look. Beside it the spot in the tree where the records of a block were found last.
 #[derive(Drop)]
 pub(crate) struct Hint {
     pub at: Pixel,
     pub block: Option<Block>,
+    pub spot: Option<Spot>,
 }
 
 impl Hint {
@@ -80,6 +83,7 @@ impl LineView {
             → MatchOption o (finset.contains cover b ≡ false) (λ ids. AreIdsAt segs cover b ids.items)) }
         ensures known { OnOk result ((t : ℕ) (segs : SegMap) (cover : BlockSet)
             → HasLines (S.told store.old) self.now.tree self.now.layer self.now.level t segs cover → IsOfCover cover hint.new.block) }
+        ensures spot { OnOk result (IsSpotIf (S.told store.old) self.now.tree hint.new.spot) }
         ensures sound { IfErr result (λ e. (t : ℕ) (segs : SegMap) (cover : BlockSet)
             → HasLines (S.told store.old) self.now.tree self.now.layer self.now.level t segs cover → IsSound e) }
         ensures zero { IfErr result (λ e. (rs : List AnyRecord) → IsTree (S.told store.old) self.now.tree rs → NamesZero e) }
@@ -92,6 +96,7 @@ impl LineView {
             Err(e) => Err(e),
             Ok(found) => {
                 hint.block = self.block_seen(&search);
+                hint.spot = search.spot;
                 Ok(found)
             }
         }
@@ -109,12 +114,14 @@ impl LineView {
     ) -> Result<Option<Vec<u32>>, Stop>
         requires rooted { IsRooted (S.size store.old) self.now.tree }
         requires block { IsBlock self.now.level b }
+        requires spot { IsSpotIf (S.told store.old) self.now.tree hint.old.spot }
         ensures ids { IfOk result (λ o. (t : ℕ) (segs : SegMap) (cover : BlockSet)
             → HasLines (S.told store.old) self.now.tree self.now.layer self.now.level t segs cover → IsOfCover cover hint.old.block
             → MatchOption o (finset.contains cover b ≡ false) (λ ids. AreIdsAt segs cover b ids.items)) }
         ensures known { OnOk result ((t : ℕ) (segs : SegMap) (cover : BlockSet)
             → HasLines (S.told store.old) self.now.tree self.now.layer self.now.level t segs cover → IsOfCover cover hint.old.block
             → IsOfCover cover hint.new.block) }
+        ensures spot { OnOk result (IsSpotIf (S.told store.old) self.now.tree hint.new.spot) }
         ensures sound { IfErr result (λ e. (t : ℕ) (segs : SegMap) (cover : BlockSet)
             → HasLines (S.told store.old) self.now.tree self.now.layer self.now.level t segs cover → IsSound e) }
         ensures zero { IfErr result (λ e. (rs : List AnyRecord) → IsTree (S.told store.old) self.now.tree rs → NamesZero e) }
@@ -132,6 +139,6 @@ impl LineView {
         if hint.is_cut(b) {
             return Ok(None);
         }
-        self.ids_at(alloc, store, b)
+        self.ids_from(alloc, store, &mut hint.spot, b)
     }
 }

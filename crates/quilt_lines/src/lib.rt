@@ -8,6 +8,7 @@ mod counting;
 mod hint;
 mod laws;
 mod listing;
+mod marks;
 mod merging;
 mod removal;
 mod removing;

@@ -1,5 +1,5 @@
 ghost use Rattle.std.specs.Prelude.{◌≡◌, ℕ, ◌+◌, ◌*◌, ◌<◌, ◌≤◌, true, Some, None, IfOk, IfErr, IfSome, IsErrOf, List, [], ◌∷◌, map, length, vec_len};
-ghost use Rattle.std.specs.Prelude.{MatchOption, unwrap_or, false};
+ghost use Rattle.std.specs.Prelude.{MatchOption, OnOk, unwrap_or, false};
 ghost use Rattle.std.specs.Option.{option_map};
 ghost use Rattle.quilt_types.specs.Sets as finset;
 ghost use Rattle.quilt_types.specs.declared.stop.Stop.TheVariants.{Device};
@@ -9,12 +9,14 @@ ghost use Rattle.quilt_store.specs.Calls.{OnlyReads};
 ghost use Rattle.quilt_world.specs.Tale.{Goes};
 ghost use Rattle.quilt_store.specs.Stops.{IsSound};
 ghost use Rattle.quilt_record.specs.declared.record.Record.{Record};
+ghost use Rattle.quilt_btree.specs.Spots.{IsSpotIf};
 ghost use Rattle.quilt_btree.specs.Trees.{IsRooted, IsTree};
 ghost use Rattle.quilt_lines.specs.Layers.{HasLines};
 ghost use Rattle.quilt_lines.specs.Reads.{pair_of, none_of, block_records, AreIdsAt};
 ghost use Rattle.quilt_lines.specs.Said.{NamesZero, SayIds, records_at};
 
 use crate::view::{DAMAGED, LineView};
+use quilt_btree::Spot;
 use quilt_record::{Key, Record, pair_record};
 use quilt_store::PageStore;
 use quilt_types::{Block, Stop};
@@ -54,12 +56,46 @@ impl LineView {
         ensures met { IfOk result (λ o. IfSome o (λ ids. 1 ≤ vec_len ids →
             Goes (λ old new. new ≤ old + (6 + 3 * vec_len ids)) (S.reads store.old) (S.reads store.new))) }
     {
+        let mut spot = None;
+        self.ids_from(alloc, store, &mut spot, b)
+    }
+
+    /// The same, where the records may be in the leaf of a spot, which is put to theirs.
+    pub(crate) fn ids_from<S: PageStore>(
+        &self,
+        alloc: Global,
+        store: &mut S,
+        spot: &mut Option<Spot>,
+        b: Block,
+    ) -> Result<Option<Vec<u32>>, Stop>
+        requires rooted { IsRooted (S.size store.old) self.now.tree }
+        requires block { IsBlock self.now.level b }
+        requires spot { IsSpotIf (S.told store.old) self.now.tree spot.old }
+        ensures spot { OnOk result (IsSpotIf (S.told store.old) self.now.tree spot.new) }
+        ensures ids { IfOk result (λ o. (t : ℕ) (segs : SegMap) (cover : BlockSet)
+            → HasLines (S.told store.old) self.now.tree self.now.layer self.now.level t segs cover
+            → MatchOption o (finset.contains cover b ≡ false) (λ ids. AreIdsAt segs cover b ids.items)) }
+        ensures said { IfOk result (λ o. (rs : List Record) → IsTree (S.told store.old) self.now.tree rs
+            → MatchOption o (records_at self.now.level self.now.layer b rs ≡ [])
+            (λ ids. SayIds self.now.level self.now.layer b (records_at self.now.level self.now.layer b rs) ids.items)) }
+        ensures zero { IfErr result (λ e. (rs : List Record) → IsTree (S.told store.old) self.now.tree rs → NamesZero e) }
+        ensures sound { IfErr result (λ e. (t : ℕ) (segs : SegMap) (cover : BlockSet)
+            → HasLines (S.told store.old) self.now.tree self.now.layer self.now.level t segs cover → IsSound e) }
+        ensures left { OnlyReads S.PageStore store.old store.new result }
+        ensures reads { IfOk result (λ o. MatchOption o (Goes (λ old new. new ≤ old + 6) (S.reads store.old) (S.reads store.new))
+            (λ ids. Goes (λ old new. new ≤ old + (9 + 3 * vec_len ids)) (S.reads store.old) (S.reads store.new))) }
+        ensures met { IfOk result (λ o. IfSome o (λ ids. 1 ≤ vec_len ids →
+            Goes (λ old new. new ≤ old + (6 + 3 * vec_len ids)) (S.reads store.old) (S.reads store.new))) }
+    {
         let low = pair_record(self.layer, b, self.level, None).key;
         let high = Key {
             item: u32::MAX,
             ..low
         };
-        match self.tree.range(alloc, store, &low, &high, u32::MAX) {
+        match self
+            .tree
+            .range_from(alloc, store, spot, &low, &high, u32::MAX)
+        {
             Err(e) => Err(e),
             Ok(records) => self.ids_said(alloc, &records, b),
         }
@@ -130,7 +166,10 @@ impl LineView {
         ensures sound { IfErr result (λ e. (ids : List ℕ) → records.now ≡ map (pair_of self.now.level self.now.layer b) ids → IsSound e) }
         ensures no_fault { IsErrOf result Device → ⊥ }
     {
-        let mut ids = Vec::new(alloc);
+        let mut ids = match Vec::with_capacity(alloc, records.len()) {
+            Err(_) => return Err(Stop::Memory),
+            Ok(ids) => ids,
+        };
         for r in records {
             let Some(id) = self.id_said(r, b) else {
                 return Err(DAMAGED);

@@ -8,11 +8,13 @@ ghost use Rattle.quilt_store.specs.Calls.{OnlyReads};
 ghost use Rattle.quilt_store.specs.Stops.{IsSound};
 ghost use Rattle.quilt_world.specs.Tale.{Goes};
 ghost use Rattle.quilt_btree.specs.Trees.{IsRooted, IsTree};
+ghost use Rattle.quilt_lines.specs.Marks.{IsMark};
 ghost use Rattle.quilt_lines.specs.Layers.{ShowsLines};
 ghost use Rattle.quilt_lines.specs.Said.{NamesZero};
 ghost use Rattle.quilt_lines.specs.Reads.{ids_of};
 ghost use Rattle.quilt_types.specs.Layers.{is_in_square as is_seg_in_square};
 
+use crate::marks::{mark_of, spot_of};
 use crate::segments::segment_key;
 use crate::view::{DAMAGED, LineView};
 use quilt_near::{Known, SegList};
@@ -105,8 +107,8 @@ impl LineView {
         requires some { run.first ≤ run.last }
         requires few { run.last < run.first + 255 }
         requires away { (q : ℕ) → run.first ≤ q → q ≤ run.last → known_seg known.old q ≡ None }
-        requires known { Knows self.now.level (ShowsLines (S.told store.old) self.now.tree self.now.layer self.now.level) known.old }
-        ensures known { OnOk result (Knows self.now.level (ShowsLines (S.told store.old) self.now.tree self.now.layer self.now.level) known.new) }
+        requires known { Knows self.now.level (ShowsLines (S.told store.old) self.now.tree self.now.layer self.now.level) (IsMark (S.told store.old) self.now.tree) known.old }
+        ensures known { OnOk result (Knows self.now.level (ShowsLines (S.told store.old) self.now.tree self.now.layer self.now.level) (IsMark (S.told store.old) self.now.tree) known.new) }
         ensures stays { OnOk result (StaysKnown known.old known.new) }
         ensures all { OnOk result ((q : ℕ) → run.first ≤ q → q ≤ run.last → (s : AnySeg) × (known_seg known.new q ≡ Some s)) }
         ensures many { OnOk result (many_known known.new ≡ many_known known.old + (run.last + 1 - run.first)) }
@@ -119,10 +121,15 @@ impl LineView {
         let low = segment_key(self.layer, run.first);
         let high = segment_key(self.layer, run.last);
         let count = run.last - run.first + 1;
-        let records = match self.tree.range(alloc, store, &low, &high, count) {
+        let mut spot = spot_of(&known.ids);
+        let records = match self
+            .tree
+            .range_from(alloc, store, &mut spot, &low, &high, count)
+        {
             Err(e) => return Err(e),
             Ok(records) => records,
         };
+        known.ids = mark_of(&spot);
         let mut next = u64::from(run.first);
         for r in &records {
             match self.segment_said(r) {
@@ -149,12 +156,12 @@ impl LineView {
         ids: &[u32],
     ) -> Result<SegList, Stop>
         requires rooted { IsRooted (S.size store.old) self.now.tree }
-        requires known { Knows self.now.level (ShowsLines (S.told store.old) self.now.tree self.now.layer self.now.level) known.old }
+        requires known { Knows self.now.level (ShowsLines (S.told store.old) self.now.tree self.now.layer self.now.level) (IsMark (S.told store.old) self.now.tree) known.old }
         ensures ids { IfOk result (λ list. ids_of list ≡ ids.now) }
         ensures found { IfOk result (λ list. (l : Lines) → ShowsLines (S.told store.old) self.now.tree self.now.layer self.now.level l
             → All (λ e. finmap.get l.segs e.0 ≡ Some e.1) list) }
         ensures inside { IfOk result (λ list. All (λ e. is_seg_in_square self.now.level e.1 ≡ true) list) }
-        ensures known { OnOk result (Knows self.now.level (ShowsLines (S.told store.old) self.now.tree self.now.layer self.now.level) known.new) }
+        ensures known { OnOk result (Knows self.now.level (ShowsLines (S.told store.old) self.now.tree self.now.layer self.now.level) (IsMark (S.told store.old) self.now.tree) known.new) }
         ensures stays { OnOk result (StaysKnown known.old known.new) }
         ensures zero { IfErr result (λ e. (rs : List AnyRecord) → IsTree (S.told store.old) self.now.tree rs → NamesZero e) }
         ensures sound { IfErr result (λ e. (l : Lines) → ShowsLines (S.told store.old) self.now.tree self.now.layer self.now.level l

@@ -9,8 +9,8 @@ ghost use Rattle.quilt_record.specs.Records.{key_cmp};
 ghost use Rattle.quilt_store.specs.Calls.{OnlyReads};
 ghost use Rattle.quilt_store.specs.Stops.{IsSound};
 ghost use Rattle.quilt_world.specs.Tale.{Goes};
-ghost use Rattle.quilt_btree.specs.Fingers.{IsFinger};
 ghost use Rattle.quilt_btree.specs.Lists.{is_from_to};
+ghost use Rattle.quilt_btree.specs.Spots.{IsSpotIf};
 ghost use Rattle.quilt_btree.specs.Trees.{IsRooted, IsTree};
 ghost use Rattle.quilt_btree.specs.declared.tree.Tree.{Tree as AnyTree};
 ghost use Rattle.quilt_lines.specs.Layers.{HasLines};
@@ -20,7 +20,7 @@ ghost use Rattle.quilt_lines.specs.Searches.{IsLastAt, IsLastIn, IsLineSearch, i
 ghost use Rattle.quilt_lines.specs.Hints.{IsOfCover};
 
 use crate::view::LineView;
-use quilt_btree::Finger;
+use quilt_btree::Spot;
 use quilt_loc::covers;
 use quilt_record::{Key, Record, pair_record};
 use quilt_store::PageStore;
@@ -33,13 +33,13 @@ pub(crate) struct Look {
     last: Option<Record>,
 }
 
-/// Where a search for the blocks of a line layer stands: its finger in the tree, and what it found at one pixel, which stands for
+/// Where a search for the blocks of a line layer stands: its spot in the tree, and what it found at one pixel, which stands for
 /// all blocks that hold this pixel.
 #[derive(Clone, Copy)]
 pub(crate) struct Search {
     at: Pixel,
     home: Option<Look>,
-    finger: Option<Finger>,
+    pub spot: Option<Spot>,
 }
 
 impl Search {
@@ -50,7 +50,7 @@ impl Search {
         Search {
             at,
             home: None,
-            finger: None,
+            spot: None,
         }
     }
 
@@ -94,19 +94,19 @@ impl LineView {
         }
     }
 
-    /// The last record at or before those of the blocks that begin at a pixel. It reads nothing where the record is in the finger's
-    /// leaf, and at most 9 pages elsewhere.
+    /// The last record at or before those of the blocks that begin at a pixel. It looks at one page where the record is in the spot's
+    /// leaf, and reads at most 9 pages.
     fn last_at<S: PageStore>(
         &self,
         store: &mut S,
-        finger: &mut Option<Finger>,
+        spot: &mut Option<Spot>,
         p: Pixel,
     ) -> Result<Option<Record>, Stop>
         requires rooted { IsRooted (S.size store.old) self.now.tree }
-        requires finger { IsFinger (S.told store.old) self.now.tree finger.old }
+        requires spot { IsSpotIf (S.told store.old) self.now.tree spot.old }
         requires pixel { (b : Block) → b.x ≡ p.x → b.y ≡ p.y → b.side ≡ 1 → IsBlock self.now.level b }
         ensures last { IfOk result (IsLastAt (S.told store.old) self.now.tree self.now.level self.now.layer p) }
-        ensures finger { OnOk result (IsFinger (S.told store.old) self.now.tree finger.new) }
+        ensures spot { OnOk result (IsSpotIf (S.told store.old) self.now.tree spot.new) }
         ensures sound { IfErr result (λ e. (rs : List AnyRecord) → IsTree (S.told store.old) self.now.tree rs → IsSound e) }
         ensures left { OnlyReads S.PageStore store.old store.new result }
         ensures reads { Goes (λ old new. new ≤ old + 9) (S.reads store.old) (S.reads store.new) }
@@ -117,7 +117,7 @@ impl LineView {
             side: 1,
         };
         let key = pair_record(self.layer, pixel, self.level, Some(u32::MAX)).key;
-        self.tree.floor_near(store, finger, &key)
+        self.tree.floor_from(store, spot, &key)
     }
 
     /// The same for a pixel of a block: for that of the search, which is looked for once, where the block holds it. It reads at most 9
@@ -138,13 +138,13 @@ impl LineView {
         ensures reads { Goes (λ old new. new ≤ old + 9) (S.reads store.old) (S.reads store.new) }
     {
         if !covers(b, search.at) {
-            return self.last_at(store, &mut search.finger, Pixel { x: b.x, y: b.y });
+            return self.last_at(store, &mut search.spot, Pixel { x: b.x, y: b.y });
         }
         match search.home {
             Some(look) => return Ok(look.last),
             None => {}
         }
-        match self.last_at(store, &mut search.finger, search.at) {
+        match self.last_at(store, &mut search.spot, search.at) {
             Err(e) => Err(e),
             Ok(last) => {
                 search.home = Some(Look { last });
@@ -159,10 +159,13 @@ impl LineView {
         &self,
         alloc: Global,
         store: &mut S,
+        spot: &mut Option<Spot>,
         low: &Key,
         k: &Key,
     ) -> Result<Vec<Record>, Stop>
         requires rooted { IsRooted (S.size store.old) self.now.tree }
+        requires spot { IsSpotIf (S.told store.old) self.now.tree spot.old }
+        ensures spot { OnOk result (IsSpotIf (S.told store.old) self.now.tree spot.new) }
         ensures before { IfOk result (λ v. (rs : List AnyRecord) → IsTree (S.told store.old) self.now.tree rs →
             (k.now.item ≡ 0 → low.now ≡ k.now) → v.items ≡ filter (is_before low.now k.now) rs) }
         ensures sound { IfErr result (λ e. (rs : List AnyRecord) → IsTree (S.told store.old) self.now.tree rs → IsSound e) }
@@ -177,7 +180,8 @@ impl LineView {
             item: k.item - 1,
             ..*k
         };
-        self.tree.range(alloc, store, low, &high, u32::MAX)
+        self.tree
+            .range_from(alloc, store, spot, low, &high, u32::MAX)
     }
 
     /// The records of a block up to one of them, which is the last.
@@ -185,10 +189,13 @@ impl LineView {
         &self,
         alloc: Global,
         store: &mut S,
+        spot: &mut Option<Spot>,
         low: &Key,
         last: &Record,
     ) -> Result<Vec<Record>, Stop>
         requires rooted { IsRooted (S.size store.old) self.now.tree }
+        requires spot { IsSpotIf (S.told store.old) self.now.tree spot.old }
+        ensures spot { OnOk result (IsSpotIf (S.told store.old) self.now.tree spot.new) }
         ensures records { IfOk result (λ v. (rs : List AnyRecord) → IsTree (S.told store.old) self.now.tree rs →
             (last.now.key.item ≡ 0 → low.now ≡ last.now.key) → v.items ≡ filter (is_before low.now last.now.key) rs ++ last.now ∷ []) }
         ensures ends { IfOk result (λ v. (before : List AnyRecord) × (v.items ≡ before ++ last.now ∷ [])) }
@@ -197,7 +204,7 @@ impl LineView {
         ensures reads { IfOk result (λ v. Goes (λ old new. new ≤ old + (3 + 3 * vec_len v)) (S.reads store.old) (S.reads store.new)) }
         ensures first { last.now.key.item ≡ 0 → Goes (λ old new. new ≤ old) (S.reads store.old) (S.reads store.new) }
     {
-        match self.records_before(alloc, store, low, &last.key) {
+        match self.records_before(alloc, store, spot, low, &last.key) {
             Err(e) => Err(e),
             Ok(mut records) => match records.push(*last) {
                 Err(_) => Err(Stop::Memory),
@@ -238,7 +245,7 @@ impl LineView {
             Err(e) => Err(e),
             Ok(found) => match between(found, &low, &high) {
                 None => Ok(Vec::new(alloc)),
-                Some(last) => self.records_to(alloc, store, &low, &last),
+                Some(last) => self.records_to(alloc, store, &mut search.spot, &low, &last),
             },
         }
     }

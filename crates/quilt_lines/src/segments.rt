@@ -12,16 +12,19 @@ ghost use Rattle.quilt_store.specs.Calls.{OnlyReads};
 ghost use Rattle.quilt_world.specs.Tale.{Goes};
 ghost use Rattle.quilt_store.specs.Stops.{IsSound};
 ghost use Rattle.quilt_record.specs.declared.record.Record.{Record};
+ghost use Rattle.quilt_btree.specs.Spots.{IsSpotIf};
 ghost use Rattle.quilt_btree.specs.Trees.{IsRooted, IsTree};
 ghost use Rattle.quilt_near.specs.Lines.{Lines};
 ghost use Rattle.quilt_near.specs.Knowing.{Knows, StaysKnown, known_seg, many_known};
 ghost use Rattle.std.specs.Option.{is_none};
+ghost use Rattle.quilt_lines.specs.Marks.{IsMark};
 ghost use Rattle.quilt_lines.specs.Layers.{HasLines, ShowsLines, fact_record, segment_facts};
 ghost use Rattle.quilt_lines.specs.Reads.{segment_key as key_of, ids_of};
 ghost use Rattle.quilt_lines.specs.Said.{NamesZero, SaySegment, SaySegmentAt, SaySegments, segment_records};
 
+use crate::marks::{mark_of, spot_of};
 use crate::view::{DAMAGED, LineView};
-use quilt_btree::Tree;
+use quilt_btree::{Spot, Tree};
 use quilt_near::{Known, SegList};
 use quilt_record::{Key, Record, read_segment};
 use quilt_store::PageStore;
@@ -131,8 +134,33 @@ impl LineView {
         ensures left { OnlyReads S.PageStore store.old store.new result }
         ensures reads { Goes (λ old new. new ≤ old + 3) (S.reads store.old) (S.reads store.new) }
     {
+        let mut spot = None;
+        self.segment_from(store, &mut spot, id)
+    }
+
+    /// The same, where the record may be in the leaf of a spot, which is put to its leaf. It reads at most 3 pages.
+    fn segment_from<S: PageStore>(
+        &self,
+        store: &mut S,
+        spot: &mut Option<Spot>,
+        id: u32,
+    ) -> Result<Option<Seg>, Stop>
+        requires rooted { IsRooted (S.size store.old) self.now.tree }
+        requires spot { IsSpotIf (S.told store.old) self.now.tree spot.old }
+        ensures spot { OnOk result (IsSpotIf (S.told store.old) self.now.tree spot.new) }
+        ensures segment { IfOk result (λ o. (t : ℕ) (segs : SegMap) (cover : BlockSet)
+            → HasLines (S.told store.old) self.now.tree self.now.layer self.now.level t segs cover → o ≡ finmap.get segs id) }
+        ensures inside { IfOk result (λ o. IfSome o (λ s. is_seg_in_square self.now.level s ≡ true)) }
+        ensures said { IfOk result (λ o. (rs : List Record) → IsTree (S.told store.old) self.now.tree rs →
+            SaySegmentAt self.now.level self.now.layer rs id o) }
+        ensures zero { IfErr result (λ e. (rs : List Record) → IsTree (S.told store.old) self.now.tree rs → NamesZero e) }
+        ensures sound { IfErr result (λ e. (t : ℕ) (segs : SegMap) (cover : BlockSet)
+            → HasLines (S.told store.old) self.now.tree self.now.layer self.now.level t segs cover → IsSound e) }
+        ensures left { OnlyReads S.PageStore store.old store.new result }
+        ensures reads { Goes (λ old new. new ≤ old + 3) (S.reads store.old) (S.reads store.new) }
+    {
         let key = segment_key(self.layer, id);
-        match self.tree.get(store, &key) {
+        match self.tree.get_from(store, spot, &key) {
             Err(e) => Err(e),
             Ok(None) => Ok(None),
             Ok(Some(value)) => match self.segment_said(&Record { key, value }) {
@@ -177,8 +205,9 @@ impl LineView {
         ensures reads { IfOk result (λ list. Goes (λ old new. new ≤ old + 3 * length list) (S.reads store.old) (S.reads store.new)) }
     {
         let mut list = SegList::new(alloc);
+        let mut spot = None;
         for id in ids {
-            match self.add_segment(store, &mut list, *id) {
+            match self.add_segment(store, &mut spot, &mut list, *id) {
                 Err(e) => return Err(e),
                 Ok(()) => {}
             }
@@ -190,10 +219,13 @@ impl LineView {
     fn add_segment<S: PageStore>(
         &self,
         store: &mut S,
+        spot: &mut Option<Spot>,
         list: &mut SegList,
         id: u32,
     ) -> Result<(), Stop>
         requires rooted { IsRooted (S.size store.old) self.now.tree }
+        requires spot { IsSpotIf (S.told store.old) self.now.tree spot.old }
+        ensures spot { OnOk result (IsSpotIf (S.told store.old) self.now.tree spot.new) }
         ensures added { OnOk result ((s : AnySeg) × (list.new ≡ list.old ++ (id, s) ∷ []) × (is_seg_in_square self.now.level s ≡ true)
             × ((t : ℕ) (segs : SegMap) (cover : BlockSet) → HasLines (S.told store.old) self.now.tree self.now.layer self.now.level t segs cover
             → finmap.get segs id ≡ Some s)
@@ -204,7 +236,7 @@ impl LineView {
         ensures left { OnlyReads S.PageStore store.old store.new result }
         ensures reads { Goes (λ old new. new ≤ old + 3) (S.reads store.old) (S.reads store.new) }
     {
-        match self.segment(store, id) {
+        match self.segment_from(store, spot, id) {
             Err(e) => Err(e),
             Ok(None) => Err(DAMAGED),
             Ok(Some(s)) => match list.push(id, s) {
@@ -223,12 +255,12 @@ impl LineView {
         ids: &[u32],
     ) -> Result<SegList, Stop>
         requires rooted { IsRooted (S.size store.old) self.now.tree }
-        requires known { Knows self.now.level (ShowsLines (S.told store.old) self.now.tree self.now.layer self.now.level) known.old }
+        requires known { Knows self.now.level (ShowsLines (S.told store.old) self.now.tree self.now.layer self.now.level) (IsMark (S.told store.old) self.now.tree) known.old }
         ensures ids { IfOk result (λ list. ids_of list ≡ ids.now) }
         ensures found { IfOk result (λ list. (l : Lines) → ShowsLines (S.told store.old) self.now.tree self.now.layer self.now.level l
             → All (λ e. finmap.get l.segs e.0 ≡ Some e.1) list) }
         ensures inside { IfOk result (λ list. All (λ e. is_seg_in_square self.now.level e.1 ≡ true) list) }
-        ensures known { OnOk result (Knows self.now.level (ShowsLines (S.told store.old) self.now.tree self.now.layer self.now.level) known.new) }
+        ensures known { OnOk result (Knows self.now.level (ShowsLines (S.told store.old) self.now.tree self.now.layer self.now.level) (IsMark (S.told store.old) self.now.tree) known.new) }
         ensures stays { OnOk result (StaysKnown known.old known.new) }
         ensures zero { IfErr result (λ e. (rs : List Record) → IsTree (S.told store.old) self.now.tree rs → NamesZero e) }
         ensures sound { IfErr result (λ e. (l : Lines) → ShowsLines (S.told store.old) self.now.tree self.now.layer self.now.level l
@@ -239,7 +271,10 @@ impl LineView {
         ensures fresh { OnOk result (Goes (λ old new. new + 3 * many_known known.old ≤ old + 3 * many_known known.new)
             (S.reads store.old) (S.reads store.new)) }
     {
-        let mut list = SegList::new(alloc);
+        let mut list = match SegList::with_room(alloc, ids.len()) {
+            Err(_) => return Err(Stop::Memory),
+            Ok(list) => list,
+        };
         for id in ids {
             match self.segment_known(store, known, *id) {
                 Err(e) => return Err(e),
@@ -260,11 +295,11 @@ impl LineView {
         id: u32,
     ) -> Result<Seg, Stop>
         requires rooted { IsRooted (S.size store.old) self.now.tree }
-        requires known { Knows self.now.level (ShowsLines (S.told store.old) self.now.tree self.now.layer self.now.level) known.old }
+        requires known { Knows self.now.level (ShowsLines (S.told store.old) self.now.tree self.now.layer self.now.level) (IsMark (S.told store.old) self.now.tree) known.old }
         ensures found { IfOk result (λ s. (l : Lines) → ShowsLines (S.told store.old) self.now.tree self.now.layer self.now.level l
             → finmap.get l.segs id ≡ Some s) }
         ensures inside { IfOk result (λ s. is_seg_in_square self.now.level s ≡ true) }
-        ensures known { OnOk result (Knows self.now.level (ShowsLines (S.told store.old) self.now.tree self.now.layer self.now.level) known.new) }
+        ensures known { OnOk result (Knows self.now.level (ShowsLines (S.told store.old) self.now.tree self.now.layer self.now.level) (IsMark (S.told store.old) self.now.tree) known.new) }
         ensures stays { OnOk result (StaysKnown known.old known.new) }
         ensures zero { IfErr result (λ e. (rs : List Record) → IsTree (S.told store.old) self.now.tree rs → NamesZero e) }
         ensures sound { IfErr result (λ e. (l : Lines) → ShowsLines (S.told store.old) self.now.tree self.now.layer self.now.level l
@@ -277,14 +312,20 @@ impl LineView {
     {
         match known.find(id) {
             Some(s) => Ok(s),
-            None => match self.segment(store, id) {
-                Err(e) => Err(e),
-                Ok(None) => Err(DAMAGED),
-                Ok(Some(s)) => match known.keep(id, s) {
-                    Err(_) => Err(Stop::Memory),
-                    Ok(()) => Ok(s),
-                },
-            },
+            None => {
+                let mut spot = spot_of(&known.ids);
+                match self.segment_from(store, &mut spot, id) {
+                    Err(e) => Err(e),
+                    Ok(None) => Err(DAMAGED),
+                    Ok(Some(s)) => {
+                        known.ids = mark_of(&spot);
+                        match known.keep(id, s) {
+                            Err(_) => Err(Stop::Memory),
+                            Ok(()) => Ok(s),
+                        }
+                    }
+                }
+            }
         }
     }
 

@@ -1,5 +1,5 @@
-ghost use Rattle.std.specs.Prelude.{◌≡◌, ◌+◌, ◌*◌, ◌≤◌, true, List, Err, IfOk, IfErr, OnOk};
-ghost use Rattle.std.proofs.Common.{◌∙◌};
+ghost use Rattle.std.specs.Prelude.{◌≡◌, ℕ, Option, ◌+◌, ◌*◌, ◌≤◌, true, List, Err, IfOk, IfErr, OnOk};
+ghost use Rattle.std.proofs.Common.{◌∙◌, subst, sym};
 ghost use Rattle.quilt_types.specs.declared.stop.Stop.TheVariants.{Damaged};
 ghost use Rattle.quilt_types.specs.Plane.{IsBlock};
 ghost use Rattle.quilt_types.specs.Quadtrees.{is_reached};
@@ -11,10 +11,12 @@ ghost use Rattle.quilt_near.specs.Lines.{Lines};
 ghost use Rattle.quilt_near.specs.Parts.{IsPart, IsPartOf, pages_for};
 ghost use Rattle.quilt_near.specs.Knowing.{Knows, StaysKnown, many_known, block_pages};
 ghost use Rattle.quilt_btree.specs.Trees.{IsRooted, IsTree};
+ghost use Rattle.quilt_lines.specs.Marks.{IsMark};
 ghost use Rattle.quilt_lines.specs.Layers.{ShowsLines};
 ghost use Rattle.quilt_lines.specs.Said.{NamesZero, SayPart};
 
 use crate::hint::Hint;
+use crate::marks::{mark_of, spot_of};
 use quilt_btree::Tree;
 use quilt_near::{Known, Part, SegBlocks};
 use quilt_store::PageStore;
@@ -73,6 +75,8 @@ impl<S: PageStore> SegBlocks<S> for LineView {
 
     ghost shows = { λ v s l. ShowsLines (S.told s) v.tree v.layer v.level l };
 
+    ghost marked = { λ v s m. IsMark (S.told s) v.tree m };
+
     ghost looked = { λ v b s t result. OnlyReads S.PageStore s t result };
 
     fn level(&self) -> u8 {
@@ -123,10 +127,10 @@ impl<S: PageStore> SegBlocks<S> for LineView {
     ) -> Result<Part, Stop>
         requires block { IsBlock self.now.level b }
         requires reached { (l : Lines) → ShowsLines (S.told store.old) self.now.tree self.now.layer self.now.level l → is_reached l.cover b ≡ true }
-        requires known { Knows self.now.level (ShowsLines (S.told store.old) self.now.tree self.now.layer self.now.level) known.old }
+        requires known { Knows self.now.level (ShowsLines (S.told store.old) self.now.tree self.now.layer self.now.level) (IsMark (S.told store.old) self.now.tree) known.old }
         ensures part { IfOk result (λ part. (l : Lines) → ShowsLines (S.told store.old) self.now.tree self.now.layer self.now.level l → IsPart l b part) }
         ensures part_of { IfOk result (λ part. IsPartOf self.now.level b part) }
-        ensures known { OnOk result (Knows self.now.level (ShowsLines (S.told store.old) self.now.tree self.now.layer self.now.level) known.new) }
+        ensures known { OnOk result (Knows self.now.level (ShowsLines (S.told store.old) self.now.tree self.now.layer self.now.level) (IsMark (S.told store.old) self.now.tree) known.new) }
         ensures stays { OnOk result (StaysKnown known.old known.new) }
         ensures rooted { (IsRooted (S.size store.old) self.now.tree → ⊥) → result ≡ Err (Damaged 0) }
         ensures sound { IfErr result (λ e. (l : Lines) → ShowsLines (S.told store.old) self.now.tree self.now.layer self.now.level l → IsSound e) }
@@ -142,17 +146,20 @@ impl<S: PageStore> SegBlocks<S> for LineView {
         let mut hint = Hint {
             at: known.at,
             block: known.block,
+            spot: spot_of(&known.pairs),
         };
         match self.ids_known(alloc, store, &mut hint, b) {
             Err(e) => Err(e),
             Ok(None) => {
                 known.block = hint.block;
+                known.pairs = mark_of(&hint.spot);
                 if b.side < 2 {
                     return Err(DAMAGED);
                 }
                 Ok(Part::Split)
             }
             Ok(Some(ids)) => {
+                known.pairs = mark_of(&hint.spot);
                 if known.block.is_none() {
                     return match self.segments_known(alloc, store, known, &ids) {
                         Err(e) => Err(e),
@@ -178,4 +185,6 @@ impl<S: PageStore> SegBlocks<S> for LineView {
       };
       rooted = h.rooted;
     } };
+
+    ghost same_marks = { λ v s t m e h. subst (λ (told : Option (List (List ℕ))). IsMark told v.tree m) (sym e) h };
 }

@@ -43,6 +43,8 @@ impl<S: PageStore> SegBlocks<S> for Even {
 
     ghost shows = { λ v s l. ShowsEven v.level v.side v.segs l };
 
+    ghost marked = { λ v s m. Unit {0} };
+
     ghost looked = { λ v b s t result. (t ≡ s) × IfErr result (λ e. e ≡ Memory) };
 
     fn level(&self) -> u8 {
@@ -73,4 +75,6 @@ impl<S: PageStore> SegBlocks<S> for Even {
     ghost lines = { λ v s l h. h.lines };
 
     ghost same = { λ v s t l e h. h };
+
+    ghost same_marks = { λ v s t m e h. h };
 }

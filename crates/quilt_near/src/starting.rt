@@ -23,7 +23,7 @@ pub fn first_queue<S: PageStore, B: SegBlocks<S>>(
     ensures level { B.level_of blocks.now ≤ 12 }
 {
     let whole = whole_square(blocks.level());
-    let mut queue = Queue::new(alloc);
+    let mut queue = Queue::new(alloc)?;
     queue.push(block_distance(p, whole), whole)?;
     Ok(queue)
 }

@@ -29,6 +29,8 @@ use Rattle.quilt_point_laws.specs.Laws.{AreIn}
 use Rattle.quilt_point_laws.proofs.Counts.{few_down}
 use Rattle.quilt_point_laws.proofs.Narrowing.{one_maximal}
 use Rattle.quilt_points.specs.Layers.{entries_of, pixel_key, HasPoints}
+use Rattle.quilt_btree.specs.Spots.{IsSpotIf}
+use Rattle.quilt_btree.specs.declared.spot.Spot.{Spot}
 use Rattle.quilt_points.specs.declared.searching.Search.{Search}
 use Rattle.quilt_points.specs.Reads.{IsHeld, IsBlockRead, IsBlockRow}
 use Rattle.quilt_points.specs.Searches.{IsSeen, IsSearch}
@@ -175,3 +177,6 @@ all_held n (Some p) h = one_pixel p h
     one_pixel : (p : Point) → is_pixel n p.at ≡ true → (k : ℕ) (d : Point) → k < length (p ∷ []) → is_pixel n (get_or (p ∷ []) k d).at ≡ true
     one_pixel p h zero d lt = h
     one_pixel p h (suc k) d lt = absurd (omega arith)
+
+pub spot_along : (old new : Option (List (List ℕ))) (t : Tree) (o : Option Spot) → new ≡ old → IsSpotIf old t o → IsSpotIf new t o
+spot_along old new t o e h = subst (λ (told : Option (List (List ℕ))). IsSpotIf told t o) (sym e) h

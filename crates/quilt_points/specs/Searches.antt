@@ -7,6 +7,7 @@ use Rattle.quilt_types.specs.Layers.{PointMap}
 use Rattle.quilt_record.specs.declared.record.Record.{Record}
 use Rattle.quilt_btree.specs.declared.tree.Tree.{Tree}
 use Rattle.quilt_btree.specs.Fingers.{IsFinger}
+use Rattle.quilt_btree.specs.Spots.{IsSpotIf}
 use Rattle.quilt_btree.specs.Trees.{IsTree}
 use Rattle.quilt_points.specs.declared.searching.Search.{Search}
 use Rattle.quilt_points.specs.Layers.{HasPoints}
@@ -19,7 +20,8 @@ pub record IsSeen (told : Option (List (List ℕ))) (t : Tree) (n capacity numbe
   pub row : (rs : List Record) → IsTree told t rs → HasRow n capacity number rs b
   pub read : (points : PointMap) → HasPoints told t number n capacity points → IsBlockRead n capacity points b held
 
--- the finger is in the tree, and the block that was found last is one that was seen
+-- the finger and the spot are in the tree, and the block that was found last is one that was seen
 pub record IsSearch (told : Option (List (List ℕ))) (t : Tree) (n capacity number : ℕ) (search : Search) : Type 0 where
   pub finger : IsFinger told t search.finger
+  pub spot : IsSpotIf told t search.spot
   pub last : IfSome search.last (λ v. IsSeen told t n capacity number v.0 v.1)

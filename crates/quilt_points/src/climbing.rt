@@ -9,13 +9,14 @@ ghost use Rattle.quilt_point_laws.specs.Laws.{AreIn};
 ghost use Rattle.quilt_store.specs.Calls.{OnlyReads};
 ghost use Rattle.quilt_world.specs.Tale.{Goes};
 ghost use Rattle.quilt_store.specs.Stops.{IsSound};
+ghost use Rattle.quilt_btree.specs.Spots.{IsSpotIf};
 ghost use Rattle.quilt_btree.specs.Trees.{IsRooted};
 ghost use Rattle.quilt_points.specs.Layers.{HasPoints, entries_of};
 ghost use Rattle.quilt_points.specs.Climbing.{IsOnWay};
 
 use crate::layer::PointLayer;
 use crate::listing::{Leaf, is_same, points_of};
-use quilt_btree::Tree;
+use quilt_btree::{Spot, Tree};
 use quilt_loc::{parent, quarters};
 use quilt_store::PageStore;
 use quilt_types::{Block, Point, Stop};
@@ -135,8 +136,9 @@ fn joined<S: PageStore>(
     ensures reads { IfOk result (λ _. Goes (λ old new. new ≤ old + (18 + 9 * layer.bucket)) (S.reads store.old) (S.reads store.new)) }
 {
     let mut all = Vec::new(alloc);
+    let mut spot = None;
     for q in quarters(up) {
-        match add_quarter(alloc, store, tree, layer, &mut all, q, leaf) {
+        match add_quarter(alloc, store, tree, layer, &mut spot, &mut all, q, leaf) {
             Err(e) => return Err(e),
             Ok(false) => return Ok(None),
             Ok(true) => {}
@@ -151,14 +153,17 @@ fn add_quarter<S: PageStore>(
     store: &mut S,
     tree: &Tree,
     layer: PointLayer,
+    spot: &mut Option<Spot>,
     all: &mut Vec<Point>,
     q: Block,
     leaf: &Leaf,
 ) -> Result<bool, Stop>
     requires rooted { IsRooted (S.size store.old) tree.now }
     requires block { IsBlock layer.level q }
+    requires spot { IsSpotIf (S.told store.old) tree.now spot.old }
     requires pixels { All (λ p. is_pixel layer.level p.at ≡ true) leaf.now.points.items }
     requires all { All (λ p. is_pixel layer.level p.at ≡ true) all.old.items }
+    ensures spot { OnOk result (IsSpotIf (S.told store.old) tree.now spot.new) }
     ensures leaf { IfOk result (λ yes. q ≡ leaf.now.block → (yes ≡ true) × (all.new.items ≡ all.old.items ++ leaf.now.points.items)) }
     ensures added { IfOk result (λ yes. q ≢ leaf.now.block → yes ≡ true → (here : List AnyPoint) × (all.new.items ≡ all.old.items ++ here)
         × ((points : PointMap) → HasPoints (S.told store.old) tree.now layer.number layer.level layer.bucket points → AreIn points q (entries_of here))) }
@@ -174,7 +179,7 @@ fn add_quarter<S: PageStore>(
     if is_same(q, leaf.block) {
         return add_all(all, &leaf.points);
     }
-    match points_of(alloc, store, tree, layer, q) {
+    match points_of(alloc, store, tree, layer, spot, q) {
         Err(e) => Err(e),
         Ok(None) => Ok(false),
         Ok(Some(here)) => add_all(all, &here),

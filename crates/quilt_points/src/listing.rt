@@ -9,6 +9,7 @@ ghost use Rattle.quilt_record.specs.declared.record.Record.{Record as AnyRecord}
 ghost use Rattle.quilt_store.specs.Calls.{OnlyReads};
 ghost use Rattle.quilt_world.specs.Tale.{Goes};
 ghost use Rattle.quilt_store.specs.Stops.{IsSound};
+ghost use Rattle.quilt_btree.specs.Spots.{IsSpotIf};
 ghost use Rattle.quilt_btree.specs.Trees.{IsRooted, IsTree};
 ghost use Rattle.quilt_points.specs.Layers.{HasPoints};
 ghost use Rattle.quilt_points.specs.Reads.{AreRecordsOf, IsHeld, IsRow};
@@ -16,7 +17,7 @@ ghost use Rattle.quilt_points.specs.Windows.{HasRow};
 
 use crate::layer::PointLayer;
 use crate::reading::{DAMAGED, block_around, block_of};
-use quilt_btree::Tree;
+use quilt_btree::{Spot, Tree};
 use quilt_record::{Key, Record, point_record};
 use quilt_store::PageStore;
 use quilt_types::{Block, Pixel, Point, Stop};
@@ -29,17 +30,20 @@ pub(crate) struct Leaf {
     pub points: Vec<Point>,
 }
 
-/// The points of a block, from the block's records: None exactly where it is none of the layer's blocks. It
-/// reads at most 6 pages, and 3 for each point that a block may hold.
+/// The points of a block, from the block's records: None exactly where it is none of the layer's blocks. The records may be in the leaf
+/// of a spot, which is put to theirs. It reads at most 6 pages, and 3 for each point that a block may hold.
 pub(crate) fn points_of<S: PageStore>(
     alloc: Global,
     store: &mut S,
     tree: &Tree,
     layer: PointLayer,
+    spot: &mut Option<Spot>,
     b: Block,
 ) -> Result<Option<Vec<Point>>, Stop>
     requires rooted { IsRooted (S.size store.old) tree.now }
     requires block { IsBlock layer.level b }
+    requires spot { IsSpotIf (S.told store.old) tree.now spot.old }
+    ensures spot { OnOk result (IsSpotIf (S.told store.old) tree.now spot.new) }
     ensures read { IfOk result (λ o. (points : PointMap) → HasPoints (S.told store.old) tree.now layer.number layer.level layer.bucket points
         → MatchOption o (Contains (point_blocks layer.level layer.bucket points) b → ⊥) (λ v. IsHeld layer.level layer.bucket points b v.items)) }
     ensures row { IfOk result (λ o. IfSome o (λ v. (rs : List AnyRecord) → IsTree (S.told store.old) tree.now rs
@@ -54,7 +58,7 @@ pub(crate) fn points_of<S: PageStore>(
         item: u32::MAX,
         ..low
     };
-    match tree.range(alloc, store, &low, &high, u32::from(layer.bucket)) {
+    match tree.range_from(alloc, store, spot, &low, &high, u32::from(layer.bucket)) {
         Err(e) => Err(e),
         Ok(records) => points_said(alloc, &records, layer, b),
     }
@@ -163,7 +167,8 @@ pub(crate) fn leaf_around<S: PageStore>(
                     Ok(points) => Ok(Leaf { block, points }),
                 };
             }
-            match points_of(alloc, store, tree, layer, block) {
+            let mut spot = None;
+            match points_of(alloc, store, tree, layer, &mut spot, block) {
                 Err(e) => Err(e),
                 Ok(None) => Err(DAMAGED),
                 Ok(Some(points)) => Ok(Leaf { block, points }),

@@ -12,16 +12,17 @@ ghost use Rattle.quilt_points.specs.Searches.{IsSeen, IsSearch};
 
 use crate::layer::PointLayer;
 use crate::reading::{block_said, key_behind};
-use quilt_btree::{Finger, Tree};
+use quilt_btree::{Finger, Spot, Tree};
 use quilt_loc::covers;
 use quilt_store::PageStore;
 use quilt_types::{Block, Pixel, Point, Stop};
 
-/// Where a search for the blocks of a point layer stands: its finger in the tree, and the block that it found last, with the
-/// point that the last record of this block says, if it says one.
+/// Where a search for the blocks of a point layer stands: its finger in the tree, the spot where it read all records of a block, and
+/// the block that it found last, with the point that the last record of this block says, if it says one.
 #[derive(Clone, Copy)]
 pub(crate) struct Search {
     finger: Option<Finger>,
+    pub spot: Option<Spot>,
     last: Option<(Block, Option<Point>)>,
 }
 
@@ -32,6 +33,7 @@ impl Search {
     {
         Search {
             finger: None,
+            spot: None,
             last: None,
         }
     }

@@ -159,7 +159,7 @@ fn visit<S: PageStore>(
             },
         };
     }
-    match points_of(alloc, store, tree, layer, b) {
+    match points_of(alloc, store, tree, layer, &mut search.spot, b) {
         Err(e) => Err(e),
         Ok(None) => Ok(false),
         Ok(Some(points)) => match add_inside(found, &points, w) {

@@ -52,10 +52,10 @@ fn open<S: PageStore, B: SegBlocks<S>>(
     requires low { B.level_of blocks.now ≤ 12 }
     requires block { IsBlock (B.level_of blocks.now) b }
     requires reached { (l : Lines) → B.shows blocks.now store.old l → is_reached l.cover b ≡ true }
-    requires known { Knows (B.level_of blocks.now) (B.shows blocks.now store.old) known.old }
+    requires known { Knows (B.level_of blocks.now) (B.shows blocks.now store.old) (B.marked blocks.now store.old) known.old }
     ensures opened { OnOk result (IsOpened (B.level_of blocks.now) p k b (B.shows blocks.now store.old) queue.old queue.new ranks.old ranks.new
         (S.reads store.old) (S.reads store.new)) }
-    ensures known { OnOk result (Knows (B.level_of blocks.now) (B.shows blocks.now store.old) known.new) }
+    ensures known { OnOk result (Knows (B.level_of blocks.now) (B.shows blocks.now store.old) (B.marked blocks.now store.old) known.new) }
     ensures sound { IfErr result (λ e. (l : Lines) → B.shows blocks.now store.old l → IsSound e) }
     ensures ended { IfErr result (EndsLook (B.looked blocks.now b) store.old store.new) }
     ensures looked { OnOk result (GivesPart (B.looked blocks.now b) store.old store.new) }

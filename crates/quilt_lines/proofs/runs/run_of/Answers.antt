@@ -1,4 +1,4 @@
-use Rattle.std.proofs.Common.{◌≡◌, ℕ, [], ◌∷◌, List, Contains, None, take, get_or, ⊎_elim, sym, ◌∙◌, ap, subst, arith}
+use Rattle.std.proofs.Common.{ℕ, [], ◌∷◌, List, Contains, take, get_or, ⊎_elim, sym, ◌∙◌, ap, subst, arith}
 use Rattle.std.proofs.lemmas.List.Elements.{Contains-append_left, Contains-append_right}
 use Rattle.quilt_loc.proofs.Members.{Contains-here}
 use Rattle.quilt_near.specs.Knowing.{known_seg}

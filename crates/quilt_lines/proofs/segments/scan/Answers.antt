@@ -1,9 +1,8 @@
-use Rattle.std.proofs.Common.{◌≡◌, ℕ, ◌+◌, ◌*◌, ◌≤◌, List, All, length, sym, ◌∙◌, ap, subst, arith, vec_len}
+use Rattle.std.proofs.Common.{◌≡◌, ◌+◌, ◌*◌, ◌≤◌, List, All, length, sym, ◌∙◌, subst, arith, vec_len}
 use Rattle.quilt_record.specs.declared.record.Record.{Record}
 use Rattle.quilt_near.proofs.Telling.{tells_weaker}
 use Rattle.std.proofs.lemmas.Result.{IfOk-weaker, IfErr-weaker}
 use Rattle.quilt_lines.proofs.Ranges.{segments_read}
-use Rattle.quilt_lines.proofs.Results.{if_ok_both}
 use Rattle.quilt_lines.proofs.Saying.{sound_zero, read_segments, all_of_layer}
 use Rattle.quilt_lines.specs.Said.{SaySegments}
 use Rattle.quilt_lines.proofs.segments.scan.Goals as goal

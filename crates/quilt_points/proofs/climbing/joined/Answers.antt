@@ -13,6 +13,7 @@ use Rattle.quilt_points.proofs.Quarters.{quarter_at}
 use Rattle.quilt_point_laws.specs.Laws.{AreIn}
 use Rattle.quilt_points.specs.Layers.{entries_of}
 use Rattle.quilt_points.proofs.Finds.{has_along}
+use Rattle.quilt_points.proofs.Singles.{spot_along}
 use Rattle.quilt_edits.proofs.Lists.{member_at}
 use Rattle.quilt_points.proofs.Unions.{AreOfAll, all_none}
 use Rattle.quilt_points.proofs.Bounds.{reads_none, reads_more, times_next, spared_next, spares, spared_here, spared_end}
@@ -33,8 +34,12 @@ loop-q-init g c = record {
   few = omega arith;
   reads = reads_none ((6 + 3 * c.args.layer.bucket) * 0) _;
   spared = λ j d lt e. absurd (omega arith);
+  spot = tt;
   left = only_reads_same _ tt _ (g.met.S.PageStore.same_time _);
 }
+
+pub add_quarter-requires-clause-spot : goal.add_quarter-requires-clause-spot
+add_quarter-requires-clause-spot g c = spot_along _ _ c.args.tree.now c.loop-q.spot c.loop-q.invariant.left.told c.loop-q.invariant.spot
 
 pub add_quarter-requires-clause-block : goal.add_quarter-requires-clause-block
 add_quarter-requires-clause-block g c =
@@ -90,6 +95,7 @@ loop-q-preserved g c =
           ∙ ap (λ i. get_or c.quarters-q-items.result i d) (sym at) ∙ e)))
           (cases_lt j c.loop-q.q-index);
       few = (let four = ap length are in let lt = c.loop-q-test.true in omega arith);
+      spot = spot_along _ _ c.args.tree.now c.add_quarter.new.spot (sym c.loop-q.invariant.left.told) c.in-Ok-true.ensures.spot;
       left = read_on _ g.met.S.PageStore.goes_on _ _ _ c.loop-q.invariant.left c.in-Ok-true.ensures.left;
     }
 

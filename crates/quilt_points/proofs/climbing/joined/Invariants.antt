@@ -7,6 +7,7 @@ use Rattle.quilt_types.specs.declared.plane.Block.{Block}
 use Rattle.quilt_types.specs.Plane.{is_pixel}
 use Rattle.quilt_types.specs.Layers.{PointMap}
 use Rattle.quilt_points.specs.Layers.{HasPoints, entries_of}
+use Rattle.quilt_btree.specs.Spots.{IsSpotIf}
 use Rattle.quilt_points.specs.Climbing.{IsOnWay}
 use Rattle.quilt_points.proofs.Unions.{AreOfAll}
 use Rattle.quilt_points.proofs.climbing.joined.Given as goal
@@ -23,5 +24,6 @@ invariant-loop-q g l = record {
   spared : (j : ℕ) (d : Block) → j < l.q-index → get_or l.q-items j d ≡ l.leaf.block
       → Goes {A = ℕ} (λ old new. new + (6 + 3 * l.layer.bucket) ≤ old + (6 + 3 * l.layer.bucket) * l.q-index) (g.S.PageStore.reads l.initial.store)
       (g.S.PageStore.reads l.store);
+  spot : IsSpotIf (g.S.PageStore.told l.initial.store) l.tree l.spot;
   left : IsOnlyRead g.S.PageStore l.initial.store l.store;
 }

@@ -20,14 +20,16 @@ loop-distance-init g c =
     record {
       going = subst (Going _ c.args.p c.args.k _ _ _ _) (sym c.new-ranks.ensures) first;
       left = only_reads_same _ tt _ (g.met.S.PageStore.same_time c.args.store.now);
-      known = knows_nothing _ _ c.new-known.result c.new-known.ensures.block c.new-known.ensures.segs;
+      known = knows_nothing _ _ _ c.new-known.result c.new-known.ensures.block c.new-known.ensures.pairs c.new-known.ensures.ids
+          c.new-known.ensures.segs;
       ended = inr (refl, refl);
     }
 
 pub open-requires-clause-known : goal.open-requires-clause-known
 open-requires-clause-known g c =
-    knows_where _ (g.B.SegBlocks.shows c.args.blocks.now c.args.store.now) _ c.loop-distance.known
+    knows_where _ (g.B.SegBlocks.shows c.args.blocks.now c.args.store.now) _ (g.B.SegBlocks.marked c.args.blocks.now c.args.store.now) _ c.loop-distance.known
     (λ l s. g.met.B.SegBlocks.same c.args.blocks.now c.loop-distance.store c.args.store.now l (sym c.loop-distance.invariant.left.told) s)
+    (λ m s. g.met.B.SegBlocks.same_marks c.args.blocks.now c.args.store.now c.loop-distance.store m c.loop-distance.invariant.left.told s)
     c.loop-distance.invariant.known
 
 pub open-requires-clause-block : goal.open-requires-clause-block
@@ -70,8 +72,9 @@ loop-distance-preserved g c =
           (λ l s. g.met.B.SegBlocks.same c.args.blocks.now c.args.store.now c.loop-distance.store l i.left.told s)
           c.in-Some.ensures.least (sym c.is_past.ensures ∙ c.if-is_past.false) c.in-Ok-open.ensures.opened;
       left = read_on _ g.met.S.PageStore.goes_on c.args.store.now c.loop-distance.store c.open.new.store i.left c.open.ensures.left;
-      known = knows_where _ (g.B.SegBlocks.shows c.args.blocks.now c.loop-distance.store) _ c.open.new.known
-          (λ l s. g.met.B.SegBlocks.same c.args.blocks.now c.args.store.now c.loop-distance.store l i.left.told s) c.in-Ok-open.ensures.known;
+      known = knows_where _ (g.B.SegBlocks.shows c.args.blocks.now c.loop-distance.store) _ (g.B.SegBlocks.marked c.args.blocks.now c.loop-distance.store) _ c.open.new.known
+          (λ l s. g.met.B.SegBlocks.same c.args.blocks.now c.args.store.now c.loop-distance.store l i.left.told s)
+          (λ m s. g.met.B.SegBlocks.same_marks c.args.blocks.now c.loop-distance.store c.args.store.now m (sym i.left.told) s) c.in-Ok-open.ensures.known;
       ended = inl (c.in-Some.block, c.loop-distance.store, inr (refl, c.in-Ok-open.ensures.looked));
     }
 

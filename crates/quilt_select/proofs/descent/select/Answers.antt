@@ -15,13 +15,15 @@ loop-block-init g c =
           c.push.new.self c.new-found.result.entries _ c.args.windows.items c.new-stack.result (c.whole_square.ensures ∙ ap whole c.level.ensures.value)
           refl c.new-stack.ensures c.in-Ok.ensures c.new-found.ensures.empty;
       left = only_reads_same _ tt _ (g.met.S.PageStore.same_time c.args.store.now);
-      known = knows_nothing _ _ c.new-known.result c.new-known.ensures.block c.new-known.ensures.segs;
+      known = knows_nothing _ _ _ c.new-known.result c.new-known.ensures.block c.new-known.ensures.pairs c.new-known.ensures.ids
+          c.new-known.ensures.segs;
     }
 
 pub open-requires-clause-known : goal.open-requires-clause-known
 open-requires-clause-known g c =
-    knows_where _ (g.B.SegBlocks.shows c.args.blocks.now c.args.store.now) _ c.loop-block.known
+    knows_where _ (g.B.SegBlocks.shows c.args.blocks.now c.args.store.now) _ (g.B.SegBlocks.marked c.args.blocks.now c.args.store.now) _ c.loop-block.known
     (λ l s. g.met.B.SegBlocks.same c.args.blocks.now c.loop-block.store c.args.store.now l (sym c.loop-block.invariant.left.told) s)
+    (λ m s. g.met.B.SegBlocks.same_marks c.args.blocks.now c.args.store.now c.loop-block.store m c.loop-block.invariant.left.told s)
     c.loop-block.invariant.known
 
 pub open-requires-clause-block : goal.open-requires-clause-block
@@ -68,8 +70,9 @@ loop-block-preserved g c =
           c.pop.new.self c.open.new.stack c.loop-block.found.entries c.open.new.found.entries (g.S.PageStore.reads c.loop-block.store)
           (g.S.PageStore.reads c.open.new.store)) c.deref-in-Some.ensures.value c.in-Ok-open.ensures.opened);
       left = read_on _ g.met.S.PageStore.goes_on c.args.store.now c.loop-block.store c.open.new.store i.left c.open.ensures.left;
-      known = knows_where _ (g.B.SegBlocks.shows c.args.blocks.now c.loop-block.store) _ c.open.new.known
-          (λ l s. g.met.B.SegBlocks.same c.args.blocks.now c.args.store.now c.loop-block.store l i.left.told s) c.in-Ok-open.ensures.known;
+      known = knows_where _ (g.B.SegBlocks.shows c.args.blocks.now c.loop-block.store) _ (g.B.SegBlocks.marked c.args.blocks.now c.loop-block.store) _ c.open.new.known
+          (λ l s. g.met.B.SegBlocks.same c.args.blocks.now c.args.store.now c.loop-block.store l i.left.told s)
+          (λ m s. g.met.B.SegBlocks.same_marks c.args.blocks.now c.loop-block.store c.args.store.now m (sym i.left.told) s) c.in-Ok-open.ensures.known;
     }
 
 pub returns-clause-selected : goal.returns-clause-selected

@@ -1,4 +1,4 @@
-use Rattle.std.proofs.Common.{None, Some, sym, eqb-true}
+use Rattle.std.proofs.Common.{sym, eqb-true}
 use Rattle.quilt_lines.proofs.Found.{pair_there}
 use Rattle.quilt_lines.proofs.view.LineView.block_of.Goals as goal
 

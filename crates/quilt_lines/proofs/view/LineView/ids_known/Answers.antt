@@ -22,4 +22,4 @@ pub returns-then-is_none-clause-known : goal.returns-then-is_none-clause-known
 returns-then-is_none-clause-known g c = on_ok_weaker c.ids_first.result (λ f t segs cover h had. f t segs cover h) c.ids_first.ensures.known
 
 pub returns-clause-ids : goal.returns-clause-ids
-returns-clause-ids g c = IfOk-weaker c.ids_at.result _ _ (λ o f t segs cover h had. f t segs cover h) c.ids_at.ensures.ids
+returns-clause-ids g c = IfOk-weaker c.ids_from.result _ _ (λ o f t segs cover h had. f t segs cover h) c.ids_from.ensures.ids

@@ -7,5 +7,5 @@ use Rattle.quilt_lines.proofs.view.LineView.last_at.Goals as goal
 
 pub returns-clause-last : goal.returns-clause-last
 returns-clause-last g c =
-    IfOk-weaker c.floor_near.result _ _ (λ o f rs is. f rs is ∙ ap (λ (k : Key). floor_of k rs) (ap (λ (r : Record). r.key) (c.pair_record.ensures.written [])))
-    c.floor_near.ensures.floor
+    IfOk-weaker c.floor_from.result _ _ (λ o f rs is. f rs is ∙ ap (λ (k : Key). floor_of k rs) (ap (λ (r : Record). r.key) (c.pair_record.ensures.written [])))
+    c.floor_from.ensures.floor

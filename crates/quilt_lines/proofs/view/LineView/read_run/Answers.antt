@@ -62,7 +62,8 @@ loop-r-preserved g c =
     let next = i.next in
     record {
       next = omega arith;
-      known = knows_more c.loop-r.known c.keep.new.self id c.in-Some.s here others _ _ i.known c.in-Ok-keep.ensures.block c.in-Some.ensures.inside
+      known = knows_more c.loop-r.known c.keep.new.self id c.in-Some.s here others _ _ _ i.known c.in-Ok-keep.ensures.block c.in-Ok-keep.ensures.pairs
+          c.in-Ok-keep.ensures.ids c.in-Some.ensures.inside
           (λ l h.
           let w = said_is (g.S.PageStore.told c.args.store.now) self.tree self.layer self.level h.threshold l.segs l.cover run.first (run.last - run.first + 1)
           _ _ c.deref-r-items.result.now c.segment_key-low.ensures

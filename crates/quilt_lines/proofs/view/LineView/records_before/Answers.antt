@@ -12,8 +12,8 @@ returns-then-k-eq0-clause-before g c rs is same =
 
 pub returns-clause-before : goal.returns-clause-before
 returns-clause-before g c =
-    IfOk-weaker c.range.result _ _ (λ v f rs is same.
+    IfOk-weaker c.range_from.result _ _ (λ v f rs is same.
     f rs is
     ∙ range_before rs (tree_rises (g.S.PageStore.told c.args.store.now) c.args.self.now.tree rs is)
     (tree_few (g.S.PageStore.told c.args.store.now) c.args.self.now.tree rs c.requires.rooted.height is) c.args.low.now c.args.k.now
-    (let some = c.if-k-eq0.false in omega arith)) c.range.ensures.range
+    (let some = c.if-k-eq0.false in omega arith)) c.range_from.ensures.range

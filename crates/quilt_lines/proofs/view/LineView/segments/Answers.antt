@@ -1,5 +1,4 @@
-use Rattle.std.proofs.Common.{ℕ, ◌*◌, true, [], ◌∷◌, List, All, length, get_or, sym, ◌∙◌, ap, subst, arith, length-append}
-use Rattle.std.specs.FinMap as finmap
+use Rattle.std.proofs.Common.{ℕ, ◌*◌, [], ◌∷◌, List, All, length, get_or, sym, ◌∙◌, ap, subst, arith, length-append}
 use Rattle.std.proofs.lemmas.List.Elements.{All-append}
 use Rattle.quilt_store.proofs.Reading.{only_reads_then, read_on, only_reads_err}
 use Rattle.quilt_types.specs.declared.plane.Seg.{Seg}
@@ -8,6 +7,7 @@ use Rattle.quilt_lines.specs.Said.{SaySegment}
 use Rattle.quilt_lines.proofs.Listed.{all_one}
 use Rattle.quilt_lines.proofs.Lookups.{lines_along}
 use Rattle.quilt_lines.proofs.Saying.{tree_along}
+use Rattle.quilt_lines.proofs.Spots.{spot_along}
 use Rattle.quilt_lines.proofs.Sums.{reads_sum}
 use Rattle.quilt_lines.proofs.Taken.{taken_more}
 use Rattle.quilt_lines.proofs.view.LineView.segments.Goals as goal
@@ -32,6 +32,7 @@ loop-id-preserved g c =
           let P = λ (e : ℕ × Seg). SaySegment c.args.self.now.level c.args.self.now.layer rs e.0 e.1 in
           subst (All P) (sym a.1) (All-append P c.loop-id.list more (c.loop-id.invariant.said rs is)
           (all_one P (id, a.0) (a.4 rs (tree_along _ _ c.args.self.now.tree rs c.loop-id.invariant.left.told is))));
+      spot = spot_along _ _ c.args.self.now.tree c.add_segment.new.spot (sym c.loop-id.invariant.left.told) c.in-Ok.ensures.spot;
       left = read_on _ g.met.S.PageStore.goes_on _ _ _ c.loop-id.invariant.left c.in-Ok.ensures.left;
       reads = reads_sum _ _ _ (3 * length c.loop-id.list) 3 (3 * length c.add_segment.new.list) (omega arith) c.loop-id.invariant.reads c.in-Ok.ensures.reads;
     }

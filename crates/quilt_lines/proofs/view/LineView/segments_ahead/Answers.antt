@@ -1,4 +1,4 @@
-use Rattle.std.proofs.Common.{◌≡◌, ℕ, ◌+◌, ◌-◌, ◌*◌, count_by, length, arith}
+use Rattle.std.proofs.Common.{◌+◌, ◌-◌, ◌*◌, count_by, length, arith}
 use Rattle.std.specs.Option.{is_none}
 use Rattle.std.proofs.lemmas.Result.{IfErr-weaker, on_ok_weaker}
 use Rattle.quilt_near.specs.Knowing.{known_seg}

@@ -1,23 +1,23 @@
-use Rattle.std.proofs.Common.{◌+◌, ◌*◌, ◌≤◌, true, get_or, arith}
-use Rattle.std.specs.FinMap as finmap
+use Rattle.std.proofs.Common.{◌+◌, ◌*◌, ◌≤◌, get_or, subst, arith}
 use Rattle.quilt_store.proofs.Reading.{read_on}
 use Rattle.quilt_near.specs.Knowing.{known_seg, many_known}
 use Rattle.quilt_near.proofs.Knowing.{knows_where}
 use Rattle.quilt_near.proofs.Telling.{tells_then}
 use Rattle.quilt_edits.proofs.Lists.{member_at}
+use Rattle.quilt_lines.specs.Marks.{IsMark}
 use Rattle.quilt_lines.proofs.Lookups.{shows_along}
 use Rattle.quilt_lines.proofs.Saying.{tree_along}
 use Rattle.quilt_lines.proofs.Followers.{unknown_more}
 use Rattle.quilt_lines.proofs.Taken.{taken_more}
 use Rattle.quilt_lines.proofs.view.LineView.segments_known.Goals as goal
 
-pub returns-in-Err-clause-zero : goal.returns-in-Err-clause-zero
-returns-in-Err-clause-zero g c rs is = c.in-Err.ensures.zero rs (tree_along _ _ c.args.self.now.tree rs c.loop-id.invariant.left.told is)
+pub returns-in-Err-segment_known-clause-zero : goal.returns-in-Err-segment_known-clause-zero
+returns-in-Err-segment_known-clause-zero g c rs is = c.in-Err-segment_known.ensures.zero rs (tree_along _ _ c.args.self.now.tree rs c.loop-id.invariant.left.told is)
 
-pub returns-in-Err-clause-sound : goal.returns-in-Err-clause-sound
-returns-in-Err-clause-sound g c l h all =
+pub returns-in-Err-segment_known-clause-sound : goal.returns-in-Err-segment_known-clause-sound
+returns-in-Err-segment_known-clause-sound g c l h all =
     let w = all _ (member_at c.args.ids.now c.loop-id.id-index _ c.loop-id-test.true) in
-    c.in-Err.ensures.sound l
+    c.in-Err-segment_known.ensures.sound l
     (shows_along _ _ c.args.self.now.tree c.args.self.now.layer c.args.self.now.level l c.loop-id.invariant.left.told h) w.0 w.1
 
 pub loop-id-preserved : goal.loop-id-preserved
@@ -27,15 +27,16 @@ loop-id-preserved g c =
     let before = many_known c.loop-id.known in
     let after = many_known c.segment_known.new.known in
     record {
-      taken = taken_more c.args.ids.now c.loop-id.id-index _ c.in-Ok.s _ c.loop-id.invariant.taken c.loop-id-test.true c.in-Ok-push.ensures.ok c.in-Ok.ensures.inside
-          (λ m h. c.in-Ok.ensures.found m
+      taken = taken_more c.args.ids.now c.loop-id.id-index _ c.in-Ok-segment_known.s _ c.loop-id.invariant.taken c.loop-id-test.true c.in-Ok-push.ensures.ok c.in-Ok-segment_known.ensures.inside
+          (λ m h. c.in-Ok-segment_known.ensures.found m
           (shows_along _ _ c.args.self.now.tree c.args.self.now.layer c.args.self.now.level m c.loop-id.invariant.left.told h));
-      known = knows_where _ _ _ c.segment_known.new.known
-          (λ l h. shows_along _ _ c.args.self.now.tree c.args.self.now.layer c.args.self.now.level l c.loop-id.invariant.left.told h) c.in-Ok.ensures.known;
-      stays = λ q s e. c.in-Ok.ensures.stays q s (c.loop-id.invariant.stays q s e);
-      left = read_on _ g.met.S.PageStore.goes_on _ _ _ c.loop-id.invariant.left c.in-Ok.ensures.left;
+      known = knows_where _ _ _ (IsMark (g.S.PageStore.told c.loop-id.store) c.args.self.now.tree) _ c.segment_known.new.known
+          (λ l h. shows_along _ _ c.args.self.now.tree c.args.self.now.layer c.args.self.now.level l c.loop-id.invariant.left.told h)
+          (λ m h. subst (λ o. IsMark o c.args.self.now.tree m) c.loop-id.invariant.left.told h) c.in-Ok-segment_known.ensures.known;
+      stays = λ q s e. c.in-Ok-segment_known.ensures.stays q s (c.loop-id.invariant.stays q s e);
+      left = read_on _ g.met.S.PageStore.goes_on _ _ _ c.loop-id.invariant.left c.in-Ok-segment_known.ensures.left;
       reads = unknown_more (known_seg c.args.known.now) (known_seg c.loop-id.known) c.args.ids.now c.loop-id.id-index _ c.loop-id-test.true
-          (λ s e. c.loop-id.invariant.stays id s e) _ _ _ c.loop-id.invariant.reads c.in-Ok.ensures.reads c.in-Ok.ensures.again;
+          (λ s e. c.loop-id.invariant.stays id s e) _ _ _ c.loop-id.invariant.reads c.in-Ok-segment_known.ensures.reads c.in-Ok-segment_known.ensures.again;
       fresh = tells_then (λ x y. y + 3 * initial ≤ x + 3 * before) (λ x y. y + 3 * before ≤ x + 3 * after) (λ x y. y + 3 * initial ≤ x + 3 * after)
-          (λ x y z p q. omega arith) _ _ _ c.loop-id.invariant.fresh c.in-Ok.ensures.fresh;
+          (λ x y z p q. omega arith) _ _ _ c.loop-id.invariant.fresh c.in-Ok-segment_known.ensures.fresh;
     }

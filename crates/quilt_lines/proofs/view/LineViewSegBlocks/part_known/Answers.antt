@@ -23,8 +23,9 @@ returns-in-Ok-None-clause-part g c l h =
 
 pub returns-in-Ok-None-clause-known : goal.returns-in-Ok-None-clause-known
 returns-in-Ok-None-clause-known g c =
-    knows_block _ _ c.args.known.now _ refl
-    (λ l h. c.in-Ok-None.ensures.known h.threshold l.segs l.cover h.has (c.requires.known.block l h)) c.requires.known
+    knows_block _ _ _ c.args.known.now _ refl
+    (λ l h. c.in-Ok-None.ensures.known h.threshold l.segs l.cover h.has (c.requires.known.block l h))
+    (c.mark_of-known.ensures (g.S.PageStore.told c.args.store.now) c.args.self.now.tree c.in-Ok-None.ensures.spot) c.requires.known.ids c.requires.known
 
 pub returns-in-Err-segments_ahead-clause-sound : goal.returns-in-Err-segments_ahead-clause-sound
 returns-in-Err-segments_ahead-clause-sound g c l h =

@@ -3,7 +3,7 @@ use Rattle.std.proofs.lemmas.Option.{none-some}
 use Rattle.quilt_record.proofs.Readers.{pair_same}
 use Rattle.quilt_lines.proofs.Lookups.{none_found, found}
 use Rattle.quilt_lines.proofs.Saying.{sound_zero, segment_at, none_at}
-use Rattle.quilt_lines.proofs.view.LineView.segment.Goals as goal
+use Rattle.quilt_lines.proofs.view.LineView.segment_from.Goals as goal
 
 pub returns-in-Err-clause-sound : goal.returns-in-Err-clause-sound
 returns-in-Err-clause-sound g c t segs cover h = c.in-Err.ensures.sound h.records h.is_tree

@@ -1,4 +1,4 @@
-use Rattle.std.proofs.Common.{[], ◌≡◌, ◌+◌, ◌*◌, ◌≤◌, List, length, refl, sym, ◌∙◌, ap, subst, arith}
+use Rattle.std.proofs.Common.{[], ◌≡◌, ◌+◌, ◌*◌, ◌≤◌, List, length, refl, ◌∙◌, ap, subst, arith}
 use Rattle.std.specs.Prelude.{MatchOption, vec_len}
 use Rattle.std.proofs.lemmas.Result.{IfOk-weaker, IfErr-weaker}
 use Rattle.quilt_record.specs.declared.record.Record.{Record}
@@ -8,7 +8,7 @@ use Rattle.quilt_lines.proofs.Ranges.{block_read}
 use Rattle.quilt_lines.proofs.Results.{if_ok_both}
 use Rattle.quilt_lines.proofs.Saying.{sound_zero, read_at}
 use Rattle.quilt_lines.proofs.Sums.{reads_ids}
-use Rattle.quilt_lines.proofs.view.LineView.ids_at.Goals as goal
+use Rattle.quilt_lines.proofs.view.LineView.ids_from.Goals as goal
 
 pub returns-in-Err-clause-sound : goal.returns-in-Err-clause-sound
 returns-in-Err-clause-sound g c t segs cover h = c.in-Err.ensures.sound h.records h.is_tree
