@@ -1,11 +1,10 @@
 -- Hexadecimal digits by their table, and the bytes that two of them spell.
 use Rattle.std.proofs.Common.{◌≡◌, ℕ, ◌+◌, ◌*◌, ◌<◌, ◌≤◌, max, List, ◌∷◌, Option, Some, None, unwrap_or, map, get_or, IfSome, refl, ◌∙◌, ap, arith}
 use Rattle.std.proofs.Common.{◌⊎◌, inl, inr, nat_le}
-use Rattle.std.proofs.lemmas.Bool.{leb-true, leb-false}
+use Rattle.std.proofs.lemmas.Bool.{leb-true, leb-false, cases_Bool}
 use Rattle.std.specs.List.{range_with_len}
 use Rattle.std.proofs.lemmas.List.FromFn.{get_or-map-range_with_len}
 use Rattle.quilt_words.specs.Spelling.{hex_digit, row, cons_both}
-use Rattle.quilt_words.proofs.Cases.{bool_cases}
 use Rattle.quilt_words.proofs.Holding.{digit_low}
 use Rattle.quilt_lang.specs.declared.spelled.TheConstants.{DIGITS}
 use Rattle.quilt_lang.specs.Spelled.{with_byte}
@@ -47,7 +46,7 @@ two_digits c d h l rest first second low =
 -- and two bytes of which one is no digit
 pub no_digits : (c d h l : ℕ) (rest : List ℕ) → h ≡ unwrap_or (hex_digit c) 16 → l ≡ unwrap_or (hex_digit d) 16 → 15 < max h l →
     row (c ∷ d ∷ rest) ≡ with_byte None (row rest)
-no_digits c d h l rest first second high = elim (bool_cases (nat_le h 15)) [
+no_digits c d h l rest first second high = elim (cases_Bool (nat_le h 15)) [
   | inl low ↦
       let small : h ≤ 15 = leb-true h 15 low in
       one_missing (hex_digit c) (hex_digit d) (row rest) (inr (no_digit (hex_digit d) l second (digit_low d) (omega (arith, small, high))))

@@ -5,7 +5,7 @@ use Rattle.std.specs.Prelude.{filter, position}
 use Rattle.std.specs.List.{range_with_len, position_or_len}
 use Rattle.std.proofs.Math.Seq.{get_or-append_seam}
 use Rattle.std.proofs.lemmas.Bool.Decides.{nat_tests}
-use Rattle.std.proofs.lemmas.Bool.{cases_lt}
+use Rattle.std.proofs.lemmas.Bool.{cases_lt, lt-ltb}
 use Rattle.std.specs.Option.{is_some}
 use Rattle.std.proofs.lemmas.List.{replicate-append-replicate}
 use Rattle.quilt_store.specs.Store.{count_free}
@@ -65,16 +65,13 @@ first_below (false ∷ free) h =
     let rest = first_below free some in
     omega arith
 
-lt_test : (m n : ℕ) → m < n → nat_lt m n ≡ true
-lt_test m n h = grind (arith, nat_tests)
-
 -- a page that is free is found
 pub found : (free : List Bool) (size : ℕ) → AreFromOne free size → length free ≡ size → 1 ≤ size → 0 < count_free (is_free free) size
     → IsSome (position (λ b. b) free)
 found free size f e some h =
     let many : 0 < count free = subst (λ n. 0 < n) (count_of_free free size f e some) h in
     let at = position_or_len (λ b. b) free in
-    ap (λ b. is_some (cond b (Some at) None)) (lt_test at (length free) (first_below free many))
+    ap (λ b. is_some (cond b (Some at) None)) (lt-ltb at (length free) (first_below free many))
 
 still_free : (free : List Bool) (i page : ℕ) → is_free (set free i false) page ≡ true → is_free free page ≡ true
 still_free [] i page h = h
@@ -185,7 +182,7 @@ one_counted zero c b e h =
     omega arith
 one_counted (suc n) c b e h =
     let some : 0 < suc n = omega arith in
-    let one : cond {A = ℕ} b 1 0 ≡ 1 = ap (λ d. cond {A = ℕ} d 1 0) (e ∙ lt_test 0 (suc n) some) in
+    let one : cond {A = ℕ} b 1 0 ≡ 1 = ap (λ d. cond {A = ℕ} d 1 0) (e ∙ lt-ltb 0 (suc n) some) in
     omega arith
 
 pub one_more : (pages : List (List ℕ)) (free : List Bool) (n : ℕ) (b : Bool) → b ≡ nat_lt 0 n → AreFresh pages free n
@@ -209,4 +206,4 @@ one_more pages free n b e f = record {
     here page h k ge =
         let at : page ≡ length free = omega (arith, f.tests) in
         let some : 0 < n = omega arith in
-        ap (is_free (free ++ b ∷ [])) at ∙ get_or-append_seam free b [] false ∙ e ∙ lt_test 0 n some
+        ap (is_free (free ++ b ∷ [])) at ∙ get_or-append_seam free b [] false ∙ e ∙ lt-ltb 0 n some

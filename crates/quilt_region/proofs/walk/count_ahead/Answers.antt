@@ -4,7 +4,7 @@ use Rattle.quilt_store.proofs.Reading.{only_reads_then, only_reads_same, read_on
 use Rattle.quilt_blocks.specs.Cutting.{leaves_by_code}
 use Rattle.quilt_loc.proofs.Blocks.{IsBlock-up}
 use Rattle.quilt_blocks.proofs.Chains.{member_pos}
-use Rattle.quilt_region.proofs.Counting.{reads_then}
+use Rattle.quilt_world.proofs.ReadCounts.{reads_then}
 use Rattle.quilt_region.proofs.Walking.{ahead_along, square_end, none_counted, leaf_ahead, count_next, all_counted, counts_most}
 use Rattle.quilt_region.proofs.walk.count_ahead.Goals as goal
 

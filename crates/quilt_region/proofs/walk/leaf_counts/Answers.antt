@@ -2,7 +2,7 @@ use Rattle.std.proofs.Common.{◌+◌, ◌*◌, cond, length, ◌∙◌, arith}
 use Rattle.std.proofs.lemmas.Result.{IfOk-weaker, IfErr-weaker}
 use Rattle.quilt_blocks.specs.Cutting.{leaves_by_code}
 use Rattle.quilt_measure.proofs.Parts.{same_leaves}
-use Rattle.quilt_region.proofs.Counting.{reads_then}
+use Rattle.quilt_world.proofs.ReadCounts.{reads_then}
 use Rattle.quilt_region.proofs.Walking.{ahead_along, has_side, some_records, walk_begins}
 use Rattle.quilt_region.proofs.walk.leaf_counts.Goals as goal
 

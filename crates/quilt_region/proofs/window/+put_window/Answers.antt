@@ -14,7 +14,7 @@ use Rattle.quilt_btree.specs.Trees.{IsRooted}
 use Rattle.quilt_region.specs.Regions.{HasRegion}
 use Rattle.quilt_region.specs.Windows.{leaves_within}
 use Rattle.quilt_region.specs.Covers.{cover_of, cover_colour, cost_in}
-use Rattle.quilt_region.proofs.Counting.{reads_then, reads_more}
+use Rattle.quilt_world.proofs.ReadCounts.{reads_then, reads_more}
 use Rattle.quilt_region.proofs.Covers.{beside_cover, met_cover, in_cover, wide_over, half_over, cost_here, cost_quarters, quarter_sum}
 use Rattle.quilt_region.proofs.Parts.{block_room, window_room, HasColours-push}
 use Rattle.quilt_region.proofs.window.+put_window.Goals as goal

@@ -10,7 +10,7 @@ use Rattle.quilt_blocks.proofs.Adding.{whole_next}
 use Rattle.quilt_region.specs.Painting.{HasColours}
 use Rattle.quilt_region.specs.Windows.{leaves_within}
 use Rattle.quilt_region.specs.Covers.{cover_of, cover_colour, cost_in}
-use Rattle.quilt_region.proofs.Counting.{reads_more}
+use Rattle.quilt_world.proofs.ReadCounts.{reads_more}
 use Rattle.quilt_region.proofs.Covers.{agrees_from, side_same, cost_whole}
 use Rattle.quilt_region.proofs.Parts.{window_room}
 use Rattle.quilt_region.proofs.window.read_window.Goals as goal

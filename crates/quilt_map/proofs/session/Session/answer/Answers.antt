@@ -1,10 +1,11 @@
 use Rattle.std.proofs.Common.{None, sym, ap}
+use Rattle.std.proofs.lemmas.Bool.{both_ways}
 use Rattle.quilt_words.specs.declared.command.Command.TheVariants as commands
 use Rattle.quilt_map.specs.Asking.{reads_in}
 use Rattle.quilt_map.specs.Sessions.{IsAt, IsAtState, warm_of}
 use Rattle.quilt_map.specs.Steps.{gives_edition, goes_back}
 use Rattle.quilt_map.proofs.questions.Bounded.{at_reads, other_than_at, warm_none}
-use Rattle.quilt_map.proofs.answers.Commanded.{applied_going, applied_forgets, applied_warm, keeps_state, never_both, refused_still}
+use Rattle.quilt_map.proofs.answers.Commanded.{applied_going, applied_forgets, applied_warm, keeps_state, refused_still}
 use Rattle.quilt_map.proofs.states.Going.{goes_of}
 use Rattle.quilt_map.proofs.questions.Warming.{cold, is_again}
 use Rattle.quilt_map.proofs.session.Session.answer.Goals as goal
@@ -24,7 +25,7 @@ returns-in-At-clause-applied g c =
     c.at.result c.in-At.is e.reads)
     (refused_still {D = g.W.Disk} old new c.at.result e.keeps) c.requires.ready
     (goes_of {D = g.W.Disk} old.book new.book e.keeps.book.later) (ap gives_edition c.in-At.is)
-    (λ is. absurd (never_both (goes_back command) (ap goes_back c.in-At.is) is))
+    (λ is. absurd (both_ways (goes_back command) (ap goes_back c.in-At.is) is))
     (λ is. keeps_state {D = g.W.Disk} old new (g.met.W.Disk.is_consistent new.book.world) e.keeps))
 
 pub returns-in_default-clause-applied : goal.returns-in_default-clause-applied

@@ -1,4 +1,5 @@
 use Rattle.std.proofs.Common.{refl, sym, ap}
+use Rattle.std.proofs.lemmas.Bool.{both_ways}
 use Rattle.quilt_words.specs.declared.command.Command.TheVariants as commands
 use Rattle.quilt_map.specs.Asking.{reads_in}
 use Rattle.quilt_map.specs.Reading.{is_bounded}
@@ -6,7 +7,7 @@ use Rattle.quilt_map.specs.Selecting.{layer_asked}
 use Rattle.quilt_map.specs.Sessions.{IsAtState}
 use Rattle.quilt_map.specs.Steps.{asks, gives_edition, goes_back}
 use Rattle.quilt_map.proofs.questions.Bounded.{unbounded_else, unbounded_reads, find_reads, ask_reads, show_reads, within_reads, blocks_reads, window_reads}
-use Rattle.quilt_map.proofs.answers.Commanded.{applied_asking, applied_going, applied_giving, asks_else, fitting_here, fitting_of, keeps_state, never_both}
+use Rattle.quilt_map.proofs.answers.Commanded.{applied_asking, applied_going, applied_giving, asks_else, fitting_here, fitting_of, keeps_state}
 use Rattle.quilt_map.proofs.answers.Commanded.{sound_at, refused_still, quiet_else, forward_else, quiet_revert}
 use Rattle.quilt_map.proofs.answers.Asked.{if_ok, if_err}
 use Rattle.quilt_map.proofs.states.Going.{goes_of}
@@ -65,7 +66,7 @@ returns-in-Revert g c =
     (unbounded_reads (IsAtState {D = g.W.Disk} old) (reads_in {D = g.W.Disk} old.book) (reads_in {D = g.W.Disk} new.book) command c.revert.result
     (ap is_bounded c.in-Revert.is)) e.refused
     c.requires.ready e.goes_on (quiet_revert command c.in-Revert.is) (λ is. (e.world, e.whole))
-    (λ is. absurd (never_both (asks command) (asks_else command c.in-Revert.is) is))
+    (λ is. absurd (both_ways (asks command) (asks_else command c.in-Revert.is) is))
 
 pub returns-in-Find : goal.returns-in-Find
 returns-in-Find g c =
@@ -135,8 +136,8 @@ returns-in-Window g c =
     (window_reads (IsAtState {D = g.W.Disk} old) (reads_in {D = g.W.Disk} old.book) (reads_in {D = g.W.Disk} new.book) command _ _ _ c.derive.result
     c.in-Window.is e.reads) e.refused
     c.requires.ready e.goes_on (ap gives_edition c.in-Window.is)
-    (λ is. absurd (never_both (goes_back command) (ap goes_back c.in-Window.is) is))
-    (λ is. absurd (never_both (asks command) (ap asks c.in-Window.is) is))
+    (λ is. absurd (both_ways (goes_back command) (ap goes_back c.in-Window.is) is))
+    (λ is. absurd (both_ways (asks command) (ap asks c.in-Window.is) is))
 
 pub returns-in_default : goal.returns-in_default
 returns-in_default g c =
@@ -149,5 +150,5 @@ returns-in_default g c =
     (unbounded_reads (IsAtState {D = g.W.Disk} old) (reads_in {D = g.W.Disk} old.book) (reads_in {D = g.W.Disk} new.book) command c.serve.result
     (unbounded_else command d.not-At d.not-Find d.not-Cross d.not-Clip d.not-Nearest d.not-Rank d.not-Show d.not-Within d.not-Blocks d.not-Window))
     e.refused c.requires.ready e.goes_on (quiet_else command d.not-Publish d.not-Upgrade)
-    (λ is. absurd (never_both (goes_back command) (forward_else command d.not-Revert) is))
+    (λ is. absurd (both_ways (goes_back command) (forward_else command d.not-Revert) is))
     (λ is. keeps_state {D = g.W.Disk} old new (g.met.W.Disk.is_consistent new.book.world) (e.keeps is))

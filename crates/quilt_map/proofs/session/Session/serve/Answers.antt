@@ -1,4 +1,5 @@
 use Rattle.std.proofs.Common.{refl, sym, ap, subst}
+use Rattle.std.proofs.lemmas.Bool.{both_ways}
 use Rattle.quilt_words.specs.declared.command.Command.{Command}
 use Rattle.quilt_words.specs.declared.command.Command.TheVariants as commands
 use Rattle.quilt_map.specs.Commanding.{Answered}
@@ -6,7 +7,7 @@ use Rattle.quilt_map.proofs.answers.Asked.{if_ok, if_err}
 use Rattle.quilt_map.proofs.states.ChangeSteps.{goes_here}
 use Rattle.quilt_map.specs.Steps.{asks}
 use Rattle.quilt_map.proofs.answers.Answered.{keeps_here}
-use Rattle.quilt_map.proofs.answers.Commanded.{answered_as, fitting_here, fitting_of, never_both, refused_still}
+use Rattle.quilt_map.proofs.answers.Commanded.{answered_as, fitting_here, fitting_of, refused_still}
 use Rattle.quilt_map.proofs.session.Session.serve.Goals as goal
 
 pub returns-in-Region-clause-answer : goal.returns-in-Region-clause-answer
@@ -203,64 +204,64 @@ returns-in-Leaves-clause-answer g c =
 -- ---- what asks, and what does not
 
 pub returns-in-Region-clause-keeps : goal.returns-in-Region-clause-keeps
-returns-in-Region-clause-keeps g c = λ is. absurd (never_both (asks c.args.command.now) (ap asks c.in-Region.is) is)
+returns-in-Region-clause-keeps g c = λ is. absurd (both_ways (asks c.args.command.now) (ap asks c.in-Region.is) is)
 
 pub returns-in-Drop-clause-keeps : goal.returns-in-Drop-clause-keeps
-returns-in-Drop-clause-keeps g c = λ is. absurd (never_both (asks c.args.command.now) (ap asks c.in-Drop.is) is)
+returns-in-Drop-clause-keeps g c = λ is. absurd (both_ways (asks c.args.command.now) (ap asks c.in-Drop.is) is)
 
 pub returns-in-Copy-clause-keeps : goal.returns-in-Copy-clause-keeps
-returns-in-Copy-clause-keeps g c = λ is. absurd (never_both (asks c.args.command.now) (ap asks c.in-Copy.is) is)
+returns-in-Copy-clause-keeps g c = λ is. absurd (both_ways (asks c.args.command.now) (ap asks c.in-Copy.is) is)
 
 pub returns-in-Set-clause-keeps : goal.returns-in-Set-clause-keeps
-returns-in-Set-clause-keeps g c = λ is. absurd (never_both (asks c.args.command.now) (ap asks c.in-Set.is) is)
+returns-in-Set-clause-keeps g c = λ is. absurd (both_ways (asks c.args.command.now) (ap asks c.in-Set.is) is)
 
 pub returns-in-Rect-clause-keeps : goal.returns-in-Rect-clause-keeps
-returns-in-Rect-clause-keeps g c = λ is. absurd (never_both (asks c.args.command.now) (ap asks c.in-Rect.is) is)
+returns-in-Rect-clause-keeps g c = λ is. absurd (both_ways (asks c.args.command.now) (ap asks c.in-Rect.is) is)
 
 pub returns-in-Raster-clause-keeps : goal.returns-in-Raster-clause-keeps
-returns-in-Raster-clause-keeps g c = λ is. absurd (never_both (asks c.args.command.now) (ap asks c.in-Raster.is) is)
+returns-in-Raster-clause-keeps g c = λ is. absurd (both_ways (asks c.args.command.now) (ap asks c.in-Raster.is) is)
 
 pub returns-in-Polygon-clause-keeps : goal.returns-in-Polygon-clause-keeps
-returns-in-Polygon-clause-keeps g c = λ is. absurd (never_both (asks c.args.command.now) (ap asks c.in-Polygon.is) is)
+returns-in-Polygon-clause-keeps g c = λ is. absurd (both_ways (asks c.args.command.now) (ap asks c.in-Polygon.is) is)
 
 pub returns-in-Union-clause-keeps : goal.returns-in-Union-clause-keeps
-returns-in-Union-clause-keeps g c = λ is. absurd (never_both (asks c.args.command.now) (ap asks c.in-Union.is) is)
+returns-in-Union-clause-keeps g c = λ is. absurd (both_ways (asks c.args.command.now) (ap asks c.in-Union.is) is)
 
 pub returns-in-Inter-clause-keeps : goal.returns-in-Inter-clause-keeps
-returns-in-Inter-clause-keeps g c = λ is. absurd (never_both (asks c.args.command.now) (ap asks c.in-Inter.is) is)
+returns-in-Inter-clause-keeps g c = λ is. absurd (both_ways (asks c.args.command.now) (ap asks c.in-Inter.is) is)
 
 pub returns-in-Diff-clause-keeps : goal.returns-in-Diff-clause-keeps
-returns-in-Diff-clause-keeps g c = λ is. absurd (never_both (asks c.args.command.now) (ap asks c.in-Diff.is) is)
+returns-in-Diff-clause-keeps g c = λ is. absurd (both_ways (asks c.args.command.now) (ap asks c.in-Diff.is) is)
 
 pub returns-in-Recolour-clause-keeps : goal.returns-in-Recolour-clause-keeps
-returns-in-Recolour-clause-keeps g c = λ is. absurd (never_both (asks c.args.command.now) (ap asks c.in-Recolour.is) is)
+returns-in-Recolour-clause-keeps g c = λ is. absurd (both_ways (asks c.args.command.now) (ap asks c.in-Recolour.is) is)
 
 pub returns-in-Shift-clause-keeps : goal.returns-in-Shift-clause-keeps
-returns-in-Shift-clause-keeps g c = λ is. absurd (never_both (asks c.args.command.now) (ap asks c.in-Shift.is) is)
+returns-in-Shift-clause-keeps g c = λ is. absurd (both_ways (asks c.args.command.now) (ap asks c.in-Shift.is) is)
 
 pub returns-in-Buffer-clause-keeps : goal.returns-in-Buffer-clause-keeps
-returns-in-Buffer-clause-keeps g c = λ is. absurd (never_both (asks c.args.command.now) (ap asks c.in-Buffer.is) is)
+returns-in-Buffer-clause-keeps g c = λ is. absurd (both_ways (asks c.args.command.now) (ap asks c.in-Buffer.is) is)
 
 pub returns-in-Points-clause-keeps : goal.returns-in-Points-clause-keeps
-returns-in-Points-clause-keeps g c = λ is. absurd (never_both (asks c.args.command.now) (ap asks c.in-Points.is) is)
+returns-in-Points-clause-keeps g c = λ is. absurd (both_ways (asks c.args.command.now) (ap asks c.in-Points.is) is)
 
 pub returns-in-Put-clause-keeps : goal.returns-in-Put-clause-keeps
-returns-in-Put-clause-keeps g c = λ is. absurd (never_both (asks c.args.command.now) (ap asks c.in-Put.is) is)
+returns-in-Put-clause-keeps g c = λ is. absurd (both_ways (asks c.args.command.now) (ap asks c.in-Put.is) is)
 
 pub returns-in-Del-clause-keeps : goal.returns-in-Del-clause-keeps
-returns-in-Del-clause-keeps g c = λ is. absurd (never_both (asks c.args.command.now) (ap asks c.in-Del.is) is)
+returns-in-Del-clause-keeps g c = λ is. absurd (both_ways (asks c.args.command.now) (ap asks c.in-Del.is) is)
 
 pub returns-in-Scatter-clause-keeps : goal.returns-in-Scatter-clause-keeps
-returns-in-Scatter-clause-keeps g c = λ is. absurd (never_both (asks c.args.command.now) (ap asks c.in-Scatter.is) is)
+returns-in-Scatter-clause-keeps g c = λ is. absurd (both_ways (asks c.args.command.now) (ap asks c.in-Scatter.is) is)
 
 pub returns-in-Lines-clause-keeps : goal.returns-in-Lines-clause-keeps
-returns-in-Lines-clause-keeps g c = λ is. absurd (never_both (asks c.args.command.now) (ap asks c.in-Lines.is) is)
+returns-in-Lines-clause-keeps g c = λ is. absurd (both_ways (asks c.args.command.now) (ap asks c.in-Lines.is) is)
 
 pub returns-in-Line-clause-keeps : goal.returns-in-Line-clause-keeps
-returns-in-Line-clause-keeps g c = λ is. absurd (never_both (asks c.args.command.now) (ap asks c.in-Line.is) is)
+returns-in-Line-clause-keeps g c = λ is. absurd (both_ways (asks c.args.command.now) (ap asks c.in-Line.is) is)
 
 pub returns-in-Unline-clause-keeps : goal.returns-in-Unline-clause-keeps
-returns-in-Unline-clause-keeps g c = λ is. absurd (never_both (asks c.args.command.now) (ap asks c.in-Unline.is) is)
+returns-in-Unline-clause-keeps g c = λ is. absurd (both_ways (asks c.args.command.now) (ap asks c.in-Unline.is) is)
 
 pub returns-in-Leaves-clause-refused : goal.returns-in-Leaves-clause-refused
 returns-in-Leaves-clause-refused g c = refused_still {D = g.W.Disk} c.args.self.now c.leaves.new.self c.leaves.result c.leaves.ensures.keeps
