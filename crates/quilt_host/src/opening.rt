@@ -109,10 +109,7 @@ fn open_any<S: System>(system: &mut S, path: &str) -> Result<(RawFd, bool), Fail
 {
     match system.open(path, Access::ReadWrite) {
         Ok(descriptor) => Ok((descriptor, true)),
-        Err(Failure::Forbidden) => match open_to_read(system, path) {
-            Ok(descriptor) => Ok((descriptor, false)),
-            Err(failure) => Err(failure),
-        },
+        Err(Failure::Forbidden) => Ok((open_to_read(system, path)?, false)),
         Err(failure) => Err(failure),
     }
 }
@@ -125,12 +122,10 @@ pub(crate) fn open_map<S: System>(system: &mut S, path: &str) -> Result<Opened, 
     ensures missing { result ≡ Err Failure.Missing → IfSome (S.told system.old) (λ s. path.now ≡ s.path → s.is_there ≡ false) }
     ensures unopened { result ≡ Err Failure.Missing → S.told system.new ≡ S.told system.old }
 {
-    match open_any(system, path) {
-        Ok((descriptor, may_write)) => match counted_pages(system, descriptor) {
-            Ok(pages) => Ok(Opened { pages, may_write }),
-            Err(Fault) => Err(Failure::Other),
-        },
-        Err(failure) => Err(failure),
+    let (descriptor, may_write) = open_any(system, path)?;
+    match counted_pages(system, descriptor) {
+        Ok(pages) => Ok(Opened { pages, may_write }),
+        Err(Fault) => Err(Failure::Other),
     }
 }
 
@@ -174,10 +169,8 @@ fn fill<S: System>(system: &mut S, descriptor: RawFd, pages: u32) -> Result<(), 
     if !is_beyond_streams(descriptor) {
         return Err(Fault);
     }
-    match write_zeros(system, pages, &[0; 4096]) {
-        Ok(()) => settle(system),
-        Err(Fault) => Err(Fault),
-    }
+    write_zeros(system, pages, &[0; 4096])?;
+    settle(system)
 }
 
 /// Fills a new file, or removes it again.
