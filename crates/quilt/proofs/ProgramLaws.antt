@@ -4,7 +4,7 @@ use Rattle.std.specs.Prelude.{IfSome, OnOk, OnErr, Result, Ok, Err}
 use Rattle.std.proofs.Common.{◌≡◌, ◌≢◌, ◌⊎◌, inl, inr, ℕ, true, List, [], ◌++◌, drop, Option, Some, None, refl, sym, ◌∙◌, ap, subst, arith}
 use Rattle.std.proofs.lemmas.Option.{same_Some}
 use Rattle.quilt_world.specs.Causes.{Rose, next_count}
-use Rattle.quilt_world.specs.Tale.{Tale, Begins, taken_bytes}
+use Rattle.quilt_world.specs.Tale.{Tale, Begins, taken_bytes, Goes}
 use Rattle.quilt_world.specs.declared.disk.Door.{Door}
 use Rattle.quilt_world.specs.declared.disk.Door.TheVariants as doors
 use Rattle.quilt_top.specs.declared.run.End.{End}
@@ -13,7 +13,7 @@ use Rattle.quilt_top.specs.Words.{Order, New, Run as RunText, Trial, asked_for}
 use Rattle.quilt_top.specs.Stronger.{KeepsMore}
 use Rattle.quilt_top.proofs.InTurn.{shut_more}
 use Rattle.quilt_top.specs.Headline.{KeepsPromises, WhereTold, FindsFile, IsUsage, IsDoorOf, allowed_doors, is_allowed, HasEndCause}
-use Rattle.quilt_host.specs.Story.{Story, Steps}
+use Rattle.quilt_host.specs.Story.{Story}
 use Rattle.quilt_host.specs.Calls.{Says, SaysFront}
 use Rattle.quilt_host.specs.Worlds.{tale_of, IsFresh, IsKept}
 use Rattle.quilt.specs.Program.{line_of, lines_of, order_of, IfTold, Does, unsaid, Runs}
@@ -244,7 +244,7 @@ says_written end front order s u v does now = ap (λ (x : Story). x.says) now �
 
 -- the line is written, or a front of it
 runs_written : {T E : Type 0} (end : End) (said : Result T E) (s u : Story) (n : Option Story) → lines_of end ≡ 1 → Does (order_of s.words) end s u
-    → OnOk said (Steps (Says (line_of end)) (Some u) n) → OnErr said (Steps (SaysFront (line_of end)) (Some u) n) → IfTold (Runs end said) (Some s) n
+    → OnOk said (Goes (Says (line_of end)) (Some u) n) → OnErr said (Goes (SaysFront (line_of end)) (Some u) n) → IfTold (Runs end said) (Some s) n
 runs_written end (Ok x) s u None one does line front = line
 runs_written end (Err e) s u None one does line front = front
 runs_written end (Ok x) s u (Some v) one does line front = record {
@@ -261,7 +261,7 @@ runs_written end (Err e) s u (Some v) one does line w = record {
 }
 
 pub runs_of : {T E : Type 0} (end : End) (said : Result T E) (o m n : Option Story) → IfTold (λ s. Does (order_of s.words) end s) o m
-    → (line_of end ≡ [] → n ≡ m) → (line_of end ≢ [] → OnOk said (Steps (Says (line_of end)) m n)) → OnErr said (Steps (SaysFront (line_of end)) m n)
+    → (line_of end ≡ [] → n ≡ m) → (line_of end ≢ [] → OnOk said (Goes (Says (line_of end)) m n)) → OnErr said (Goes (SaysFront (line_of end)) m n)
     → IfTold (Runs end said) o n
 runs_of end said None m n does none line front = tt
 runs_of end said (Some s) None n does none line front = absurd does

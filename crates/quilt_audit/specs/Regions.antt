@@ -7,7 +7,7 @@ use Rattle.quilt_record.specs.declared.record.Record.{Record}
 use Rattle.quilt_blocks.specs.declared.leaf.Leaf.{Leaf}
 use Rattle.quilt_blocks.specs.Listing.{Follows, IsUnmerged, pairs_of}
 use Rattle.quilt_blocks.specs.Walk.{size_of}
-use Rattle.quilt_region.specs.Regions.{leaf_record}
+use Rattle.quilt_spell.specs.OfLayer.{leaf_record}
 use Rattle.quilt_audit.specs.Covers.{no_block}
 
 -- those of the records that are of the layer with this number are exactly those of the blocks

@@ -5,7 +5,7 @@ ghost use Rattle.quilt_types.specs.Layers.{colours};
 ghost use Rattle.quilt_loc.specs.Codes.{code_from};
 ghost use Rattle.quilt_blocks.specs.Cutting.{pair_of};
 ghost use Rattle.quilt_record.specs.declared.record.Record.{Record as AnyRecord};
-ghost use Rattle.quilt_region.specs.Regions.{leaf_record};
+ghost use Rattle.quilt_spell.specs.OfLayer.{leaf_record};
 ghost use Rattle.quilt_line_audit.specs.Layers.{Refuses};
 ghost use Rattle.quilt_audit.specs.Regions.{IsGoing, no_leaves};
 

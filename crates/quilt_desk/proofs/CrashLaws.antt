@@ -5,7 +5,7 @@ use Rattle.std.proofs.Common.{◌≡◌, inl, inr, true, false, Bool, cond, ℕ,
 use Rattle.std.proofs.Common.{◌∙◌, ap, subst, arith, get_or-set_same, get_or-set_other}
 use Rattle.std.proofs.Math.ListN.{length-set}
 use Rattle.std.proofs.lemmas.List.{take-append-drop}
-use Rattle.std.proofs.lemmas.Bool.{cases_lt, cases_Bool, false≢true}
+use Rattle.std.proofs.lemmas.Bool.{cases_lt, cases_Bool, false≢true, or_parts}
 use Rattle.std.proofs.lemmas.List.Folds.{list_all_at, list_all-append}
 use Rattle.std.proofs.lemmas.List.Sums.{fold_more}
 use Rattle.quilt_world.specs.Disk.{Pages, Log, Mark, Untouched, Written, Torn, marked, mark_from, unsynced_after, unsynced_from, is_unsynced, CanLeave}
@@ -98,19 +98,11 @@ kept-state_of start log i =
 
 no_until : (log : Log) → list_any is_sync log ≡ false → until_sync log ≡ []
 no_until [] none = refl
-no_until (e ∷ log) none = rw (apart (is_sync e) (list_any is_sync log) none).0 (rw (apart (is_sync e) (list_any is_sync log) none).1 refl)
-  where
-    apart : (a b : Bool) → (a || b) ≡ false → (a ≡ false) × (b ≡ false)
-    apart true b h = absurd (false≢true (sym h))
-    apart false b h = (refl, h)
+no_until (e ∷ log) none = rw (or_parts (is_sync e) (list_any is_sync log) none).0 (rw (or_parts (is_sync e) (list_any is_sync log) none).1 refl)
 
 no_since : (log : Log) → list_any is_sync log ≡ false → since_sync log ≡ log
 no_since [] none = refl
-no_since (e ∷ log) none = rw (apart (is_sync e) (list_any is_sync log) none).0 (rw (apart (is_sync e) (list_any is_sync log) none).1 refl)
-  where
-    apart : (a b : Bool) → (a || b) ≡ false → (a ≡ false) × (b ≡ false)
-    apart true b h = absurd (false≢true (sym h))
-    apart false b h = (refl, h)
+no_since (e ∷ log) none = rw (or_parts (is_sync e) (list_any is_sync log) none).0 (rw (or_parts (is_sync e) (list_any is_sync log) none).1 refl)
 
 -- after one more event that is no sync, what was synced stays
 synced_stays : (page : ℕ) (s : PageState) (e : Event) → is_sync e ≡ false → (state_after page s e).synced ≡ s.synced

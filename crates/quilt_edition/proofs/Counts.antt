@@ -6,6 +6,7 @@ use Rattle.std.proofs.lemmas.Bool.{cases_Bool, cases_eq, ne_eqb}
 use Rattle.quilt_types.specs.Plane.{below}
 use Rattle.quilt_pool.specs.Entries.{Entries, is_marked}
 use Rattle.quilt_edition.specs.Keeping.{marked_count}
+use Rattle.quilt_pool.proofs.Draining.{count_first, count_next}
 
 pub count_same : (f h : ℕ → Bool) → ((i : ℕ) → f i ≡ h i) → (xs : List ℕ) → length (filter f xs) ≡ length (filter h xs)
 count_same f h same [] = refl
@@ -70,21 +71,8 @@ pub count_none : (f : ℕ → Bool) (a n : ℕ) → ((i : ℕ) → a ≤ i → i
 count_none f a zero none = refl
 count_none f a (suc n) none = rw (none a (omega arith) (omega arith)) (count_none f (a + 1) n (λ i le lt. none i (omega (arith, le)) (omega (arith, lt))))
 
-one : (b : Bool) (x : ℕ) (xs : List ℕ) → length (cond b (x ∷ xs) xs) ≡ cond {A = ℕ} b 1 0 + length xs
-one true x xs = omega arith
-one false x xs = omega arith
-
-more : (f : ℕ → Bool) (a n : ℕ) → length (filter f (range_with_len a (suc n))) ≡ length (filter f (range_with_len a n)) + cond {A = ℕ} (f (a + n)) 1 0
-more f a zero = one (f a) a [] ∙ ap (λ i. cond {A = ℕ} (f i) 1 0 + 0) (sym (add-zero a)) ∙ omega arith
-more f a (suc n) =
-    let left = one (f a) a (filter f (range_with_len (a + 1) (suc n))) in
-    let right = one (f a) a (filter f (range_with_len (a + 1) n)) in
-    let on = more f (a + 1) n in
-    let same : cond {A = ℕ} (f (a + 1 + n)) 1 0 ≡ cond {A = ℕ} (f (a + suc n)) 1 0 = ap (λ i. cond {A = ℕ} (f i) 1 0) (omega arith) in
-    omega (arith, left, right, on, same)
-
 pub count_more : (f : ℕ → Bool) (a n : ℕ) → length (filter f (range_with_len a (n + 1))) ≡ length (filter f (range_with_len a n)) + cond {A = ℕ} (f (a + n)) 1 0
-count_more f a n = ap (λ k. length (filter f (range_with_len a k))) (add-one n) ∙ more f a n
+count_more f a n = ap (λ k. length (filter f (range_with_len a k))) (add-one n) ∙ count_next f a n
 
 pub count_most : (f : ℕ → Bool) (a n : ℕ) → length (filter f (range_with_len a n)) ≤ n
 count_most f a zero = omega arith
@@ -109,8 +97,8 @@ count_split f a zero n k e =
 count_split f a (suc m) n zero e = absurd (omega (arith, e))
 count_split f a (suc m) n (suc k) e =
     let on = count_split f (a + 1) m n k (omega (arith, e)) in
-    let left = one (f a) a (filter f (range_with_len (a + 1) k)) in
-    let right = one (f a) a (filter f (range_with_len (a + 1) m)) in
+    let left = count_first (f a) a (filter f (range_with_len (a + 1) k)) in
+    let right = count_first (f a) a (filter f (range_with_len (a + 1) m)) in
     let same : length (filter f (range_with_len (a + 1 + m) n)) ≡ length (filter f (range_with_len (a + suc m) n)) =
     ap (λ i. length (filter f (range_with_len i n))) (omega arith) in
     omega (arith, left, right, on, same)

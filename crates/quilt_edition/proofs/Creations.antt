@@ -4,6 +4,7 @@ use Rattle.std.proofs.Common.{OnErr, refl, sym, ◌∙◌, ap, subst, arith, app
 use Rattle.std.specs.Option.{IfSome}
 use Rattle.std.specs.List.{list_all}
 use Rattle.std.proofs.lemmas.List.Folds.{list_all-append}
+use Rattle.std.proofs.lemmas.Bool.{and_from}
 use Rattle.quilt_world.specs.Disk.{Pages, Log, CanLeave}
 use Rattle.quilt_world.specs.Home.{label, IsMapFile}
 use Rattle.quilt_world.specs.Stops.{fixed, LeavesNow}
@@ -15,20 +16,17 @@ use Rattle.quilt_world.proofs.StopLaws.{image_page, since_here, since_call}
 use Rattle.quilt_world.proofs.Told.{goes_then, goes_weaker}
 use Rattle.quilt_node.specs.Pages.{header_bytes}
 use Rattle.quilt_edition.specs.Stands.{Stands}
-use Rattle.quilt_edition.specs.Creating.{HasMapSize, IsBlank, empty_head, empty_edition, is_of_pages, AddsPageEvents, IsNoneOrEmpty, Creates, IsCreated}
+use Rattle.quilt_world.specs.Added.{is_of_pages}
+use Rattle.quilt_edition.specs.Creating.{HasMapSize, IsBlank, empty_head, empty_edition, AddsPageEvents, IsNoneOrEmpty, Creates, IsCreated}
 use Rattle.quilt_edition.proofs.Unlabelled.{zeros, unlabelled, IsHeaded, headed_only, headed_stands}
 
 -- ---- one call more
-
-and_true : (a b : Bool) → a ≡ true → b ≡ true → (a && b) ≡ true
-and_true true b x y = y
-and_true false b x y = cc
 
 pages_then : (events : Log) (o m n : Tale) → AddsPageEvents o m → Adds events m n → list_all is_of_pages events ≡ true → AddsPageEvents o n
 pages_then events o m n added adds only = record {
   events = added.events ++ events;
   log = adds.log ∙ ap (λ (l : Log). l ++ events) added.log ∙ append_assoc o.log added.events events;
-  only = list_all-append is_of_pages added.events events ∙ and_true _ _ added.only only;
+  only = list_all-append is_of_pages added.events events ∙ and_from _ _ added.only only;
 }
 
 creates_here : (k : ℕ) (o : Tale) → LeavesNow o (IsNoneOrEmpty k) → Creates k o o

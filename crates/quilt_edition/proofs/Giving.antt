@@ -5,7 +5,7 @@ use Rattle.std.specs.Cmp.{nat_eq_equiv}
 use Rattle.std.specs.List.{IsDistinct}
 use Rattle.std.specs.Map.{keys_of, remove_entry}
 use Rattle.std.proofs.lemmas.Map.{lookup-remove_entry}
-use Rattle.std.proofs.lemmas.Bool.{cases_Bool, cases_eq, cases_lt, eq-eqb, ne_eqb, eqb-true, false≢true}
+use Rattle.std.proofs.lemmas.Bool.{cases_Bool, cases_eq, cases_lt, eq-eqb, ne_eqb, eqb-true, false≢true, or_right}
 use Rattle.std.proofs.lemmas.List.{get_or_past}
 use Rattle.std.proofs.lemmas.List.FromFn.{length-map-range_with_len, get_or-map-range_with_len}
 use Rattle.quilt_types.specs.Plane.{below}
@@ -46,10 +46,6 @@ module _ (j k : View) (es fs : Entries) (last : Head) (busy : j.state ≡ Idle �
   told_busy step (Some t) = rw (busy_told j.state busy (work_pages j es t), busy_told k.state (λ is. busy (sym state ∙ is)) (work_pages k fs t)) tt
 
 -- ---- the entry is dropped
-
-marked_by : (a b : Bool) → b ≡ true → (a || b) ≡ true
-marked_by true b h = refl
-marked_by false b h = h
 
 module _ (es : Entries) (p : ℕ) (distinct : IsDistinct nat_eq (keys_of es)) where
   gone : (i : ℕ) → frame_at (remove_entry (nat_eq p) es) i ≡ cond (nat_eq p i) None (frame_at es i)
@@ -98,7 +94,7 @@ module _ (es : Entries) (p : ℕ) (distinct : IsDistinct nat_eq (keys_of es)) wh
 
   pub marked_dropped : (n : ℕ) (c : List Bool) → marked_count n (remove_entry (nat_eq p) es) c ≤ marked_count n es c
   marked_dropped n c = marked_less n es (remove_entry (nat_eq p) es) c c (λ i is. elim (cases_Bool (is_changed c i)) [
-    | inl bit ↦ marked_by (has_dirt (frame_at es i)) (is_changed c i) bit
+    | inl bit ↦ or_right (has_dirt (frame_at es i)) (is_changed c i) bit
     | inr clear ↦ elim (cases_eq i p) [
       | inl same ↦
           let here : is_marked (remove_entry (nat_eq p) es) c i ≡ false =

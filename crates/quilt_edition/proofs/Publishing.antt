@@ -33,7 +33,7 @@ use Rattle.quilt_edition.proofs.Steps.{kept_moves, kept_idle, idle_kept, told_id
 use Rattle.quilt_store.proofs.Counts.{count_behind}
 use Rattle.std.specs.List.{range_with_len}
 use Rattle.std.proofs.lemmas.List.Sums.{length-filter}
-use Rattle.std.proofs.lemmas.Bool.{cases_Bool, cases_eq, eq-eqb, ne_eqb}
+use Rattle.std.proofs.lemmas.Bool.{cases_Bool, cases_eq, eq-eqb, ne_eqb, or_right}
 use Rattle.quilt_edition.specs.Publishing.{next_pages, Publishing, IsPublished, held_under}
 
 -- where no page is dirty, the pages of the work are those that the pool lies over
@@ -363,10 +363,6 @@ told_published j k es fs header (Some o) (Some t) idle pages state changed clean
 
 -- ---- how many pages it writes
 
-or_true : (a b : Bool) → b ≡ true → (a || b) ≡ true
-or_true true b h = refl
-or_true false b h = h
-
 in_front : (f : ℕ → Bool) (m : ℕ) → length (filter f (range_with_len (0 + 1) m)) ≤ length (filter f (range_with_len 0 (suc m)))
 in_front f m = elim (cases_Bool (f 0)) [
   | inl t ↦ rw t (omega arith)
@@ -377,7 +373,7 @@ dirt_of_marked : (es : Entries) (c : List Bool) (i : ℕ) → is_dirty es i ≡ 
 dirt_of_marked es c i dirty = ap (λ b. b || is_changed c i) dirty
 
 bit_of_marked : (es : Entries) (c : List Bool) (i : ℕ) → is_changed c i ≡ true → is_marked es c i ≡ true
-bit_of_marked es c i bit = or_true (is_dirty es i) (is_changed c i) bit
+bit_of_marked es c i bit = or_right (is_dirty es i) (is_changed c i) bit
 
 pub dirty_most : (n : ℕ) (es : Entries) (c : List Bool) → 1 ≤ n → length (filter (is_dirty es) (range_with_len 1 (n - 1))) ≤ marked_count n es c
 unfolding marked_count

@@ -10,6 +10,7 @@ use Rattle.quilt_world.specs.Tale.{Tale}
 use Rattle.quilt_world.specs.declared.event.Event.{Event}
 use Rattle.quilt_world.specs.declared.event.Event.TheVariants.{Took, Put, Wrote, Tore, Synced}
 use Rattle.quilt_edition.specs.Stands.{Stands}
+use Rattle.quilt_world.specs.Added.{is_of_pages}
 
 -- a file of so many pages has home pages in the range of a map file
 pub record HasMapSize (size : ℕ) : Type 0 where
@@ -29,14 +30,6 @@ empty_edition n = record { format = 1; number = 0; level = n; layers = finmap.em
 -- what the header of that edition says
 abbrev pub empty_head : ℕ → Head
 empty_head n = record { format = 1; edition = 0; level = n; root = 0; height = 0; records = 0 }
-
--- the event is of the disk's pages alone
-abbrev pub is_of_pages : Event → Bool
-is_of_pages (Took bytes) = false
-is_of_pages (Put bytes) = false
-is_of_pages (Wrote page bytes) = true
-is_of_pages (Tore page) = true
-is_of_pages Synced = true
 
 -- only events of the disk's pages are added
 pub record AddsPageEvents (old new : Tale) : Type 0 where

@@ -1,5 +1,6 @@
 ghost use Rattle.std.specs.Prelude.{◌≡◌, ◌≤◌, length};
-ghost use Rattle.quilt_world.specs.Home.{filled, label};
+ghost use Rattle.quilt_types.specs.Bytes.{filled};
+ghost use Rattle.quilt_world.specs.Home.{label};
 ghost use Rattle.quilt_node.specs.Pages as spec;
 ghost use Rattle.quilt_edition.specs.Creating.{empty_head};
 

@@ -1,7 +1,7 @@
 -- What each act does to the draft.
 use Rattle.std.proofs.Common.{◌≡◌, ◌≢◌, inl, inr, ℕ, ◌+◌, ◌*◌, ◌/◌, ◌%◌, ◌<◌, ◌≤◌, Bool, true, false, cond, ◌&&◌, List, [], ◌∷◌, ◌++◌, length, map, refl, sym, ◌∙◌, ap, arith, eqb, eq-eqb, add-zero}
 use Rattle.std.specs.Prelude.{nat_lt, nat_le, ◌==◌}
-use Rattle.std.proofs.lemmas.Bool.{ne_eqb}
+use Rattle.std.proofs.lemmas.Bool.{ne_eqb, and_from, and_left}
 use Rattle.std.proofs.lemmas.Bool.Decides.{nat_tests}
 use Rattle.quilt_types.specs.Plane.{below}
 use Rattle.quilt_world.specs.Disk.{Log}
@@ -40,29 +40,21 @@ fronted_part page front log few =
 
 -- ---- where a write lies
 
-and_true : (a b : Bool) → a ≡ true → b ≡ true → (a && b) ≡ true
-and_true true b x y = y
-and_true false b x y = cc
-
-and_false : (a b : Bool) → a ≡ false → (a && b) ≡ false
-and_false true b x = cc
-and_false false b x = refl
-
 begins_true : (i n : ℕ) → n ≤ 4096 → begins (i * 4096) n ≡ true
-begins_true i n few = and_true _ _ (eq-eqb (i * 4096 % 4096) 0 (omega arith)) (grind (arith, nat_tests))
+begins_true i n few = and_from _ _ (eq-eqb (i * 4096 % 4096) 0 (omega arith)) (grind (arith, nat_tests))
 
 begins_false : (i m n : ℕ) → 0 < m → m < 4096 → begins (i * 4096 + m) n ≡ false
-begins_false i m n some few = and_false _ _ (ne_eqb ((i * 4096 + m) % 4096) 0 (λ e. omega arith))
+begins_false i m n some few = and_left _ _ (ne_eqb ((i * 4096 + m) % 4096) 0 (λ e. omega arith))
 
 goes_on_true : (d : Draft) (at n : ℕ) → at ≡ d.page * 4096 + length d.front → 0 < length d.front → length d.front < 4096 → length d.front + n ≤ 4096
     → goes_on d at n ≡ true
 goes_on_true d at n is some few fits =
-    and_true _ _ (and_true _ _ (let past : 0 < at % 4096 = omega arith in grind (arith, nat_tests)) (eq-eqb at (d.page * 4096 + length d.front) is)) (grind (arith, nat_tests))
+    and_from _ _ (and_from _ _ (let past : 0 < at % 4096 = omega arith in grind (arith, nat_tests)) (eq-eqb at (d.page * 4096 + length d.front) is)) (grind (arith, nat_tests))
 
 goes_on_false : (d : Draft) (i n : ℕ) → goes_on d (i * 4096) n ≡ false
 goes_on_false d i n =
     let none : i * 4096 % 4096 ≡ 0 = omega arith in
-    and_false _ _ (and_false _ _ (let test : nat_lt 0 (i * 4096 % 4096) ≡ false = grind (arith, nat_tests) in test))
+    and_left _ _ (and_left _ _ (let test : nat_lt 0 (i * 4096 % 4096) ≡ false = grind (arith, nat_tests) in test))
 
 -- one page is torn
 tears_one : (i m n : ℕ) → 1 ≤ n → m + n ≤ 4096 → tears (i * 4096 + m) n ≡ events.Tore i ∷ []

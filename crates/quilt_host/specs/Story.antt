@@ -18,10 +18,3 @@ pub record Story : Type 0 where
   pub input : List ℕ
   pub said : List ℕ
   pub says : ℕ
-
--- whether a system tells does not change, and its story goes on so
-abbrev pub Steps : (Story → Story → Type 0) → Option Story → Option Story → Type 0
-Steps step (Some old) (Some new) = step old new
-Steps step (Some old) None = ⊥
-Steps step None (Some new) = ⊥
-Steps step None None = Unit {0}

@@ -6,7 +6,6 @@ ghost use Rattle.quilt_world.specs.Tale.{Adds, Goes};
 ghost use Rattle.quilt_world.specs.declared.event.Event.TheVariants.{Wrote, Tore, Synced, Put};
 ghost use Rattle.quilt_world.specs.declared.disk.Door.TheVariants as doors;
 ghost use Rattle.quilt_host.specs.Paging.{KeepsFile, FailsToMake};
-ghost use Rattle.quilt_host.specs.Story.{Steps};
 ghost use Rattle.quilt_host.specs.Worlds.{tale_of, IsFresh, IsKept, IsSound};
 ghost use Rattle.quilt_host.specs.Tales.{tale_is_consistent};
 
@@ -164,7 +163,7 @@ impl<S: System> World for HostWorld<S> {
         ensures tale { Goes (OpensAt path.now (⟦<HostWorld<S> as Disk>⟧.door self.new)) (⟦<HostWorld<S> as Disk>⟧.told self.old) (⟦<HostWorld<S> as Disk>⟧.told self.new) }
 
         // No file is made, removed or changed.
-        ensures kept { Steps KeepsFile (S.told self.old.system) (S.told self.new.system) }
+        ensures kept { Goes KeepsFile (S.told self.old.system) (S.told self.new.system) }
     {
         match open_map(&mut self.system, path) {
             Ok(opened) => {
@@ -192,7 +191,7 @@ impl<S: System> World for HostWorld<S> {
         ensures tale { Goes (MakesAt path.now pages (⟦<HostWorld<S> as Disk>⟧.door self.new)) (⟦<HostWorld<S> as Disk>⟧.told self.old) (⟦<HostWorld<S> as Disk>⟧.told self.new) }
 
         // A file that was there is as it was, and the removal of one that was made in vain was asked for.
-        ensures kept { self.new.door ≢ doors.Made → Steps FailsToMake (S.told self.old.system) (S.told self.new.system) }
+        ensures kept { self.new.door ≢ doors.Made → Goes FailsToMake (S.told self.old.system) (S.told self.new.system) }
     {
         match make_map(&mut self.system, path, pages) {
             Ok(()) => {

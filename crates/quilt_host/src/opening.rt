@@ -1,5 +1,5 @@
 ghost use Rattle.std.specs.Prelude.{◌≡◌, ◌≢◌, ◌⊎◌, ℕ, ◌*◌, ◌<◌, ◌^◌, ◌≤◌, ◌≤ℤ◌, pos, true, false, Err, [], length, replicate, OnOk, OnErr, IfOk, IfSome};
-ghost use Rattle.quilt_host.specs.Story.{Steps};
+ghost use Rattle.quilt_world.specs.Tale.{Goes};
 ghost use Rattle.quilt_host.specs.Calls.{Opens};
 ghost use Rattle.quilt_host.specs.Paging.{MakesMap, FailsToMake, Fills, WritesZeros, WritesSome, Settles, IsCleared};
 
@@ -90,7 +90,7 @@ fn counted_pages<S: System>(system: &mut S, descriptor: RawFd) -> Result<u32, Fa
 
 /// Opens a file to read it alone. Only a regular one is tried: a pipe that is opened to read waits for its writer.
 fn open_to_read<S: System>(system: &mut S, path: &str) -> Result<RawFd, Failure>
-    ensures opened { OnOk result (Steps (Opens path.now) (S.told system.old) (S.told system.new)) }
+    ensures opened { OnOk result (Goes (Opens path.now) (S.told system.old) (S.told system.new)) }
     ensures nothing { OnErr result (S.told system.new ≡ S.told system.old) }
     ensures missing { result ≡ Err Failure.Missing → IfSome (S.told system.old) (λ s. path.now ≡ s.path → s.is_there ≡ false) }
 {
@@ -103,34 +103,29 @@ fn open_to_read<S: System>(system: &mut S, path: &str) -> Result<RawFd, Failure>
 
 /// Opens a file to read and write, or to read alone where writing is not permitted, and says whether it may be written.
 fn open_any<S: System>(system: &mut S, path: &str) -> Result<(RawFd, bool), Failure>
-    ensures opened { OnOk result (Steps (Opens path.now) (S.told system.old) (S.told system.new)) }
+    ensures opened { OnOk result (Goes (Opens path.now) (S.told system.old) (S.told system.new)) }
     ensures nothing { OnErr result (S.told system.new ≡ S.told system.old) }
     ensures missing { result ≡ Err Failure.Missing → IfSome (S.told system.old) (λ s. path.now ≡ s.path → s.is_there ≡ false) }
 {
     match system.open(path, Access::ReadWrite) {
         Ok(descriptor) => Ok((descriptor, true)),
-        Err(Failure::Forbidden) => match open_to_read(system, path) {
-            Ok(descriptor) => Ok((descriptor, false)),
-            Err(failure) => Err(failure),
-        },
+        Err(Failure::Forbidden) => Ok((open_to_read(system, path)?, false)),
         Err(failure) => Err(failure),
     }
 }
 
 /// Opens the map file of this path. It changes no file and makes none.
 pub(crate) fn open_map<S: System>(system: &mut S, path: &str) -> Result<Opened, Failure>
-    ensures opened { OnOk result (Steps (Opens path.now) (S.told system.old) (S.told system.new)) }
+    ensures opened { OnOk result (Goes (Opens path.now) (S.told system.old) (S.told system.new)) }
     ensures pages { IfOk result (λ o. IfSome (S.told system.new) (λ s. o.pages * 4096 ≤ length s.bytes)) }
-    ensures failed { OnErr result (Steps (λ old new. (new ≡ old) ⊎ Opens path.now old new) (S.told system.old) (S.told system.new)) }
+    ensures failed { OnErr result (Goes (λ old new. (new ≡ old) ⊎ Opens path.now old new) (S.told system.old) (S.told system.new)) }
     ensures missing { result ≡ Err Failure.Missing → IfSome (S.told system.old) (λ s. path.now ≡ s.path → s.is_there ≡ false) }
     ensures unopened { result ≡ Err Failure.Missing → S.told system.new ≡ S.told system.old }
 {
-    match open_any(system, path) {
-        Ok((descriptor, may_write)) => match counted_pages(system, descriptor) {
-            Ok(pages) => Ok(Opened { pages, may_write }),
-            Err(Fault) => Err(Failure::Other),
-        },
-        Err(failure) => Err(failure),
+    let (descriptor, may_write) = open_any(system, path)?;
+    match counted_pages(system, descriptor) {
+        Ok(pages) => Ok(Opened { pages, may_write }),
+        Err(Fault) => Err(Failure::Other),
     }
 }
 
@@ -138,8 +133,8 @@ pub(crate) fn open_map<S: System>(system: &mut S, path: &str) -> Result<Opened, 
 fn write_zeros<S: System>(system: &mut S, pages: u32, zeros: &[u8]) -> Result<(), Fault>
     requires empty { IfSome (S.told system.old) (λ s. s.bytes ≡ []) }
     requires zeros { zeros.now ≡ replicate 4096 0 }
-    ensures wrote { OnOk result (Steps (WritesZeros pages) (S.told system.old) (S.told system.new)) }
-    ensures some { OnErr result (Steps WritesSome (S.told system.old) (S.told system.new)) }
+    ensures wrote { OnOk result (Goes (WritesZeros pages) (S.told system.old) (S.told system.new)) }
+    ensures some { OnErr result (Goes WritesSome (S.told system.old) (S.told system.new)) }
 {
     for i in 0..pages {
         match write_page(system, i, zeros) {
@@ -152,8 +147,8 @@ fn write_zeros<S: System>(system: &mut S, pages: u32, zeros: &[u8]) -> Result<()
 
 /// Makes sure that a file and its entry in the folder are on the disk.
 fn settle<S: System>(system: &mut S) -> Result<(), Fault>
-    ensures settled { OnOk result (Steps Settles (S.told system.old) (S.told system.new)) }
-    ensures some { OnErr result (Steps WritesSome (S.told system.old) (S.told system.new)) }
+    ensures settled { OnOk result (Goes Settles (S.told system.old) (S.told system.new)) }
+    ensures some { OnErr result (Goes WritesSome (S.told system.old) (S.told system.new)) }
 {
     match system.sync_all() {
         Ok(()) => match system.sync_folder() {
@@ -167,17 +162,15 @@ fn settle<S: System>(system: &mut S) -> Result<(), Fault>
 /// Makes a new file so many pages of zeros, and makes sure that it and its entry in the folder are on the disk.
 fn fill<S: System>(system: &mut S, descriptor: RawFd, pages: u32) -> Result<(), Fault>
     requires { IfSome (S.told system.old) (λ s. s.bytes ≡ []) }
-    ensures filled { OnOk result (Steps (Fills pages) (S.told system.old) (S.told system.new)) }
-    ensures some { OnErr result (Steps WritesSome (S.told system.old) (S.told system.new)) }
+    ensures filled { OnOk result (Goes (Fills pages) (S.told system.old) (S.told system.new)) }
+    ensures some { OnErr result (Goes WritesSome (S.told system.old) (S.told system.new)) }
     ensures beyond { OnOk result (pos 3 ≤ℤ descriptor) }
 {
     if !is_beyond_streams(descriptor) {
         return Err(Fault);
     }
-    match write_zeros(system, pages, &[0; 4096]) {
-        Ok(()) => settle(system),
-        Err(Fault) => Err(Fault),
-    }
+    write_zeros(system, pages, &[0; 4096])?;
+    settle(system)
 }
 
 /// Fills a new file, or removes it again.
@@ -188,8 +181,8 @@ fn fill_or_remove<S: System>(
     pages: u32,
 ) -> Result<(), Failure>
     requires { IfSome (S.told system.old) (λ s. s.bytes ≡ []) }
-    ensures filled { OnOk result (Steps (Fills pages) (S.told system.old) (S.told system.new)) }
-    ensures removed { OnErr result (Steps IsCleared (S.told system.old) (S.told system.new)) }
+    ensures filled { OnOk result (Goes (Fills pages) (S.told system.old) (S.told system.new)) }
+    ensures removed { OnErr result (Goes IsCleared (S.told system.old) (S.told system.new)) }
     ensures other { OnErr result (result ≡ Err Failure.Other) }
 {
     match fill(system, descriptor, pages) {
@@ -205,8 +198,8 @@ fn fill_or_remove<S: System>(
 /// Makes a map file of so many pages of zeros, which is not there yet, and makes sure that it is on the disk. What it could
 /// not finish it removes. Its folder is opened first, so that no file is made where a stream is closed.
 pub(crate) fn make_map<S: System>(system: &mut S, path: &str, pages: u32) -> Result<(), Failure>
-    ensures made { OnOk result (Steps (MakesMap path.now pages) (S.told system.old) (S.told system.new)) }
-    ensures failed { OnErr result (Steps FailsToMake (S.told system.old) (S.told system.new)) }
+    ensures made { OnOk result (Goes (MakesMap path.now pages) (S.told system.old) (S.told system.new)) }
+    ensures failed { OnErr result (Goes FailsToMake (S.told system.old) (S.told system.new)) }
     ensures taken { result ≡ Err Failure.Taken → IfSome (S.told system.old) (λ s. path.now ≡ s.path → s.is_there ≡ true) }
     ensures untouched { result ≡ Err Failure.Taken → S.told system.new ≡ S.told system.old }
 {

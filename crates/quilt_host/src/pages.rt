@@ -1,5 +1,5 @@
 ghost use Rattle.std.specs.Prelude.{◌≡◌, ◌⊎◌, ℕ, ◌^◌, ◌*◌, ◌<◌, ◌≤◌, length, take, drop, OnOk, OnErr, IfOk, IfSome};
-ghost use Rattle.quilt_host.specs.Story.{Steps};
+ghost use Rattle.quilt_world.specs.Tale.{Goes};
 ghost use Rattle.quilt_host.specs.Bytes.{page_at};
 ghost use Rattle.quilt_host.specs.Calls.{Syncs};
 ghost use Rattle.quilt_host.specs.Paging.{WritesPage, TearsPage};
@@ -13,8 +13,8 @@ const PAGE_BYTES: u64 = 4096;
 /// interrupts is taken up again.
 pub(crate) fn write_page<S: System>(system: &mut S, i: u32, page: &[u8]) -> Result<(), Failure>
     requires { length page.now ≡ 4096 }
-    ensures wrote { OnOk result (Steps (WritesPage i page.now) (S.told system.old) (S.told system.new)) }
-    ensures tore { OnErr result (Steps (λ old new. TearsPage i old new ⊎ (new ≡ old)) (S.told system.old) (S.told system.new)) }
+    ensures wrote { OnOk result (Goes (WritesPage i page.now) (S.told system.old) (S.told system.new)) }
+    ensures tore { OnErr result (Goes (λ old new. TearsPage i old new ⊎ (new ≡ old)) (S.told system.old) (S.told system.new)) }
 {
     let start = u64::from(i) * PAGE_BYTES;
     let mut done = 0;
@@ -59,7 +59,7 @@ pub(crate) fn read_page<S: System>(system: &mut S, i: u32, into: &mut [u8]) -> R
 
 /// Makes sure that all that was written so far is on the disk. The length of the file has been there since it was made.
 pub(crate) fn sync_pages<S: System>(system: &mut S) -> Result<(), Failure>
-    ensures synced { OnOk result (Steps Syncs (S.told system.old) (S.told system.new)) }
+    ensures synced { OnOk result (Goes Syncs (S.told system.old) (S.told system.new)) }
     ensures nothing { OnErr result (S.told system.new ≡ S.told system.old) }
 {
     system.sync_data()

@@ -1,5 +1,5 @@
 ghost use Rattle.std.specs.Prelude.{◌≡◌, ◌<◌, ◌≤◌, length, take, OnErr, IfOk};
-ghost use Rattle.quilt_host.specs.Story.{Steps};
+ghost use Rattle.quilt_world.specs.Tale.{Goes};
 ghost use Rattle.quilt_host.specs.Calls.{Takes, Puts};
 
 use crate::failure::Failure;
@@ -9,7 +9,7 @@ use crate::system::System;
 pub(crate) fn take<S: System>(system: &mut S, into: &mut [u8]) -> Result<usize, Failure>
     requires { 0 < length into.old }
     ensures count { IfOk result (λ n. n ≤ length into.old) }
-    ensures took { IfOk result (λ n. Steps (Takes (take n into.new)) (S.told system.old) (S.told system.new)) }
+    ensures took { IfOk result (λ n. Goes (Takes (take n into.new)) (S.told system.old) (S.told system.new)) }
     ensures nothing { OnErr result (S.told system.new ≡ S.told system.old) }
 {
     'tries: for _ in 0..u64::MAX {
@@ -26,7 +26,7 @@ pub(crate) fn take<S: System>(system: &mut S, into: &mut [u8]) -> Result<usize, 
 pub(crate) fn put<S: System>(system: &mut S, bytes: &[u8]) -> Result<usize, Failure>
     requires { 0 < length bytes.now }
     ensures count { IfOk result (λ n. (1 ≤ n) × (n ≤ length bytes.now)) }
-    ensures put { IfOk result (λ n. Steps (Puts (take n bytes.now)) (S.told system.old) (S.told system.new)) }
+    ensures put { IfOk result (λ n. Goes (Puts (take n bytes.now)) (S.told system.old) (S.told system.new)) }
     ensures nothing { OnErr result (S.told system.new ≡ S.told system.old) }
 {
     'tries: for _ in 0..u64::MAX {

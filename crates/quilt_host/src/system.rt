@@ -1,5 +1,6 @@
 ghost use Rattle.std.specs.Prelude.{◌≡◌, ◌⊎◌, ℕ, ◌<◌, ◌≤◌, Option, Ok, Err, true, false, List, map, length, take, drop, string_bytes, OnOk, OnErr, IfOk, IfSome, Some, None};
-ghost use Rattle.quilt_host.specs.Story.{Story, Steps};
+ghost use Rattle.quilt_world.specs.Tale.{Goes};
+ghost use Rattle.quilt_host.specs.Story.{Story};
 ghost use Rattle.quilt_host.specs.Calls.{Opens, Creates, Removes, FailsToRemove, Writes, Loses, Syncs, Links, Takes, Puts, Says, SaysFront};
 
 use crate::failure::Failure;
@@ -43,7 +44,7 @@ pub trait System {
 
     /// Opens the file of this path, and gives its descriptor. It makes no file and changes none.
     fn open(&mut self, path: &str, access: Access) -> Result<RawFd, Failure>
-        ensures opened { OnOk result (Steps (Opens path.now) (told self.old) (told self.new)) }
+        ensures opened { OnOk result (Goes (Opens path.now) (told self.old) (told self.new)) }
         ensures nothing { OnErr result (told self.new ≡ told self.old) }
         ensures missing { result ≡ Err Failure.Missing → IfSome (told self.old) (λ s. path.now ≡ s.path → s.is_there ≡ false) };
 
@@ -58,14 +59,14 @@ pub trait System {
 
     /// Makes a new file of this path, with no bytes, and gives its descriptor. It takes no path that has a file.
     fn create(&mut self, path: &str) -> Result<RawFd, Failure>
-        ensures created { OnOk result (Steps (Creates path.now) (told self.old) (told self.new)) }
+        ensures created { OnOk result (Goes (Creates path.now) (told self.old) (told self.new)) }
         ensures nothing { OnErr result (told self.new ≡ told self.old) }
         ensures taken { result ≡ Err Failure.Taken → IfSome (told self.old) (λ s. path.now ≡ s.path → s.is_there ≡ true) };
 
     /// Removes the file of this path.
     fn remove(&mut self, path: &str) -> Result<(), Failure>
-        ensures removed { OnOk result (Steps (Removes path.now) (told self.old) (told self.new)) }
-        ensures kept { OnErr result (Steps FailsToRemove (told self.old) (told self.new)) };
+        ensures removed { OnOk result (Goes (Removes path.now) (told self.old) (told self.new)) }
+        ensures kept { OnErr result (Goes FailsToRemove (told self.old) (told self.new)) };
 
     /// The number of bytes of the file.
     fn length(&mut self) -> Result<u64, Failure>
@@ -90,42 +91,42 @@ pub trait System {
     /// but where a signal came first, nothing is done.
     fn write_at(&mut self, at: u64, bytes: &[u8]) -> Result<usize, Failure>
         ensures count { IfOk result (λ n. n ≤ length bytes.now) }
-        ensures wrote { IfOk result (λ n. 0 < n → Steps (Writes at (take n bytes.now)) (told self.old) (told self.new)) }
+        ensures wrote { IfOk result (λ n. 0 < n → Goes (Writes at (take n bytes.now)) (told self.old) (told self.new)) }
         ensures none { result ≡ Ok 0 → told self.new ≡ told self.old }
-        ensures lost { OnErr result (Steps (λ old new. (new ≡ old) ⊎ Loses at (length bytes.now) old new) (told self.old) (told self.new)) }
+        ensures lost { OnErr result (Goes (λ old new. (new ≡ old) ⊎ Loses at (length bytes.now) old new) (told self.old) (told self.new)) }
         ensures interrupted { result ≡ Err Failure.Interrupted → told self.new ≡ told self.old };
 
     /// Makes sure that what was written to the file, and its length, are on the disk.
     fn sync_all(&mut self) -> Result<(), Failure>
-        ensures synced { OnOk result (Steps Syncs (told self.old) (told self.new)) }
+        ensures synced { OnOk result (Goes Syncs (told self.old) (told self.new)) }
         ensures nothing { OnErr result (told self.new ≡ told self.old) };
 
     /// The same, where the length is on the disk already.
     fn sync_data(&mut self) -> Result<(), Failure>
-        ensures synced { OnOk result (Steps Syncs (told self.old) (told self.new)) }
+        ensures synced { OnOk result (Goes Syncs (told self.old) (told self.new)) }
         ensures nothing { OnErr result (told self.new ≡ told self.old) };
 
     /// Makes sure that the file's entry in the open folder is on the disk.
     fn sync_folder(&mut self) -> Result<(), Failure>
-        ensures linked { OnOk result (Steps Links (told self.old) (told self.new)) }
+        ensures linked { OnOk result (Goes Links (told self.old) (told self.new)) }
         ensures nothing { OnErr result (told self.new ≡ told self.old) };
 
     /// Takes the next bytes of standard input, as many as it likes. 0 says that it has ended.
     fn take(&mut self, into: &mut [u8]) -> Result<usize, Failure>
         requires { 0 < length into.old }
         ensures count { IfOk result (λ n. n ≤ length into.old) }
-        ensures took { IfOk result (λ n. Steps (Takes (take n into.new)) (told self.old) (told self.new)) }
+        ensures took { IfOk result (λ n. Goes (Takes (take n into.new)) (told self.old) (told self.new)) }
         ensures nothing { OnErr result (told self.new ≡ told self.old) };
 
     /// Puts a front of the bytes to standard output, and says how many.
     fn put(&mut self, bytes: &[u8]) -> Result<usize, Failure>
         ensures count { IfOk result (λ n. n ≤ length bytes.now) }
-        ensures put { IfOk result (λ n. 0 < n → Steps (Puts (take n bytes.now)) (told self.old) (told self.new)) }
+        ensures put { IfOk result (λ n. 0 < n → Goes (Puts (take n bytes.now)) (told self.old) (told self.new)) }
         ensures none { result ≡ Ok 0 → told self.new ≡ told self.old }
         ensures nothing { OnErr result (told self.new ≡ told self.old) };
 
     /// Writes a line to standard error. Where it fails, a front of the line may be written.
     fn say(&mut self, line: &str) -> Result<(), Failure>
-        ensures said { OnOk result (Steps (Says line.now) (told self.old) (told self.new)) }
-        ensures front { OnErr result (Steps (SaysFront line.now) (told self.old) (told self.new)) };
+        ensures said { OnOk result (Goes (Says line.now) (told self.old) (told self.new)) }
+        ensures front { OnErr result (Goes (SaysFront line.now) (told self.old) (told self.new)) };
 }

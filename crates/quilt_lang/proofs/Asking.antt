@@ -4,7 +4,7 @@ use Rattle.std.proofs.Common.{◌∙◌, ap, subst, arith, inl, inr}
 use Rattle.std.specs.List.{list_all}
 use Rattle.std.specs.Str.{bytes_eq}
 use Rattle.std.proofs.lemmas.Slice.Eq.{bytes_eq-Decides}
-use Rattle.std.proofs.lemmas.Bool.{eqb-true, ne_eqb}
+use Rattle.std.proofs.lemmas.Bool.{eqb-true, ne_eqb, or_parts, or_right, or_from, cases_Bool}
 use Rattle.std.proofs.lemmas.List.{length-map}
 use Rattle.std.proofs.Math.Nat.{pow-le-pow_right}
 use Rattle.quilt_types.specs.Plane.{side}
@@ -15,7 +15,6 @@ use Rattle.quilt_lang.specs.declared.asked.Asked.TheVariants as kinds
 use Rattle.quilt_words.specs.Items.{Group, asked, asked_by, begins_with, held, held_as, is_long, is_plain, listed_by, words_of, rows_of, rows_joined, points_of}
 use Rattle.quilt_words.specs.Items.{points_joined, rings_of, rings_joined}
 use Rattle.quilt_lang.specs.Cutting.{IsAsked, grouped, holding}
-use Rattle.quilt_words.proofs.Cases.{bool_cases}
 use Rattle.quilt_lang.proofs.LineLaws.{asked_long}
 use Rattle.quilt_lang.proofs.Long.{long_item, short_item}
 
@@ -41,7 +40,7 @@ rings_word [] some other = absurd (omega (arith, some))
 rings_word (w ∷ []) some other = absurd (omega (arith, some))
 rings_word (w ∷ p ∷ []) some other = absurd (omega (arith, some))
 rings_word (w ∷ p ∷ k ∷ []) some other = let none : 0 < 0 = rw other at some in absurd (omega (arith, none))
-rings_word (w ∷ p ∷ c ∷ k ∷ []) some other = elim (bool_cases (bytes_eq w (codes "polygon"))) [
+rings_word (w ∷ p ∷ c ∷ k ∷ []) some other = elim (cases_Bool (bytes_eq w (codes "polygon"))) [
   | inl is ↦ is
   | inr not_ ↦ let none : 0 < 0 = rw not_ at some in absurd (omega (arith, none))
 ]
@@ -65,17 +64,9 @@ asks_rings n ws k other is some no_list = record { number = asks_listed n ws oth
 pub line_long : (n : ℕ) (line : List ℕ) → is_long line ≡ true → IsAsked n (asked n line) (words_of line) kinds.Nothing
 line_long n line long = record { number = asked_long n line long; kind = tt }
 
-or_true : (a b : Bool) → b ≡ true → (a || b) ≡ true
-or_true true b is = refl
-or_true false b is = is
-
-or_false : (a b : Bool) → a ≡ false → b ≡ false → (a || b) ≡ false
-or_false false b first second = second
-or_false true b first second = first
-
 pub line_odd : (n : ℕ) (line : List ℕ) → list_all is_plain line ≡ false → IsAsked n (asked n line) (words_of line) kinds.Nothing
 line_odd n line odd = record {
-  number = ap (λ (b : Bool). cond {A = ℕ} b 0 (asked_by n (words_of line))) (or_true (is_long line) (not (list_all is_plain line)) (ap not odd));
+  number = ap (λ (b : Bool). cond {A = ℕ} b 0 (asked_by n (words_of line))) (or_right (is_long line) (not (list_all is_plain line)) (ap not odd));
   kind = tt;
 }
 
@@ -87,15 +78,11 @@ line_asks n line ws what short plain is same =
     let by : IsAsked n (asked_by n (words_of line)) (words_of line) what = subst P same is in
     record {
       number = ap (λ (b : Bool). cond {A = ℕ} b 0 (asked_by n (words_of line)))
-          (or_false (is_long line) (not (list_all is_plain line)) short (ap not plain)) ∙ by.number;
+          (or_from (is_long line) (not (list_all is_plain line)) short (ap not plain)) ∙ by.number;
       kind = by.kind;
     }
 
 -- a line whose first word asks for no further lines
-neither : (a b : Bool) → (a || b) ≡ false → (a ≡ false) × (b ≡ false)
-neither false b is = (refl, is)
-neither true b is = absurd (cc)
-
 none_listed : (w : List ℕ) (ws : List (List ℕ)) → bytes_eq w (codes "scatter") ≡ false → bytes_eq w (codes "polygon") ≡ false → listed_by (w ∷ ws) ≡ 0
 none_listed w [] points rings = refl
 none_listed w (p ∷ []) points rings = refl
@@ -107,8 +94,8 @@ pub none_asked : (n : ℕ) (ws : List (List ℕ)) →
     (begins_with ws (codes "raster") || begins_with ws (codes "scatter") || begins_with ws (codes "polygon")) ≡ false → asked_by n ws ≡ 0
 none_asked n [] other = refl
 none_asked n (w ∷ ws) other =
-    let rings = neither (bytes_eq w (codes "raster") || bytes_eq w (codes "scatter")) (bytes_eq w (codes "polygon")) other in
-    let points = neither (bytes_eq w (codes "raster")) (bytes_eq w (codes "scatter")) rings.0 in
+    let rings = or_parts (bytes_eq w (codes "raster") || bytes_eq w (codes "scatter")) (bytes_eq w (codes "polygon")) other in
+    let points = or_parts (bytes_eq w (codes "raster")) (bytes_eq w (codes "scatter")) rings.0 in
     asks_listed n (w ∷ ws) points.0 ∙ none_listed w ws points.1 rings.1
 
 zero_either : (b : Bool) (k : ℕ) → k ≡ 0 → cond {A = ℕ} b 0 k ≡ 0

@@ -4,14 +4,13 @@ use Rattle.std.proofs.Common.{subst, arith, append_assoc, append-nil, inl, inr, 
 use Rattle.std.proofs.lemmas.List.{take_all, drop-drop, take-append-le, take-append-drop, length-take-le}
 use Rattle.std.proofs.lemmas.List.Elements.{All-append, All-take}
 use Rattle.std.proofs.Math.Seq.{take-add, drop-append_seam}
-use Rattle.std.proofs.lemmas.Bool.{eqb-true, eqb-false}
+use Rattle.std.proofs.lemmas.Bool.{eqb-true, eqb-false, cases_Bool}
 use Rattle.quilt_lang.specs.declared.asked.Asked.{Asked}
 use Rattle.quilt_lang.specs.declared.progress.CutLines.{CutLines}
 use Rattle.quilt_words.specs.Items.{asked, is_silent, whole_lines, words_of}
 use Rattle.quilt_lang.specs.Reading.{HasNewline, HasNone, IsLine}
 use Rattle.quilt_lang.specs.Cutting.{Cuts, CutsUpTo, IsAsked, number_of}
 use Rattle.quilt_lang.specs.Progress.{IsCount, IsFirst, IsUncut, IsWaiting}
-use Rattle.quilt_words.proofs.Cases.{bool_cases}
 use Rattle.quilt_lang.proofs.LineLaws.{whole_none}
 use Rattle.quilt_lang.proofs.Groups.{cuts_line, cuts_none, fronts_then, front_cuts, front_none}
 
@@ -156,7 +155,7 @@ pub lines_there : (e : Bool) (count : ℕ) (taken : List (List ℕ)) (text new :
     → (e ≡ false → count ≤ length (whole_lines text)) →
     (e || (length taken == count)) ≡ true
 lines_there true count taken text new more there = refl
-lines_there false count taken text new more there = elim (bool_cases (length taken == count)) [
+lines_there false count taken text new more there = elim (cases_Bool (length taken == count)) [
   | inl is ↦ is
   | inr short ↦
       let few : length taken < count = omega (arith, more.few, eqb-false (length taken) count short) in

@@ -2,14 +2,13 @@
 use Rattle.std.proofs.Common.{◌≡◌, inl, inr, ℕ, ◌+◌, ◌<◌, true, false, ◌==◌, List, ◌∷◌, ◌++◌, length, take, drop, get_or}
 use Rattle.std.proofs.Common.{Option, Some, None, sym, ◌∙◌, ap, arith, length-take}
 use Rattle.std.proofs.lemmas.List.{get_or-take, get_or_default, take-append-drop, drop_more}
-use Rattle.std.proofs.lemmas.Bool.{eqb-true}
+use Rattle.std.proofs.lemmas.Bool.{eqb-true, cases_Bool}
 use Rattle.memchr.specs.Find.{IsFirstByte, is_byte}
-use Rattle.quilt_words.proofs.Cases.{bool_cases}
 use Rattle.quilt_lang.specs.Reading.{IsCut}
 
 -- no byte passes where none is found
 not_newline : (bytes : List ℕ) (j d : ℕ) → j < length bytes → ((get_or bytes j 0 == 10) ≡ true → ⊥) → (get_or bytes j d == 10) ≡ false
-not_newline bytes j d below none = elim (bool_cases (get_or bytes j d == 10)) [
+not_newline bytes j d below none = elim (cases_Bool (get_or bytes j d == 10)) [
   | inl is ↦ absurd (none (ap (λ (c : ℕ). c == 10) (get_or_default bytes j 0 d below) ∙ is))
   | inr other ↦ other
 ]

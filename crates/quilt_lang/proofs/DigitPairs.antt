@@ -2,10 +2,9 @@
 use Rattle.std.proofs.Common.{◌≡◌, ℕ, ◌+◌, ◌*◌, ◌<◌, ◌≤◌, max, nat_le, List, [], ◌∷◌, ◌++◌, length, take, drop, get_or, set, unwrap_or}
 use Rattle.std.proofs.Common.{Option, Some, None, option_map, cond, refl, sym, ◌∙◌, ap, arith, append-nil, inl, inr}
 use Rattle.std.proofs.lemmas.List.{take_all, drop_all, take_more_set}
-use Rattle.std.proofs.lemmas.Bool.{leb-true, leb-false}
+use Rattle.std.proofs.lemmas.Bool.{leb-true, leb-false, cases_Bool}
 use Rattle.quilt_words.specs.Items.{colour_bytes}
 use Rattle.quilt_words.specs.Spelling.{hex_digit, row}
-use Rattle.quilt_words.proofs.Cases.{bool_cases}
 use Rattle.quilt_lang.specs.Spelled.{with_byte}
 use Rattle.quilt_lang.proofs.Digits.{two_digits, no_digits}
 use Rattle.quilt_lang.proofs.Joins.{BytesSoFar, WideSoFar, bytes_none, bytes_more, bytes_at, wide_none, wide_more, wide_at}
@@ -40,7 +39,7 @@ pairs_next line bytes i most high low byte new size within so is_high is_low spe
           (bytes_more line (2 * i) byte got (omega (arith, size, within)) (so.digits low_most)
           (λ rest. two_digits (get_or line (2 * i) 0) (get_or line (2 * i + 1) 0) high low rest is_high is_low both
           ∙ ap (λ (b : ℕ). with_byte (Some b) (row rest)) (sym is)));
-      others = λ many. elim (bool_cases (nat_le most 15)) [
+      others = λ many. elim (cases_Bool (nat_le most 15)) [
         | inl few ↦
             let low_most : most ≤ 15 = leb-true most 15 few in
             bytes_at line (2 * i) (2 * i + 1) (2 * i + 2) None got (omega arith) (omega arith) (omega (arith, size, within)) (so.digits low_most)
@@ -52,7 +51,7 @@ pairs_next line bytes i most high low byte new size within so is_high is_low spe
 
 pub pairs_end : (line bytes : List ℕ) (i most : ℕ) → length line ≡ 2 * length bytes → length bytes ≤ i → PairsSoFar line i most bytes
     → cond (nat_le most 15) (Some bytes) None ≡ row line
-pairs_end line bytes i most size past so = elim (bool_cases (nat_le most 15)) [
+pairs_end line bytes i most size past so = elim (cases_Bool (nat_le most 15)) [
   | inl few ↦ rw few
       (sym (so.digits (leb-true most 15 few) ∙ ap (λ l. option_map (λ r. take i bytes ++ r) (row l)) (drop_all (2 * i) line (omega (arith, size, past)))
       ∙ ap Some (append-nil (take i bytes) ∙ take_all i bytes past)))
@@ -89,7 +88,7 @@ wide_pairs_next line bytes i most high low byte new size within so is_high is_lo
           (wide_more line i byte got size (so.digits low_most)
           (λ rest. two_digits (get_or line i 0) (get_or line (i + 1) 0) high low rest is_high is_low both
           ∙ ap (λ (b : ℕ). with_byte (Some b) (row rest)) (sym is)));
-      others = λ many. elim (bool_cases (nat_le most 15)) [
+      others = λ many. elim (cases_Bool (nat_le most 15)) [
         | inl few ↦
             let low_most : most ≤ 15 = leb-true most 15 few in
             wide_at line i (i + 1) (i + 2) None got (omega arith) (omega arith) size (so.digits low_most)
@@ -101,7 +100,7 @@ wide_pairs_next line bytes i most high low byte new size within so is_high is_lo
 
 pub wide_pairs_end : (line bytes : List ℕ) (i most : ℕ) → length line ≡ length bytes → length bytes ≤ i → WidePairsSoFar line i most bytes
     → cond (nat_le most 15) (Some bytes) None ≡ option_map (colour_bytes 1) (row line)
-wide_pairs_end line bytes i most size past so = elim (bool_cases (nat_le most 15)) [
+wide_pairs_end line bytes i most size past so = elim (cases_Bool (nat_le most 15)) [
   | inl few ↦ rw few
       (sym (so.digits (leb-true most 15 few)
       ∙ ap (λ l. option_map (λ r. take i bytes ++ r) (option_map (colour_bytes 1) (row l))) (drop_all i line (omega (arith, size, past)))

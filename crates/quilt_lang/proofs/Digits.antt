@@ -3,7 +3,6 @@ use Rattle.std.proofs.Common.{◌≡◌, ℕ, ◌+◌, ◌*◌, ◌<◌, ◌≤�
 use Rattle.std.proofs.Common.{◌⊎◌, inl, inr, nat_le}
 use Rattle.std.proofs.lemmas.Bool.{leb-true, leb-false}
 use Rattle.quilt_words.specs.Spelling.{hex_digit, row, cons_both}
-use Rattle.quilt_words.proofs.Cases.{bool_cases}
 use Rattle.quilt_words.proofs.Holding.{digit_low}
 use Rattle.quilt_lang.specs.Spelled.{with_byte}
 
@@ -37,7 +36,7 @@ two_digits c d h l rest first second low =
 -- and two bytes of which one is no digit
 pub no_digits : (c d h l : ℕ) (rest : List ℕ) → h ≡ unwrap_or (hex_digit c) 16 → l ≡ unwrap_or (hex_digit d) 16 → 15 < max h l →
     row (c ∷ d ∷ rest) ≡ with_byte None (row rest)
-no_digits c d h l rest first second high = elim (bool_cases (nat_le h 15)) [
+no_digits c d h l rest first second high = elim (cases_Bool (nat_le h 15)) [
   | inl low ↦
       let small : h ≤ 15 = leb-true h 15 low in
       one_missing (hex_digit c) (hex_digit d) (row rest) (inr (no_digit (hex_digit d) l second (digit_low d) (omega (arith, small, high))))

@@ -3,7 +3,7 @@ use Rattle.std.proofs.Common.{◌≡◌, ℕ, ◌+◌, ◌-◌, length-take, ◌
 use Rattle.std.proofs.Common.{codes, refl, sym, ◌∙◌, ap, subst, arith, append-nil, length-drop, inl, inr}
 use Rattle.std.proofs.lemmas.List.{take_all, take-append-drop, drop-drop, length-take-le}
 use Rattle.std.proofs.lemmas.List.Elements.{All-nil}
-use Rattle.std.proofs.lemmas.Bool.{eqb-true, eqb-false, eq-eqb}
+use Rattle.std.proofs.lemmas.Bool.{eqb-true, eqb-false, eq-eqb, cases_Bool}
 use Rattle.std.proofs.Math.Seq.{take-add}
 use Rattle.quilt_words.specs.Items.{asked, held, line_limit, whole_items, whole_lines, words_of}
 use Rattle.quilt_lang.specs.declared.asked.Asked.{Asked}
@@ -15,7 +15,6 @@ use Rattle.quilt_lang.specs.Reading.{Gives, IsLine, begins_silent, first_is_sile
 use Rattle.quilt_lang.specs.Shortening.{bounds}
 use Rattle.quilt_lang.specs.Cutting.{Cuts, CutsUpTo, IsAsked, grouped, limit_of, number_of}
 use Rattle.quilt_lang.specs.Progress.{IsCount, IsFirst, IsKept, IsWaiting}
-use Rattle.quilt_words.proofs.Cases.{bool_cases}
 use Rattle.quilt_lang.proofs.Asking.{other_word}
 use Rattle.quilt_lang.proofs.Counts.{first_whole, uncut_all, uncut_kept, waiting_kept}
 use Rattle.quilt_lang.proofs.Groups.{fronts_then, front_cuts, front_gives}
@@ -102,7 +101,7 @@ module _ (n line : ℕ) (what : Asked) (cut : CutLines) (text : List ℕ) (first
 
   -- not all further lines stand there
   pub few : cut.count < number_of n what
-  few = elim (bool_cases (cut.count == number_of n what)) [
+  few = elim (cases_Bool (cut.count == number_of n what)) [
     | inr other ↦ omega (arith, so.few, eqb-false cut.count (number_of n what) other)
     | inl is ↦
         let lines : List (List ℕ) = so.lines in
@@ -155,7 +154,7 @@ module _ (n line : ℕ) (what : Asked) (cut : CutLines) (text : List ℕ) (first
     -- of a last line that is too long so much may be kept
     gives_enough : (o : Option ℕ) (known : ℕ) → limit_of what ≡ o → known ≡ enough_of o cut.scanned → Gives false n [] text (take (from + known) text)
     gives_enough None known limit is = rw (take_all (from + known) text (omega (arith, is, size))) (gives_none false n text)
-    gives_enough (Some lim) known limit is = elim (bool_cases (known == cut.scanned)) [
+    gives_enough (Some lim) known limit is = elim (cases_Bool (known == cut.scanned)) [
       | inl same ↦
           let equal : known ≡ cut.scanned = eqb-true known cut.scanned same in
           rw (take_all (from + known) text (omega (arith, equal, size))) (gives_none false n text)

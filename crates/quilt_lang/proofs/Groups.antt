@@ -7,7 +7,6 @@ use Rattle.quilt_lang.specs.declared.asked.Asked.{Asked}
 use Rattle.quilt_words.specs.Items.{Group, asked, is_complete, is_silent, groups_from, items_of, lines_of, whole_items, whole_lines, words_of}
 use Rattle.quilt_lang.specs.Reading.{Gives, HasNone, HasNewline, IsLine}
 use Rattle.quilt_lang.specs.Cutting.{Cuts, CutsUpTo, HasNoLine, IsAsked, grouped, number_of}
-use Rattle.quilt_words.proofs.Cases.{bool_cases}
 use Rattle.quilt_lang.proofs.LineLaws.{groups_loud, lines_line, whole_line, whole_none, last_line, no_lines, silent_nothing}
 use Rattle.quilt_lang.proofs.Pieces.{gives_of, drop_min}
 use Rattle.quilt_words.proofs.Slices.{behind}
@@ -179,7 +178,7 @@ met : (e : Bool) (n k : ℕ) (line : List ℕ) (taken : List (List ℕ)) (text b
     CutsUpTo e k taken behind new → (e || (length taken == k)) ≡ true → Gives e n (grouped line taken ∷ []) text new
 met false n k line taken text behind new loud number first more is =
     gives_full false n line taken text new loud (eqb-true (length taken) k is ∙ sym number) (both_cuts false k text line behind new taken first more)
-met true n k line taken text behind new loud number first more is = elim (bool_cases (length taken == k)) [
+met true n k line taken text behind new loud number first more is = elim (cases_Bool (length taken == k)) [
   | inl full ↦ gives_full true n line taken text new loud (eqb-true (length taken) k full ∙ sym number) (both_cuts true k text line behind new taken first more)
   | inr short ↦
       let few : length taken < k = omega (arith, more.few, eqb-false (length taken) k short) in

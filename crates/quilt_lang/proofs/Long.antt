@@ -4,14 +4,13 @@ use Rattle.std.proofs.Common.{sym, ◌∙◌, ap, arith, length-append, length-t
 use Rattle.std.specs.List.{slice_split, onto_first}
 use Rattle.std.proofs.lemmas.List.Splits.{length-slice_split}
 use Rattle.std.proofs.lemmas.List.Elements.{All-head, All-tail}
-use Rattle.std.proofs.lemmas.Bool.{lt-ltb, ltb-true, ltb-false}
+use Rattle.std.proofs.lemmas.Bool.{lt-ltb, ltb-true, ltb-false, cases_Bool}
 use Rattle.std.proofs.lemmas.List.{get_or-take, take_all}
 use Rattle.quilt_words.specs.declared.item.Item.{Item}
 use Rattle.quilt_words.specs.declared.item.Item.TheVariants.{Long}
 use Rattle.quilt_words.specs.Items.{Group, line_limit, is_long, is_silent, lines_of, whole_lines, without_empty_end, without_last, groups_from, items_of}
 use Rattle.quilt_words.specs.Items.{whole_items, held, held_as, asked, is_complete}
 use Rattle.quilt_lang.specs.Reading.{Unread, IsLine, Gives, Same, alone}
-use Rattle.quilt_words.proofs.Cases.{bool_cases}
 use Rattle.quilt_lang.proofs.Pieces.{same_by, gives_none, gives_then, gives_fed}
 use Rattle.quilt_lang.proofs.LineLaws.{asked_long, groups_alone, complete_first}
 
@@ -140,7 +139,7 @@ gives_long n a b is_a is_b long_a long_b = record {
 
 -- of a text with no newline so much may be kept
 pub gives_kept : (n m : ℕ) (text : List ℕ) → IsLine text → (m < length text → line_limit < m) → Gives false n [] text (take m text)
-gives_kept n m text none enough = elim (bool_cases (nat_lt m (length text))) [
+gives_kept n m text none enough = elim (cases_Bool (nat_lt m (length text))) [
   | inl long ↦
       let past : m < length text = ltb-true m (length text) long in
       let over : line_limit < m = enough past in

@@ -2,11 +2,10 @@
 use Rattle.std.proofs.Common.{◌≡◌, ℕ, min, nat_lt, subst, inl, inr, ◌+◌, ◌<◌, ◌≤◌, Bool, true, false, List, [], ◌∷◌, ◌++◌, length, take, drop, refl, sym, ◌∙◌}
 use Rattle.std.proofs.Common.{ap, arith, append_assoc, map}
 use Rattle.std.proofs.lemmas.List.{drop_all, drop-drop}
-use Rattle.std.proofs.lemmas.Bool.{ltb-true, ltb-false}
+use Rattle.std.proofs.lemmas.Bool.{ltb-true, ltb-false, cases_Bool}
 use Rattle.quilt_words.specs.declared.item.Item.{Item}
 use Rattle.quilt_words.specs.Items.{Group, is_silent, items_of, whole_items, held}
 use Rattle.quilt_lang.specs.Reading.{Unread, MayFollow, Gives, GivesItem, Same, HasNone, HasNewline, IsLine, begins_silent}
-use Rattle.quilt_words.proofs.Cases.{bool_cases}
 use Rattle.quilt_lang.proofs.LineLaws.{silent_next, whole_silent_next, whole_part, last_silent, begins_line}
 
 -- lists that hold the same
@@ -77,7 +76,7 @@ none_ended true n text none silent = last_silent n text none silent
 none_ended false n text none silent = whole_part n text none
 
 pub drop_min : (m : ℕ) (l : List ℕ) → drop (min (length l) m) l ≡ drop m l
-drop_min m l = elim (bool_cases (nat_lt (length l) m)) [
+drop_min m l = elim (cases_Bool (nat_lt (length l) m)) [
   | inl past ↦ let over : length l < m = ltb-true (length l) m past in rw (drop_all m l (omega arith)) (drop_all (min (length l) m) l (omega arith))
   | inr within ↦ let under : m ≤ length l = ltb-false (length l) m within in let same : min (length l) m ≡ m = omega arith in rw same refl
 ]

@@ -4,11 +4,10 @@ use Rattle.std.proofs.Common.{refl, sym, ◌∙◌, ap, subst, arith, append_ass
 use Rattle.std.proofs.Math.Seq.{take-add}
 use Rattle.std.proofs.lemmas.List.{take_all, take-append-drop, drop-drop, length-take-le, take-append-le}
 use Rattle.std.proofs.lemmas.List.Elements.{All-nil, All-push, All-take}
-use Rattle.std.proofs.lemmas.Bool.{leb-true, leb-false}
+use Rattle.std.proofs.lemmas.Bool.{leb-true, leb-false, cases_Bool}
 use Rattle.quilt_words.specs.Items.{whole_lines}
 use Rattle.quilt_lang.specs.Reading.{Gives, HasNewline, IsLine, unfinished}
 use Rattle.quilt_lang.specs.Shortening.{IsShortened, Misses}
-use Rattle.quilt_words.proofs.Cases.{bool_cases}
 use Rattle.quilt_lang.proofs.Counts.{newline_front, take_less}
 use Rattle.quilt_lang.proofs.LineLaws.{whole_line, whole_none}
 use Rattle.quilt_lang.proofs.Long.{line_front, onto}
@@ -53,7 +52,7 @@ misses_next n most missing text s so some none = record {
 -- of bytes with no newline so many may be kept
 gives_enough : (n most missing : ℕ) (text s : List ℕ) (m : ℕ) → Misses n most missing text → 0 < missing → IsLine s → m ≡ min (length s) (most + 1)
     → Gives false n [] (text ++ s) (text ++ take m s)
-gives_enough n most missing text s m so some none is = elim (bool_cases (nat_le (length s) (most + 1))) [
+gives_enough n most missing text s m so some none is = elim (cases_Bool (nat_le (length s) (most + 1))) [
   | inl low ↦
       let few : length s ≤ most + 1 = leb-true (length s) (most + 1) low in
       rw (take_all m s (omega (arith, is, few))) (gives_none false n (text ++ s))

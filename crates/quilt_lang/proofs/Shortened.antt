@@ -1,7 +1,7 @@
 -- A further line that is too long may be cut short, since of it only that it is too long is held.
 use Rattle.std.proofs.Common.{◌≡◌, ℕ, zero, suc, ◌+◌, ◌-◌, ◌<◌, ◌==◌, nat_le, Bool, true, false, List, [], ◌∷◌, ◌++◌, length, take, map}
 use Rattle.std.proofs.Common.{filter, Option, Some, None, option_map, option_and_then, cond, refl, sym, ◌∙◌, ap, arith, length-append, inl, inr}
-use Rattle.std.proofs.lemmas.Bool.{lt-ltb, lt-leb}
+use Rattle.std.proofs.lemmas.Bool.{lt-ltb, lt-leb, cases_Bool}
 use Rattle.quilt_words.specs.declared.item.Item.{Item}
 use Rattle.quilt_words.specs.declared.item.Item.TheVariants.{PointLines, RingLines}
 use Rattle.quilt_words.specs.Items.{Group, asked, groups_from, held, is_complete, is_long, is_silent, items_of, line_limit, point_of, points_joined}
@@ -10,7 +10,6 @@ use Rattle.quilt_lang.specs.declared.asked.Asked.{Asked}
 use Rattle.quilt_lang.specs.declared.asked.Asked.TheVariants as kinds
 use Rattle.quilt_lang.specs.Reading.{Gives, IsLine, Same, point_limit, unfinished}
 use Rattle.quilt_lang.specs.Cutting.{IsAsked, grouped, holding, limit_of, number_of}
-use Rattle.quilt_words.proofs.Cases.{bool_cases}
 use Rattle.quilt_lang.proofs.LineLaws.{groups_loud}
 use Rattle.quilt_lang.proofs.Long.{first_of, later_of, long_item, onto, pieces}
 use Rattle.quilt_lang.proofs.Asking.{holds}
@@ -72,7 +71,7 @@ holding_long f n lim line ms l m rest (kinds.Rings k) is long_l long_m =
 held_long : (f n lim : ℕ) (line : List ℕ) (ms : List (List ℕ)) (l m : List ℕ) (rest : List (List ℕ)) (what : Asked) → limit_of what ≡ Some lim
     → IsAsked n (asked n line) (words_of line) what → lim < length l → lim < length m
     → held f n (grouped line (ms ++ l ∷ rest)) ≡ held f n (grouped line (ms ++ m ∷ rest))
-held_long f n lim line ms l m rest what is asks long_l long_m = elim (bool_cases (is_long line)) [
+held_long f n lim line ms l m rest what is asks long_l long_m = elim (cases_Bool (is_long line)) [
   | inl long ↦ long_item f n (grouped line (ms ++ l ∷ rest)) long ∙ sym (long_item f n (grouped line (ms ++ m ∷ rest)) long)
   | inr short ↦
       sym (holds f n line (ms ++ l ∷ rest) what (holding f n line (ms ++ l ∷ rest) what) short asks refl)

@@ -5,10 +5,10 @@ use Rattle.std.proofs.Math.Seq.{drop-append_seam}
 use Rattle.std.specs.List.{onto_first}
 use Rattle.std.proofs.lemmas.List.Splits.{length-slice_split, slice_split_none}
 use Rattle.std.proofs.lemmas.List.Elements.{All-nil, All-cons}
+use Rattle.std.proofs.lemmas.Bool.{cases_Bool}
 use Rattle.quilt_words.specs.Items.{lines_of, whole_lines, without_empty_end, without_last}
 use Rattle.quilt_lang.specs.Reading.{IsLine, last_part, unfinished}
 use Rattle.quilt_lang.specs.Cutting.{Cuts}
-use Rattle.quilt_words.proofs.Cases.{bool_cases}
 use Rattle.quilt_lang.proofs.LineLaws.{not_empty_end, not_last, last_line, whole_none}
 use Rattle.quilt_lang.proofs.Counts.{line_joined}
 use Rattle.quilt_lang.proofs.Long.{onto, pieces, onto_one, onto_none, split_onto, first_of, later_of, lines_onto, whole_onto}
@@ -28,7 +28,7 @@ joined_last c (p ∷ q ∷ ps) qs k j size some = refl
 -- a text cut where another follows it
 split_joined : (a v : List ℕ) → pieces (a ++ v) ≡ without_last (pieces a) ++ onto (last_part (pieces a)) (pieces v)
 split_joined [] v = onto_none (pieces v)
-split_joined (c ∷ cs) v = elim (bool_cases (c == 10)) [
+split_joined (c ∷ cs) v = elim (cases_Bool (c == 10)) [
   | inl is ↦ rw is (ap (λ (l : List (List ℕ)). [] ∷ l) (split_joined cs v)
       ∙ sym (begun_last (pieces cs) (pieces v) _ (length-slice_split (λ x. x == 10) cs)))
   | inr other ↦ rw other (ap (onto_first c) (split_joined cs v)
@@ -47,7 +47,7 @@ line_onto c (p ∷ q ∷ ps) other so = so
 
 last_is_line : (text : List ℕ) → IsLine (last_part (pieces text))
 last_is_line [] = All-nil (λ (x : ℕ). (x == 10) ≡ false)
-last_is_line (c ∷ cs) = elim (bool_cases (c == 10)) [
+last_is_line (c ∷ cs) = elim (cases_Bool (c == 10)) [
   | inl is ↦ rw is (line_behind (pieces cs) _ (length-slice_split (λ x. x == 10) cs) (last_is_line cs))
   | inr other ↦ rw other (line_onto c (pieces cs) other (last_is_line cs))
 ]

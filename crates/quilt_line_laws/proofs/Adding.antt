@@ -4,7 +4,7 @@ use Rattle.std.specs.FinMap as finmap
 use Rattle.std.specs.FinMap.{nat_cmp-IsAntisymmetric}
 use Rattle.std.specs.Ordering.{nat_cmp}
 use Rattle.std.specs.Cmp.{nat_cmp_total}
-use Rattle.std.proofs.lemmas.Bool.{cases_Bool, both_ways}
+use Rattle.std.proofs.lemmas.Bool.{cases_Bool, both_ways, cases_eq}
 use Rattle.std.proofs.lemmas.List.Elements.{All-contains}
 use Rattle.quilt_types.specs.Sets as finset
 use Rattle.quilt_types.specs.declared.plane.Block.{Block}
@@ -35,9 +35,6 @@ same_seg_value a b e = cc
 pub no_seg : (a : Seg) → None ≡ Some a → ⊥
 no_seg a e = cc
 
-pub same_id : (a b : ℕ) → (a ≡ b) ⊎ (a ≡ b → ⊥)
-same_id a b = same_or_not nat_cmp nat_cmp_total nat_cmp-IsAntisymmetric a b
-
 -- ---- look-ups
 module _ (segs : SegMap) (id : ℕ) (s : Seg) where
   abbrev now : SegMap
@@ -56,7 +53,7 @@ module _ (segs : SegMap) (id : ℕ) (s : Seg) where
       (λ e.
       let is = same_seg_value s m.0 (sym got_new ∙ ap (finmap.get now) (sym e) ∙ m.1) in
       inl (e, subst (λ (z : Seg). meets z (square b) ≡ true) (sym is) m.2))
-      (λ d. inr (m.0, sym (got_other q d) ∙ m.1, m.2)) (same_id q id)
+      (λ d. inr (m.0, sym (got_other q d) ∙ m.1, m.2)) (cases_eq q id)
 
   pub met_here : (b : Block) → meets s (square b) ≡ true → IsMet now b id
   met_here b e = (s, got_new, e)
@@ -175,7 +172,7 @@ module _ (segs : SegMap) (id : ℕ) (s : Seg) where
           let is = same_seg_value s r (sym got_new ∙ ap (finmap.get now) (sym e) ∙ l) in
           let pair : IsSegment id s ≡ IsSegment i r = λ j. IsSegment (sym e j) (is j) in
           subst (Contains (facts_added t segs id s met)) pair (Contains-here (IsSegment id s) (flat_map (added_on t now id s) met)))
-          (λ d. absurd (away (sym (got_other i d) ∙ l))) (same_id i id)
+          (λ d. absurd (away (sym (got_other i d) ∙ l))) (cases_eq i id)
       comes (IsMetBy b i) l away =
           ⊎_elim
           (λ w. add_quarter w.0 b (IsMetBy b i) w.1 w.2 w.3 (refl, l.1))

@@ -5,6 +5,7 @@ use Rattle.std.specs.FinMap.{nat_cmp-IsAntisymmetric}
 use Rattle.std.specs.Ordering.{nat_cmp}
 use Rattle.std.specs.Cmp.{nat_cmp_total}
 use Rattle.std.proofs.lemmas.List.Elements.{All-contains, All-contains_itself, All-weaker}
+use Rattle.std.proofs.lemmas.Bool.{cases_eq}
 use Rattle.quilt_types.specs.Sets as finset
 use Rattle.quilt_types.specs.declared.plane.Block.{Block}
 use Rattle.quilt_types.specs.declared.plane.Seg.{Seg}
@@ -22,7 +23,7 @@ use Rattle.quilt_line_laws.proofs.Merges.{IsBlockCover, after_remove-cover}
 use Rattle.quilt_line_laws.specs.Lawful.{NewLaw, AddedLaw, RemovedLaw}
 use Rattle.quilt_line_laws.proofs.LineFacts.{entry, got}
 use Rattle.quilt_line_laws.proofs.Cutting.{cut_says, after_from}
-use Rattle.quilt_line_laws.proofs.Adding.{cover_of, same_seg_value, no_seg, same_id}
+use Rattle.quilt_line_laws.proofs.Adding.{cover_of, same_seg_value, no_seg}
 
 -- what holds of each element holds of all
 each : {X : Type 0} (P : X → Type 0) (xs : List X) → ((x : X) → Contains xs x → P x) → All P xs
@@ -43,7 +44,7 @@ entry_cases segs id s e c =
     ⊎_elim
     (λ is. inl (is, same_seg_value e.1 s (sym g ∙ ap (finmap.get now) is ∙ get_inserted nat_cmp nat_cmp_total nat_cmp-IsAntisymmetric segs id s)))
     (λ d. inr (entry segs e.0 e.1 (sym (get_others nat_cmp nat_cmp_total nat_cmp-IsAntisymmetric segs id s e.0 d) ∙ g)))
-    (same_id e.0 id)
+    (cases_eq e.0 id)
 
 entry_left : (segs : SegMap) (id : ℕ) (e : ℕ × Seg) → Contains (finmap.entries (finmap.remove segs id)) e → Contains (finmap.entries segs) e
 entry_left segs id e c =
@@ -52,7 +53,7 @@ entry_left segs id e c =
     ⊎_elim
     (λ is. absurd (no_seg e.1 (sym (get_removed nat_cmp nat_cmp_total nat_cmp-IsAntisymmetric segs id) ∙ ap (finmap.get now) (sym is) ∙ g)))
     (λ d. entry segs e.0 e.1 (sym (get_kept nat_cmp nat_cmp_total nat_cmp-IsAntisymmetric segs id e.0 d) ∙ g))
-    (same_id e.0 id)
+    (cases_eq e.0 id)
 
 blocks_only : (n : ℕ) (cover : BlockSet) → IsBlockCover n cover → All (Contains (blocks n)) (finset.items cover)
 blocks_only n cover h = each (Contains (blocks n)) (finset.items cover) (λ b c. Contains-blocks n b (h.only b c))

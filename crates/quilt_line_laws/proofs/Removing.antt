@@ -4,7 +4,7 @@ use Rattle.std.specs.FinMap as finmap
 use Rattle.std.specs.FinMap.{nat_cmp-IsAntisymmetric}
 use Rattle.std.specs.Ordering.{nat_cmp}
 use Rattle.std.specs.Cmp.{nat_cmp_total}
-use Rattle.std.proofs.lemmas.Bool.{cases_Bool, both_ways}
+use Rattle.std.proofs.lemmas.Bool.{cases_Bool, both_ways, cases_eq}
 use Rattle.std.proofs.lemmas.List.Elements.{Contains-append_left, Contains-append_right, Contains-append_cases}
 use Rattle.quilt_types.specs.Sets as finset
 use Rattle.quilt_types.specs.declared.plane.Block.{Block}
@@ -25,7 +25,7 @@ use Rattle.quilt_line_laws.specs.Lines.{IsMet, IsLineFact, IsOnBlock, none_on, I
 use Rattle.quilt_line_laws.specs.Merging.{IsChange, coming_in, going_in, staying_in}
 use Rattle.quilt_line_laws.specs.Removing.{facts_back, facts_gone, RemoveLaw}
 use Rattle.quilt_line_laws.proofs.LineFacts.{on_block, block_on, none_on_from, none_on_has, says, said, on_cover}
-use Rattle.quilt_line_laws.proofs.Adding.{cover_of, same_seg_value, no_seg, same_id}
+use Rattle.quilt_line_laws.proofs.Adding.{cover_of, same_seg_value, no_seg}
 use Rattle.quilt_line_laws.proofs.Descent.{coming_are, going_are, staying_are}
 
 -- a block is one of the set or not
@@ -60,7 +60,7 @@ module _ (segs : SegMap) (id : ℕ) (s : Seg) (had : finmap.get segs id ≡ Some
       (λ e.
       let is = same_seg_value s m.0 (sym had ∙ ap (finmap.get segs) (sym e) ∙ m.1) in
       inl (e, subst (λ (z : Seg). meets z (square b) ≡ true) (sym is) m.2))
-      (λ d. inr (m.0, got_other q d ∙ m.1, m.2)) (same_id q id)
+      (λ d. inr (m.0, got_other q d ∙ m.1, m.2)) (cases_eq q id)
 
   met_here : (b : Block) → meets s (square b) ≡ true → IsMet segs b id
   met_here b e = (s, had, e)
@@ -178,7 +178,7 @@ module _ (segs : SegMap) (id : ℕ) (s : Seg) (had : finmap.get segs id ≡ Some
         let is = same_seg_value s r (sym had ∙ ap (finmap.get segs) (sym e) ∙ l) in
         let pair : IsSegment id s ≡ IsSegment i r = λ j. IsSegment (sym e j) (is j) in
         subst (Contains away) pair (Contains-here (IsSegment id s) (flat_map (line_facts segs) going ++ map lost_meeting staying)))
-        (λ d. absurd (out (got_other i d ∙ l))) (same_id i id)
+        (λ d. absurd (out (got_other i d ∙ l))) (cases_eq i id)
     leaves (IsMetBy b i) l out =
         ⊎_elim
         (λ c.

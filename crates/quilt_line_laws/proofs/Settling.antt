@@ -2,6 +2,7 @@
 use Rattle.std.proofs.Common.{◌≡◌, ℕ, Bool, true, false, cond, not, ◌&&◌, ◌||◌, List, [], ◌∷◌, flat_map, refl, sym, ap, ◌∙◌, true≢false}
 use Rattle.std.specs.List.{list_all}
 use Rattle.std.specs.Prelude.{nat_le}
+use Rattle.std.proofs.lemmas.Bool.{not_from_false, not_from_true}
 use Rattle.quilt_types.specs.Sets as finset
 use Rattle.quilt_types.specs.declared.plane.Block.{Block}
 use Rattle.quilt_types.specs.declared.plane.Seg.{Seg}
@@ -66,14 +67,6 @@ and_unmet : (m a c : Bool) → m ≡ false → (m && a && c) ≡ false
 and_unmet true a c e = absurd (true≢false e)
 and_unmet false a c e = refl
 
-not_met : (m : Bool) → m ≡ false → not m ≡ true
-not_met true e = absurd (true≢false e)
-not_met false e = refl
-
-not_unmet : (m : Bool) → m ≡ true → not m ≡ false
-not_unmet true e = refl
-not_unmet false e = absurd (true≢false (sym e))
-
 met_leaf : {X : Type 0} (x y : X) (u m : Bool) → u ≡ true → cond m y x ≡ cond (u && m) y x
 met_leaf x y true m e = refl
 met_leaf x y false m e = absurd (true≢false (sym e))
@@ -132,7 +125,7 @@ module _ (t : ℕ) (segs : SegMap) (cover : BlockSet) (s : Seg) where
         (flat_map (going_in t segs cover s k) (quarters_of b))) none (in_set b || not (met b)) (unmet_stops (in_set b) (met b) f);
     stay =
         outer none (cond {A = List Block} (in_set b) (b ∷ [])
-        (cond {A = List Block} (joins k b) [] (flat_map (staying_in t segs cover s k) (quarters_of b)))) none (not (met b)) (not_met (met b) f);
+        (cond {A = List Block} (joins k b) [] (flat_map (staying_in t segs cover s k) (quarters_of b)))) none (not (met b)) (not_from_false (met b) f);
   }
 
   pub merge_step : (k : ℕ) (b : Block) → MergeStep t segs cover s k b
@@ -145,7 +138,7 @@ module _ (t : ℕ) (segs : SegMap) (cover : BlockSet) (s : Seg) where
         go = sym (merged_law t segs cover s k b f)
             ∙ inner none (flat_map (blocks_in cover k) (quarters_of b)) (flat_map (going_in t segs cover s k) (quarters_of b))
             (in_set b || not (met b)) (joins k b) on f;
-        stay = third none (b ∷ []) none (flat_map (staying_in t segs cover s k) (quarters_of b)) (not (met b)) (in_set b) (joins k b) (not_unmet (met b) m) e f;
+        stay = third none (b ∷ []) none (flat_map (staying_in t segs cover s k) (quarters_of b)) (not (met b)) (in_set b) (joins k b) (not_from_true (met b) m) e f;
       }
 
   pub cut_step : (k : ℕ) (b : Block) → CutStep t segs cover s k b
@@ -157,7 +150,7 @@ module _ (t : ℕ) (segs : SegMap) (cover : BlockSet) (s : Seg) where
         go = last none (flat_map (blocks_in cover k) (quarters_of b)) (flat_map (going_in t segs cover s k) (quarters_of b))
             (in_set b || not (met b)) (joins k b) on f;
         stay =
-            fourth none (b ∷ []) none (flat_map (staying_in t segs cover s k) (quarters_of b)) (not (met b)) (in_set b) (joins k b) (not_unmet (met b) m) e f;
+            fourth none (b ∷ []) none (flat_map (staying_in t segs cover s k) (quarters_of b)) (not (met b)) (in_set b) (joins k b) (not_from_true (met b) m) e f;
       }
 
 pub settle_law : SettleLaw

@@ -5,7 +5,7 @@ use Rattle.std.proofs.Common.{◌∙◌, ap, subst, ⊎_elim, arith, Contains, p
 use Rattle.std.proofs.Math.Nat.{mul-le-mul_right, pow-le-pow_right}
 use Rattle.std.specs.Prelude.{◌==◌}
 use Rattle.std.specs.List.{sum_by}
-use Rattle.std.proofs.lemmas.Bool.{both_ways}
+use Rattle.std.proofs.lemmas.Bool.{both_ways, cases_eq}
 use Rattle.std.proofs.lemmas.List.{append-nil}
 use Rattle.std.proofs.lemmas.List.Sums.{length-filter}
 use Rattle.std.proofs.lemmas.List.Elements.{filter-append}
@@ -24,7 +24,7 @@ use Rattle.quilt_spell.proofs.facts.FactKeys.{block_same}
 use Rattle.quilt_spell.proofs.Lists.{Apart-filter, Apart-rises, same_length}
 use Rattle.quilt_spell.proofs.Maps.{Rises-keys}
 use Rattle.quilt_edits.proofs.Lists.{take_next}
-use Rattle.quilt_line_laws.proofs.Adding.{cover_of, same_id}
+use Rattle.quilt_line_laws.proofs.Adding.{cover_of}
 use Rattle.quilt_line_laws.proofs.Descent.{only, same_size, quarterly, one_old, off, held}
 use Rattle.quilt_line_laws.proofs.Levels.{same_level}
 use Rattle.quilt_line_laws.proofs.Merges.{IsBlockCover}
@@ -170,14 +170,14 @@ one_counted b k old new size here others j =
     (λ other.
     let none = count_single (λ (c : Block). c.side == side j) b false (ne_eqb b.side (side j) (λ e. other (same_level j k (sym e ∙ size)))) in
     let at = others j other in
-    omega arith) (same_id j k)
+    omega arith) (cases_eq j k)
 
 pub one_most : (k : ℕ) (old new : List ℕ) → get_or new k 0 ≡ get_or old k 0 + 1 → ((j : ℕ) → (j ≡ k → ⊥) → get_or new j 0 ≡ get_or old j 0) → (j : ℕ)
     → get_or new j 0 ≤ get_or old j 0 + 4 ^ k
 one_most k old new here others j =
     let pos = four_pos k in
     ⊎_elim (λ same. let at = ap (λ m. get_or new m 0) same in let was = ap (λ m. get_or old m 0) same in omega arith)
-    (λ other. let at = others j other in omega arith) (same_id j k)
+    (λ other. let at = others j other in omega arith) (cases_eq j k)
 
 module _ (f : Block → List Block) (test : Block → Bool) where
   pub count_next : (qs : List Block) (i : ℕ) (d : Block) (first old new : ℕ) → i < length qs → old ≡ first + count_by test (flat_map f (take i qs))

@@ -6,7 +6,7 @@ use Rattle.std.specs.Str.{bytes_eq}
 use Rattle.std.specs.Int.{to_be_bytes, w16}
 use Rattle.std.proofs.Math.Seq.{take-add}
 use Rattle.std.proofs.lemmas.Slice.Eq.{bytes_eq-Decides}
-use Rattle.quilt_record.specs.Records.{filled}
+use Rattle.quilt_types.specs.Bytes.{filled}
 use Rattle.quilt_node.specs.Pages.{short_at}
 use Rattle.quilt_node.proofs.Spelled.{AreBytes, first_four}
 

@@ -11,16 +11,16 @@ use Rattle.std.proofs.lemmas.List.{append-nil, drop-replicate, length-replicate,
 use Rattle.std.proofs.lemmas.List.FromFn.{fill_by_all}
 use Rattle.std.proofs.lemmas.Slice.Eq.{bytes_eq-Decides}
 use Rattle.std.proofs.lemmas.Bool.Decides.{nat_tests}
+use Rattle.std.proofs.lemmas.Bool.{lt-ltb, ltb-true, leb-true, le-leb}
 use Rattle.quilt_record.specs.declared.key.Key.{Key}
-use Rattle.quilt_record.specs.Records.{key_bytes, filled}
+use Rattle.quilt_types.specs.Bytes.{filled}
+use Rattle.quilt_record.specs.Records.{key_bytes}
 use Rattle.quilt_record.specs.Fits.{KeyFits, KeysFit}
 use Rattle.quilt_node.specs.Pages.{short_at, word_at, key_at, Inner, read_inner, inner_bytes, inner_of, is_ascending}
 use Rattle.quilt_node.specs.Nodes.{IsInner, IsInnerPage, are_pages, inner_head}
 use Rattle.quilt_node.proofs.Rows.{HasArea, area, row_stands, cut_front, wide_length}
 use Rattle.quilt_node.proofs.Spelled.{key_stands, word_stands, wide_keys, wide_words}
 use Rattle.quilt_node.proofs.Ascending.{and_parts, and_both, all_at}
-use Rattle.quilt_node.proofs.Leaves.{le_test}
-use Rattle.quilt_node.proofs.LeafReads.{le_of_test}
 
 abbrev pub child_area : List ℕ → List ℕ
 child_area cs = area (to_be_bytes w32) 4 1016 cs
@@ -129,10 +129,7 @@ height_is bytes inner p = ap (λ l. slice_index l 1) (shape_of bytes inner p).sh
 below_word : (n : ℕ) → nat_le 1 n && nat_lt n (2 ^ 32) ≡ true → (1 ≤ n) × (n < 2 ^ 32)
 below_word n h =
     let t = and_parts (nat_le 1 n) (nat_lt n (2 ^ 32)) h in
-    (le_of_test 1 n t.0, lt_of_test n (2 ^ 32) t.1)
-  where
-    lt_of_test : (a b : ℕ) → nat_lt a b ≡ true → a < b
-    lt_of_test a b g = grind (arith, nat_tests)
+    (leb-true 1 n t.0, ltb-true n (2 ^ 32) t.1)
 
 pub child_within : (inner : Inner) (i : ℕ) → IsInner inner → i < length inner.children → (1 ≤ slice_index inner.children i)
     × (slice_index inner.children i < 2 ^ 32)
@@ -201,11 +198,8 @@ keys_set (l ∷ ks) (suc i) k f g = (f.0, keys_set ks i k f.1 g)
 abbrev pub is_page : ℕ → Bool
 is_page c = nat_le 1 c && nat_lt c (2 ^ 32)
 
-lt_test : (m n : ℕ) → m < n → nat_lt m n ≡ true
-lt_test m n h = grind (arith, nat_tests)
-
 pub page_test : (c : ℕ) → 1 ≤ c → c < 2 ^ 32 → is_page c ≡ true
-page_test c h g = and_both (nat_le 1 c) (nat_lt c (2 ^ 32)) (le_test 1 c h) (lt_test c (2 ^ 32) g)
+page_test c h g = and_both (nat_le 1 c) (nat_lt c (2 ^ 32)) (le-leb 1 c h) (lt-ltb c (2 ^ 32) g)
 
 -- A page is filled behind its first bytes.
 pub filled_inner : (height n : ℕ) (start mid new cs : List ℕ) → start ≡ 2 ∷ height ∷ to_be_bytes w16 n → length cs ≤ 1016
@@ -247,10 +241,10 @@ inner_of_page pages bytes inner p h =
     passed_all (nat_le 2 q.height) (nat_le q.height 3) (nat_le 2 (length q.children)) (nat_le (length q.children) 254)
     (list_all (λ c. nat_le 1 c && nat_lt c pages) q.children)
     (is_ascending q.keys) (bytes_eq (inner_bytes q.height q.children q.keys) bytes) q
-    (ap (λ (l : Inner). nat_le 2 l.height) same ∙ le_test 2 inner.height is.low)
-    (ap (λ (l : Inner). nat_le l.height 3) same ∙ le_test inner.height 3 is.high)
-    (ap (λ (l : Inner). nat_le 2 (length l.children)) same ∙ le_test 2 (length inner.children) is.least)
-    (ap (λ (l : Inner). nat_le (length l.children) 254) same ∙ le_test (length inner.children) 254 is.most)
+    (ap (λ (l : Inner). nat_le 2 l.height) same ∙ le-leb 2 inner.height is.low)
+    (ap (λ (l : Inner). nat_le l.height 3) same ∙ le-leb inner.height 3 is.high)
+    (ap (λ (l : Inner). nat_le 2 (length l.children)) same ∙ le-leb 2 (length inner.children) is.least)
+    (ap (λ (l : Inner). nat_le (length l.children) 254) same ∙ le-leb (length inner.children) 254 is.most)
     (ap (λ (l : Inner). are_pages pages l.children) same ∙ h)
     (ap (λ (l : Inner). is_ascending l.keys) same ∙ is.ascends)
     ((bytes_eq-Decides (inner_bytes q.height q.children q.keys) bytes).1 (ap (λ (l : Inner). inner_bytes l.height l.children l.keys) same ∙ sym p.written))

@@ -15,6 +15,7 @@ use Rattle.std.specs.Option.{option_to_list}
 use Rattle.std.proofs.lemmas.List.FromFn.{fill_by_all}
 use Rattle.std.proofs.lemmas.Slice.Eq.{bytes_eq-Decides}
 use Rattle.std.proofs.lemmas.Bool.Decides.{nat_tests}
+use Rattle.std.proofs.lemmas.Bool.{le-leb}
 use Rattle.quilt_record.specs.declared.record.Record.{Record}
 use Rattle.quilt_record.specs.Records.{record_bytes}
 use Rattle.quilt_record.specs.Fits.{IsFitting, AllFit}
@@ -100,9 +101,6 @@ passed true true false d x p q r s = cc
 passed true false c d x p q r s = cc
 passed false b c d x p q r s = cc
 
-pub le_test : (m n : ℕ) → m ≤ n → nat_le m n ≡ true
-le_test m n h = grind (arith, nat_tests)
-
 -- The bytes of a leaf page are well formed, and are its records.
 pub leaf_of_page : (bytes : List ℕ) (rs : List Record) → IsLeafPage bytes rs → leaf_of bytes ≡ Some rs
 unfolding leaf_of
@@ -110,8 +108,8 @@ leaf_of_page bytes rs p =
     let same = read_back bytes rs p in
     let ss = read_leaf bytes in
     passed (nat_le 1 (length ss)) (nat_le (length ss) 144) (is_ascending (map (λ r. r.key) ss)) (bytes_eq (leaf_bytes ss) bytes) ss
-    (ap (λ (l : List Record). nat_le 1 (length l)) same ∙ le_test 1 (length rs) p.is_leaf.least)
-    (ap (λ (l : List Record). nat_le (length l) 144) same ∙ le_test (length rs) 144 p.is_leaf.most)
+    (ap (λ (l : List Record). nat_le 1 (length l)) same ∙ le-leb 1 (length rs) p.is_leaf.least)
+    (ap (λ (l : List Record). nat_le (length l) 144) same ∙ le-leb (length rs) 144 p.is_leaf.most)
     (ap (λ (l : List Record). is_ascending (map (λ r. r.key) l)) same ∙ p.is_leaf.ascends)
     ((bytes_eq-Decides (leaf_bytes ss) bytes).1 (ap leaf_bytes same ∙ sym p.written))
     ∙ ap Some same

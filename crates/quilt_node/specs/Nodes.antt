@@ -6,7 +6,8 @@ use Rattle.std.specs.Ordering.{is_lt, is_le}
 use Rattle.quilt_record.specs.declared.key.Key.{Key}
 use Rattle.quilt_record.specs.declared.record.Record.{Record}
 use Rattle.std.specs.Int.{to_be_bytes, w16}
-use Rattle.quilt_record.specs.Records.{key_cmp, filled}
+use Rattle.quilt_types.specs.Bytes.{filled}
+use Rattle.quilt_record.specs.Records.{key_cmp}
 use Rattle.quilt_record.specs.Fits.{AllFit, KeysFit}
 use Rattle.quilt_node.specs.declared.head.Head.{Head}
 use Rattle.quilt_node.specs.Pages.{Inner, IsHead, is_ascending, leaf_bytes, inner_bytes, short_at, word_at, record_at}

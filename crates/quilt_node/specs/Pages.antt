@@ -10,7 +10,8 @@ use Rattle.quilt_types.specs.Facts.{quota}
 use Rattle.quilt_record.specs.declared.key.Key.{Key}
 use Rattle.quilt_record.specs.declared.record.Record.{Record}
 use Rattle.quilt_node.specs.declared.head.Head.{Head}
-use Rattle.quilt_record.specs.Records.{key_cmp, key_bytes, record_bytes, filled}
+use Rattle.quilt_types.specs.Bytes.{filled}
+use Rattle.quilt_record.specs.Records.{key_cmp, key_bytes, record_bytes}
 
 -- how many bytes a page has
 abbrev pub page_size : ℕ

@@ -3,6 +3,7 @@ use Rattle.std.proofs.Common.{◌≡◌, ℕ, zero, suc, ◌^◌, Bool, true, fa
 use Rattle.std.proofs.Common.{filter, flat_map, pow-suc, pow_pos, append_assoc}
 use Rattle.std.specs.FinMap as finmap
 use Rattle.std.proofs.lemmas.List.Sums.{length-filter}
+use Rattle.std.proofs.lemmas.List.Concat.{flat_map-append}
 use Rattle.quilt_types.specs.declared.plane.Block.{Block}
 use Rattle.quilt_types.specs.declared.plane.Pixel.{Pixel}
 use Rattle.quilt_types.specs.Plane.{in_block, quarters_of, IsBlock, Within}
@@ -34,13 +35,9 @@ flat_map_same : {X Y : Type 0} (f g : X → List Y) (xs : List X) → ((x : X) �
 flat_map_same f g [] h = refl
 flat_map_same f g (x ∷ xs) h = ap₂ (λ a b. a ++ b) (h x (Contains-here x xs)) (flat_map_same f g xs (λ y c. h y (Contains-there x xs y c)))
 
-flat_map_append : {X Y : Type 0} (f : X → List Y) (xs ys : List X) → flat_map f (xs ++ ys) ≡ flat_map f xs ++ flat_map f ys
-flat_map_append f [] ys = refl
-flat_map_append f (x ∷ xs) ys = ap (λ l. f x ++ l) (flat_map_append f xs ys) ∙ sym (append_assoc (f x) (flat_map f xs) (flat_map f ys))
-
 flat_map_twice : {X Y Z : Type 0} (f : Y → List Z) (g : X → List Y) (xs : List X) → flat_map f (flat_map g xs) ≡ flat_map (λ x. flat_map f (g x)) xs
 flat_map_twice f g [] = refl
-flat_map_twice f g (x ∷ xs) = flat_map_append f (g x) (flat_map g xs) ∙ ap (λ l. flat_map f (g x) ++ l) (flat_map_twice f g xs)
+flat_map_twice f g (x ∷ xs) = flat_map-append f (g x) (flat_map g xs) ∙ ap (λ l. flat_map f (g x) ++ l) (flat_map_twice f g xs)
 
 append_nil : {Y : Type 0} (ys : List Y) → ys ++ [] ≡ ys
 append_nil [] = refl

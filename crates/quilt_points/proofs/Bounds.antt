@@ -7,29 +7,11 @@ use Rattle.quilt_types.specs.declared.plane.Block.{Block}
 use Rattle.quilt_types.specs.Plane.{IsBlock}
 use Rattle.quilt_types.proofs.CodeLaws.{pow_same}
 use Rattle.quilt_world.specs.Tale.{Goes}
+use Rattle.quilt_world.proofs.ReadCounts.{reads_then, reads_more}
 
 pub if_ok_of : {T E P : Type 0} (r : Result T E) → P → IfOk r (λ x. P)
 if_ok_of (Ok x) p = p
 if_ok_of (Err e) p = tt
-
-pub reads_then : (i j k : ℕ) (a b c : Option ℕ) → i + j ≤ k → Goes {A = ℕ} (λ old new. new ≤ old + i) a b
-    → Goes {A = ℕ} (λ old new. new ≤ old + j) b c → Goes {A = ℕ} (λ old new. new ≤ old + k) a c
-reads_then i j k (Some a) (Some b) (Some c) h x y = omega arith
-reads_then i j k (Some a) (Some b) None h x y = absurd y
-reads_then i j k (Some a) None c h x y = absurd x
-reads_then i j k None (Some b) c h x y = absurd x
-reads_then i j k None None (Some c) h x y = absurd y
-reads_then i j k None None None h x y = tt
-
-pub reads_more : (i k : ℕ) (a b : Option ℕ) → i ≤ k → Goes {A = ℕ} (λ old new. new ≤ old + i) a b → Goes {A = ℕ} (λ old new. new ≤ old + k) a b
-reads_more i k (Some a) (Some b) h x = omega arith
-reads_more i k (Some a) None h x = absurd x
-reads_more i k None (Some b) h x = absurd x
-reads_more i k None None h x = tt
-
-pub reads_none : (k : ℕ) (a : Option ℕ) → Goes {A = ℕ} (λ old new. new ≤ old + k) a a
-reads_none k (Some a) = omega arith
-reads_none k None = tt
 
 -- a range of so many records at most
 pub reads_range : (n most : ℕ) (a b : Option ℕ) → n ≤ most → Goes {A = ℕ} (λ old new. new ≤ old + 6 + 3 * n) a b

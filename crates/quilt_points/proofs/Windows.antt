@@ -38,7 +38,7 @@ use Rattle.quilt_point_laws.proofs.Counts.{few_pixel}
 use Rattle.quilt_points.specs.Layers.{entry_of, entries_of}
 use Rattle.quilt_points.specs.Reads.{ArePointsOf, IsHeld}
 use Rattle.quilt_points.specs.Windows.{IsVisited, IsCovered, meets_window, visited}
-use Rattle.quilt_points.proofs.Bounds.{reads_then, reads_more}
+use Rattle.quilt_world.proofs.ReadCounts.{reads_then, reads_more}
 use Rattle.quilt_world.specs.Tale.{Goes}
 use Rattle.quilt_points.proofs.Finds.{pixel_in}
 use Rattle.quilt_edits.proofs.Lists.{member_at, take_next}

@@ -131,16 +131,18 @@ goes_no_write P (Some t) h = writing_none t
 
 -- ---- how many are dirty
 
-one : (b : Bool) (x : ℕ) (xs : List ℕ) → length (cond b (x ∷ xs) xs) ≡ cond {A = ℕ} b 1 0 + length xs
-one true x xs = omega arith
-one false x xs = omega arith
+-- the count with one more in front
+pub count_first : (b : Bool) (x : ℕ) (xs : List ℕ) → length (cond b (x ∷ xs) xs) ≡ cond {A = ℕ} b 1 0 + length xs
+count_first true x xs = omega arith
+count_first false x xs = omega arith
 
-more : (f : ℕ → Bool) (a n : ℕ) → length (filter f (range_with_len a (suc n))) ≡ length (filter f (range_with_len a n)) + cond {A = ℕ} (f (a + n)) 1 0
-more f a zero = one (f a) a [] ∙ ap (λ i. cond {A = ℕ} (f i) 1 0 + 0) (sym (add-zero a)) ∙ omega arith
-more f a (suc n) =
-    let left = one (f a) a (filter f (range_with_len (a + 1) (suc n))) in
-    let right = one (f a) a (filter f (range_with_len (a + 1) n)) in
-    let on = more f (a + 1) n in
+-- the count of one number more, which is the last
+pub count_next : (f : ℕ → Bool) (a n : ℕ) → length (filter f (range_with_len a (suc n))) ≡ length (filter f (range_with_len a n)) + cond {A = ℕ} (f (a + n)) 1 0
+count_next f a zero = count_first (f a) a [] ∙ ap (λ i. cond {A = ℕ} (f i) 1 0 + 0) (sym (add-zero a)) ∙ omega arith
+count_next f a (suc n) =
+    let left = count_first (f a) a (filter f (range_with_len (a + 1) (suc n))) in
+    let right = count_first (f a) a (filter f (range_with_len (a + 1) n)) in
+    let on = count_next f (a + 1) n in
     let same : cond {A = ℕ} (f (a + 1 + n)) 1 0 ≡ cond {A = ℕ} (f (a + suc n)) 1 0 = ap (λ i. cond {A = ℕ} (f i) 1 0) (omega arith) in
     omega (arith, left, right, on, same)
 
@@ -150,14 +152,14 @@ pub count_page : (f : ℕ → Bool) (page : ℕ) → 1 ≤ page
 count_page f page some =
     let back : page + 1 - 1 ≡ suc (page - 1) = omega arith in
     let here : 1 + (page - 1) ≡ page = omega arith in
-    ap (λ k. length (filter f (range_with_len 1 k))) back ∙ more f 1 (page - 1)
+    ap (λ k. length (filter f (range_with_len 1 k))) back ∙ count_next f 1 (page - 1)
     ∙ ap (λ i. length (filter f (range_with_len 1 (page - 1))) + cond {A = ℕ} (f i) 1 0) here
 
 count_front : (f : ℕ → Bool) (a m d : ℕ) → length (filter f (range_with_len a m)) ≤ length (filter f (range_with_len a (m + d)))
 count_front f a m zero = subst (λ k. length (filter f (range_with_len a m)) ≤ length (filter f (range_with_len a k))) (sym (add-zero m)) (omega arith)
 count_front f a m (suc d) =
     let on = count_front f a m d in
-    let step = ap (λ k. length (filter f (range_with_len a k))) (add-suc m d) ∙ more f a (m + d) in
+    let step = ap (λ k. length (filter f (range_with_len a k))) (add-suc m d) ∙ count_next f a (m + d) in
     omega (arith, on, step)
 
 pub count_upto : (f : ℕ → Bool) (a m n : ℕ) → m ≤ n → length (filter f (range_with_len a m)) ≤ length (filter f (range_with_len a n))

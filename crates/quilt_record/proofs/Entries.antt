@@ -7,6 +7,7 @@ use Rattle.std.proofs.lemmas.Bool.Decides.{nat_tests}
 use Rattle.std.specs.Ordering.{is_lt, ordering_reverse}
 use Rattle.std.specs.Cmp.Lexicographic.{nat_list_cmp_total}
 use Rattle.std.specs.FinMap.{slice_cmp-IsAntisymmetric, nat_cmp-IsAntisymmetric}
+use Rattle.std.proofs.lemmas.Bool.{ltb-false}
 use Rattle.quilt_record.specs.declared.entry.Entry.{Entry}
 use Rattle.quilt_record.specs.Catalogs.{AreInOrder, IsCatalog, name_cmp, with_entry}
 
@@ -127,12 +128,9 @@ place_found p xs i h = found_at (position_or_len p xs) (nat_lt (position_or_len 
 not_found : (n m : ℕ) → n ≤ m → cond {A = Option ℕ} (nat_lt n m) (Some n) None ≡ None → m ≡ n
 not_found n m h g = by_case (nat_lt n m) refl g
   where
-    at_least : (a b : ℕ) → nat_lt a b ≡ false → b ≤ a
-    at_least a b t = grind (arith, nat_tests)
-
     by_case : (b : Bool) → b ≡ nat_lt n m → cond {A = Option ℕ} b (Some n) None ≡ None → m ≡ n
     by_case true e k = cc
-    by_case false e k = omega (arith, h, at_least n m (sym e))
+    by_case false e k = omega (arith, h, ltb-false n m (sym e))
 
 pub place_last : {X : Type 0} (p : X → Bool) (xs : List X) → position p xs ≡ None → length xs ≡ position_or_len p xs
 place_last p xs h = not_found (position_or_len p xs) (length xs) (place_most p xs) h

@@ -10,11 +10,13 @@ use Rattle.std.proofs.lemmas.Bool.Decides.{nat_tests}
 use Rattle.quilt_types.specs.Layers.{is_name, is_name_byte, is_letter}
 use Rattle.std.proofs.lemmas.List.{get_or-append-add}
 use Rattle.std.specs.Prelude.{unwrap_or}
+use Rattle.std.proofs.lemmas.Bool.{leb-true}
 use Rattle.quilt_types.specs.declared.plane.Kind.{Kind}
 use Rattle.quilt_record.specs.declared.entry.Entry.{Entry}
 use Rattle.quilt_record.specs.declared.record.Record.{Record}
 use Rattle.quilt_record.specs.Listing.{IsEntryOf, number_of_kind, number_beside, kind_fact}
-use Rattle.quilt_record.specs.Records.{filled, kind_number, record_of}
+use Rattle.quilt_types.specs.Bytes.{filled}
+use Rattle.quilt_record.specs.Records.{kind_number, record_of}
 
 and_parts : (a b : Bool) → a && b ≡ true → (a ≡ true) × (b ≡ true)
 and_parts true b h = (refl, h)
@@ -28,9 +30,6 @@ or_parts : (a b : Bool) → a || b ≡ true → (a ≡ true) ⊎ (b ≡ true)
 or_parts true b h = inl refl
 or_parts false b h = inr h
 
-le_of_test : (m n : ℕ) → nat_le m n ≡ true → m ≤ n
-le_of_test m n h = grind (arith, nat_tests)
-
 -- a byte of a name is no zero, and below 128
 pub record IsPlain (c : ℕ) : Type 0 where
   pub some : 1 ≤ c
@@ -39,15 +38,15 @@ pub record IsPlain (c : ℕ) : Type 0 where
 letter_plain : (c : ℕ) → is_letter c ≡ true → IsPlain c
 letter_plain c h =
     let t = and_parts (nat_le 97 c) (nat_le c 122) h in
-    let low = le_of_test 97 c t.0 in
-    let high = le_of_test c 122 t.1 in
+    let low = leb-true 97 c t.0 in
+    let high = leb-true c 122 t.1 in
     record { some = omega (arith, low); most = omega (arith, high) }
 
 digit_plain : (c : ℕ) → nat_le 48 c && nat_le c 57 ≡ true → IsPlain c
 digit_plain c h =
     let t = and_parts (nat_le 48 c) (nat_le c 57) h in
-    let low = le_of_test 48 c t.0 in
-    let high = le_of_test c 57 t.1 in
+    let low = leb-true 48 c t.0 in
+    let high = leb-true c 57 t.1 in
     record { some = omega (arith, low); most = omega (arith, high) }
 
 byte_plain : (c : ℕ) → is_name_byte c ≡ true → IsPlain c
@@ -103,7 +102,7 @@ name_short : (n : List ℕ) → is_name n ≡ true → length n ≤ 12
 name_short [] h = omega arith
 name_short (c ∷ cs) h =
     let t = and_parts (is_letter c && list_all is_name_byte cs) (nat_le (length cs) 11) h in
-    let few = le_of_test (length cs) 11 t.1 in
+    let few = leb-true (length cs) 11 t.1 in
     omega (arith, few)
 
 -- the name's part of a value has 12 bytes

@@ -7,20 +7,16 @@ use Rattle.quilt_types.specs.declared.plane.Point.{Point}
 use Rattle.quilt_types.specs.declared.plane.Seg.{Seg}
 use Rattle.quilt_types.specs.Facts.{HasColour, IsSegment}
 use Rattle.std.proofs.lemmas.Nat.{from_be_bytes-to_be_bytes_2, from_be_bytes-to_be_bytes_4}
+use Rattle.std.proofs.lemmas.Option.{some_pair_parts}
 use Rattle.quilt_record.specs.declared.key.Key.{Key}
 use Rattle.quilt_record.specs.declared.record.Record.{Record}
-use Rattle.quilt_record.specs.Records.{block_key, filled, point_item, record_of}
+use Rattle.quilt_types.specs.Bytes.{filled}
+use Rattle.quilt_record.specs.Records.{block_key, point_item, record_of}
 use Rattle.quilt_record.specs.Blocks.{IsNamed}
 use Rattle.quilt_record.proofs.BlockKeys.{pixel_below}
 use Rattle.quilt_record.specs.Canonical.{IsRecordOf, point_fact, pair_fact}
 use Rattle.quilt_record.specs.Values.{colour_of, held_of, segment_of}
 use Rattle.quilt_record.specs.Parts.{point_value, point_under, pair_under, segment_value, segment_under}
-
-pub pair_same : {A B : Type 0} (a c : A) (b d : B) → ◌≡◌ {A = Option (A × B)} (Some (a, b)) (Some (c, d)) → (a ≡ c) × (b ≡ d)
-pair_same {A} {B} a c b d h =
-    let first : Option (A × B) → A = λ o. (unwrap_or o (a, b)).0 in
-    let second : Option (A × B) → B = λ o. (unwrap_or o (a, b)).1 in
-    (ap first h, ap second h)
 
 pub key_named : (n layer part : ℕ) (b : Block) (item : ℕ) (k : Key) → 1 ≤ layer → layer ≤ 255 → IsBlock n b
     → k ≡ block_key n layer part b item → IsNamed n k layer b

@@ -15,6 +15,7 @@ use Rattle.quilt_types.specs.Facts.{Fact, IsOfKind, HasColour, HoldsPoint, Holds
 use Rattle.quilt_record.specs.declared.key.Key.{Key}
 use Rattle.quilt_record.specs.declared.record.Record.{Record}
 use Rattle.quilt_types.specs.Codes.{code, depth}
+use Rattle.quilt_types.specs.Bytes.{filled}
 
 -- the order of the fields, which is that of the bytes
 abbrev pub key_cmp : Key → Key → Ordering
@@ -33,10 +34,6 @@ key_bytes k = to_be_bytes w16 k.layer ++ (k.part ∷ to_be_bytes w32 k.code) ++ 
 -- the 28 bytes of a record: its key and its value
 abbrev pub record_bytes : Record → List ℕ
 record_bytes r = key_bytes r.key ++ r.value
-
--- bytes, and zeros up to a length
-abbrev pub filled : ℕ → List ℕ → List ℕ
-filled n bytes = bytes ++ replicate (n - length bytes) 0
 
 -- the key of a record of a block: the layer's number, the part, the block's code and depth at the level n, and what tells its records apart
 abbrev pub block_key : ℕ → ℕ → ℕ → Block → ℕ → Key

@@ -3,7 +3,8 @@ ghost use Rattle.std.specs.List.{position_or_len};
 ghost use Rattle.quilt_types.specs.declared.plane.Kind.{Kind as AnyKind};
 ghost use Rattle.quilt_types.specs.Layers.{is_name};
 ghost use Rattle.quilt_record.specs.declared.entry.Entry.{Entry as AnyEntry};
-ghost use Rattle.quilt_record.specs.Records.{filled, kind_number, record_of};
+ghost use Rattle.quilt_types.specs.Bytes.{filled};
+ghost use Rattle.quilt_record.specs.Records.{kind_number, record_of};
 ghost use Rattle.quilt_record.specs.Listing.{number_of_kind, number_beside, kind_fact, KindFits, IsEntryOf};
 
 use crate::block::is_same;

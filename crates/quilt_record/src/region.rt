@@ -5,7 +5,7 @@ ghost use Rattle.quilt_types.specs.Plane.{IsBlock};
 ghost use Rattle.quilt_types.specs.Layers.{colours};
 ghost use Rattle.quilt_types.specs.Facts.{HasColour};
 ghost use Rattle.quilt_record.specs.Canonical.{IsRecordOf};
-ghost use Rattle.quilt_record.specs.Records.{filled};
+ghost use Rattle.quilt_types.specs.Bytes.{filled};
 ghost use Rattle.quilt_record.specs.Values.{colour_of};
 
 use crate::Record;

@@ -9,7 +9,8 @@ use Rattle.quilt_record.specs.declared.record.Record.{Record}
 use Rattle.quilt_record.specs.declared.edits.Edits.{Edits}
 use Rattle.quilt_blocks.specs.Cutting.{leaves_by_code}
 use Rattle.quilt_blocks.proofs.Cuts.{leaf_is, leaves_members}
-use Rattle.quilt_region.specs.Regions.{leaf_record, SpellsRegion}
+use Rattle.quilt_spell.specs.OfLayer.{leaf_record}
+use Rattle.quilt_region.specs.Regions.{SpellsRegion}
 use Rattle.quilt_region.specs.Plans.{LeadsTo, IsEdited, is_leaf, records_without}
 use Rattle.quilt_region.proofs.Records.{leaf_alone}
 use Rattle.quilt_region.proofs.Leaves.{is_leaf_from, is_leaf_at, only_leaf, only_test}

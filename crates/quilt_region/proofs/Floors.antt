@@ -31,7 +31,9 @@ use Rattle.quilt_btree.specs.Trees.{IsTree}
 use Rattle.quilt_btree.proofs.lists.Lists.{filter_cond, floor_between}
 use Rattle.quilt_record.proofs.Orders.{lt_le, not_le}
 use Rattle.std.specs.Cmp.{tied_itself}
-use Rattle.quilt_region.specs.Regions.{leaf_record, pixel_key, SpellsRegion, HasRegion}
+use Rattle.std.proofs.lemmas.Option.{none-some, same_Some}
+use Rattle.quilt_spell.specs.OfLayer.{leaf_record}
+use Rattle.quilt_region.specs.Regions.{pixel_key, SpellsRegion, HasRegion}
 use Rattle.quilt_spell.specs.Written.{by_key}
 use Rattle.quilt_spell.proofs.Written.{by_key_total}
 use Rattle.quilt_edits.proofs.Keys.{Less≢Equal, le_layer, le_code, less_code, less_depth}
@@ -161,12 +163,6 @@ floor_found told t layer n g p k found le hx hy key is h =
           ∙ floor_leaf h.records layer n g le (tree_rises told t h.records h.tree) h.spelled l.0 (l.1).member k a b d (omega arith) (omega arith),
     )
 
-pub none_some : {X : Type 0} (x : X) → None ≡ Some x → ⊥
-none_some x e = cc
-
-pub some_same : {X : Type 0} (x y : X) → Some x ≡ Some y → x ≡ y
-some_same x y e = ap (λ o. unwrap_or o x) e
-
 -- a leaf that was read holds the pixel and has its colour
 pub record IsRead (n : ℕ) (g : Grid) (p : Pixel) (read : Option Leaf) : Type 0 where
   pub leaf : Leaf
@@ -188,7 +184,7 @@ leaf_read told t layer n g p k found r read least le hx hy key is some one h =
     let holds = (f.1).holds in
     record {
       leaf = record { block = e.0; colour = record { 0 = e.1 } };
-      is = one e.0 (record { 0 = e.1 }) least leaf.maximal.block (some_same r (leaf_record n layer e) (sym some ∙ f.2));
+      is = one e.0 (record { 0 = e.1 }) least leaf.maximal.block (same_Some r (leaf_record n layer e) (sym some ∙ f.2));
       member = (f.1).member;
       holds = in_block-true e.0 p holds;
       colour = sym (leaf.colour.each p holds);
@@ -196,4 +192,4 @@ leaf_read told t layer n g p k found r read least le hx hy key is some one h =
 
 -- what was read is that leaf
 pub read_same : (n : ℕ) (g : Grid) (p : Pixel) (read : Option Leaf) (l : Leaf) → read ≡ Some l → (i : IsRead n g p read) → i.leaf ≡ l
-read_same n g p read l e i = some_same i.leaf l (sym i.is ∙ e)
+read_same n g p read l e i = same_Some i.leaf l (sym i.is ∙ e)

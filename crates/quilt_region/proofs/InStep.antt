@@ -22,7 +22,7 @@ use Rattle.std.proofs.Math.Nat.{mul-le-mul_left, mul-le-mul_right}
 use Rattle.quilt_blocks.proofs.Squares.{code_to-whole}
 use Rattle.quilt_blocks.proofs.Painting.{code_in}
 use Rattle.quilt_blocks.proofs.Cuts.{leaves_run, leaves_members}
-use Rattle.quilt_region.specs.Regions.{leaf_record}
+use Rattle.quilt_spell.specs.OfLayer.{leaf_record}
 use Rattle.quilt_region.specs.Plans.{is_leaf, records_without, AreSoFar, GoOnWithin}
 use Rattle.quilt_region.proofs.Floors.{same_member}
 use Rattle.quilt_region.proofs.Leaves.{is_leaf_from, is_leaf_at, only_test, none_yet, passed_in, passed_over}

@@ -2,7 +2,7 @@
 use Rattle.std.proofs.Common.{◌≡◌, ℕ, ◌≤◌, Bool, true, false, ◌&&◌, ◌==◌, not, cond, List, [], ◌∷◌, ◌++◌, map, filter, refl, sym, ◌∙◌, ap, subst, ⊎_elim}
 use Rattle.std.proofs.Common.{Contains, eq-eqb, eqb-true, append_assoc}
 use Rattle.std.specs.List.{list_any}
-use Rattle.std.proofs.lemmas.Bool.{and_parts, and_from, or_cases, or_left, or_right}
+use Rattle.std.proofs.lemmas.Bool.{and_parts, and_from, or_cases, or_left, or_right, not-true}
 use Rattle.quilt_types.specs.declared.plane.Block.{Block}
 use Rattle.quilt_types.specs.Layers.{Grid}
 use Rattle.quilt_types.specs.Facts.{same_block}
@@ -14,7 +14,8 @@ use Rattle.quilt_blocks.specs.Mosaic.{HasColour}
 use Rattle.quilt_blocks.proofs.Colours.{colour_is}
 use Rattle.quilt_blocks.proofs.Maximal.{IsMaximal, Contains-maximal}
 use Rattle.quilt_blocks.proofs.Cuts.{IsLeaf, leaf_is, leaves_members}
-use Rattle.quilt_region.specs.Regions.{leaf_record, region_records}
+use Rattle.quilt_spell.specs.OfLayer.{leaf_record}
+use Rattle.quilt_region.specs.Regions.{region_records}
 use Rattle.quilt_region.specs.Plans.{is_leaf, records_without}
 use Rattle.quilt_region.proofs.Records.{leaf_alone}
 
@@ -88,11 +89,7 @@ only_leaf n layer g other r c =
     let m = Contains-map_from (leaf_record n layer) (filter test (leaves_by_code n g)) r c in
     let k = Contains-filter_from test (leaves_by_code n g) m.0 m.1 in
     let l = (leaves_members n g m.0).0 k.0 in
-    (m.0, leaf_is n g m.0 l, l, turned (is_leaf n other m.0) k.1, m.2)
-  where
-    turned : (b : Bool) → not b ≡ true → b ≡ false
-    turned true h = cc
-    turned false h = refl
+    (m.0, leaf_is n g m.0 l, l, not-true (is_leaf n other m.0) k.1, m.2)
 
 -- no record is in both
 pub only_apart : (n layer : ℕ) (g other : Grid) (r : Record) → n ≤ 12 → Contains (records_without n layer g other) r

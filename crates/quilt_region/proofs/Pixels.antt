@@ -9,7 +9,7 @@ use Rattle.quilt_types.specs.Quadtrees.{leaves}
 use Rattle.quilt_loc.proofs.Members.{Contains-nil, Contains-cons_cases}
 use Rattle.quilt_loc.proofs.Intervals.{code_to_is}
 use Rattle.quilt_blocks.proofs.Cuts.{leaf_is}
-use Rattle.quilt_region.specs.Regions.{leaf_record}
+use Rattle.quilt_spell.specs.OfLayer.{leaf_record}
 use Rattle.quilt_region.specs.Windows.{HoldsWindow, leaves_within, records_within}
 use Rattle.quilt_region.proofs.Nearby.{one_within}
 use Rattle.quilt_region.proofs.Within.{within_at}

@@ -5,6 +5,7 @@ use Rattle.std.proofs.Math.Nat.{pow-le-pow_right}
 use Rattle.std.proofs.lemmas.Nat.{pow-add}
 use Rattle.std.proofs.lemmas.List.{length-map, get_or-map, take_all}
 use Rattle.std.proofs.lemmas.List.Elements.{Contains-get_or}
+use Rattle.std.proofs.lemmas.Option.{same_Some, none-some}
 use Rattle.quilt_types.specs.declared.plane.Block.{Block}
 use Rattle.quilt_types.specs.declared.plane.Colour.{Colour}
 use Rattle.quilt_types.specs.Plane.{whole, IsBlock}
@@ -21,8 +22,8 @@ use Rattle.quilt_blocks.specs.Walk.{size_of}
 use Rattle.quilt_blocks.proofs.Chains.{size_of-nil, size_of-take_more, Follows-place}
 use Rattle.quilt_blocks.proofs.Cuts.{leaf_is, leaves_run, leaves_members}
 use Rattle.quilt_blocks.proofs.Painting.{Paints, Paints-none, Paints-push, Paints-all}
-use Rattle.quilt_region.specs.Regions.{leaf_record, region_records}
-use Rattle.quilt_region.proofs.Floors.{none_some, some_same}
+use Rattle.quilt_spell.specs.OfLayer.{leaf_record}
+use Rattle.quilt_region.specs.Regions.{region_records}
 
 -- the leaves so far, from the first on, are painted
 pub record IsAsFar (n : ℕ) (g : Grid) (i : ℕ) (colours : List ℕ) : Type 0 where
@@ -117,11 +118,11 @@ module _ (n layer : ℕ) (g : Grid) (records : List Record) (i : ℕ) (d : Recor
   read_here = one here.leaf.0 (record { 0 = here.leaf.1 }) least here.block here.is
 
   pub read_some : read ≡ None → ⊥
-  read_some none = none_some leaf_here (sym none ∙ read_here)
+  read_some none = none-some leaf_here (sym none ∙ read_here)
 
   pub read_next : (l : Leaf) → read ≡ Some l → IsNextRead n layer g i (get_or records i d) l
   read_next l e =
-      let same : leaf_here ≡ l = some_same leaf_here l (sym read_here ∙ e) in
+      let same : leaf_here ≡ l = same_Some leaf_here l (sym read_here ∙ e) in
       record { next = here; block = sym (ap (λ (z : Leaf). z.block) same); colour = sym (ap (λ (z : Leaf). z.colour.0) same) }
 
 -- it begins where the leaves so far end

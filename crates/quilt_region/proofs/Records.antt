@@ -27,7 +27,8 @@ use Rattle.quilt_blocks.proofs.Cuts.{leaves_run, leaves_rise, leaves_members}
 use Rattle.quilt_btree.specs.declared.tree.Tree.{Tree}
 use Rattle.quilt_btree.specs.Lists.{is_from_to, range_of}
 use Rattle.quilt_btree.specs.Trees.{IsTree}
-use Rattle.quilt_region.specs.Regions.{leaf_record, region_records, SpellsRegion, HasRegion}
+use Rattle.quilt_spell.specs.OfLayer.{leaf_record}
+use Rattle.quilt_region.specs.Regions.{region_records, SpellsRegion, HasRegion}
 use Rattle.quilt_spell.specs.Written.{by_key}
 use Rattle.quilt_spell.proofs.Written.{by_key_total}
 use Rattle.quilt_edits.proofs.Keys.{le_layer, less_part, less_code}

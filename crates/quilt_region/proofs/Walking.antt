@@ -9,6 +9,7 @@ use Rattle.std.proofs.Math.Nat.{pow-le-pow_right}
 use Rattle.std.proofs.lemmas.List.{get_or-set_same, get_or-set_other, get_or-replicate}
 use Rattle.std.proofs.lemmas.List.Elements.{filter-append, Contains-append_right}
 use Rattle.std.proofs.lemmas.List.Sums.{sum_by-cons}
+use Rattle.std.proofs.lemmas.Option.{same_Some, none-some}
 use Rattle.quilt_types.specs.declared.plane.Block.{Block}
 use Rattle.quilt_types.specs.declared.plane.Colour.{Colour}
 use Rattle.quilt_types.specs.Plane.{side, whole, IsBlock}
@@ -36,10 +37,10 @@ use Rattle.quilt_btree.specs.Trees.{IsTree}
 use Rattle.quilt_btree.proofs.ranges.Ranges.{none_below}
 use Rattle.quilt_btree.proofs.subtrees.Whole.{no_records}
 use Rattle.quilt_region.specs.Laws.{first_key, last_key}
-use Rattle.quilt_region.specs.Regions.{leaf_record, region_records, HasRegion}
+use Rattle.quilt_spell.specs.OfLayer.{leaf_record}
+use Rattle.quilt_region.specs.Regions.{region_records, HasRegion}
 use Rattle.quilt_region.specs.Walks.{IsAhead}
 use Rattle.quilt_region.proofs.Counting.{saved_then, saved_more, saved_less, saved_none}
-use Rattle.quilt_region.proofs.Floors.{none_some, some_same}
 use Rattle.quilt_region.proofs.Records.{range_filter, spelled_leaf, in_range}
 use Rattle.quilt_region.proofs.Trees.{tree_rises}
 
@@ -167,16 +168,16 @@ module _ (told : Option (List (List ℕ))) (t : Tree) (c later : Cursor) (layer 
   -- behind the last leaf it goes over no record of the layer
   pub goes_out : (h : IsAhead told t c layer n []) (o : Option Record) (r : Record) → MatchOption o (h.after ≡ []) (λ x. GoesOver told t x later h.before h.after)
       → o ≡ Some r → r.key.layer ≡ layer → ⊥
-  goes_out h None r none is of_layer = none_some r is
+  goes_out h None r none is of_layer = none-some r is
   goes_out h (Some x) r over is of_layer =
-      let same = some_same x r is in
+      let same = same_Some x r is in
       h.elsewhere r (subst (λ rs. Contains rs r) (sym over.records ∙ h.are) (subst (λ (y : Record). Contains (y ∷ over.rest) r) (sym same) (Contains-here r over.rest))) of_layer
 
 -- the next record is read as the leaf
 pub read_over : (layer n : ℕ) (e : Block × ℕ) (o : Option Record) (r : Record) (read : Option Leaf) → 1 ≤ layer → IsBlock n e.0 → o ≡ Some (leaf_record n layer e) → o ≡ Some r
     → ((b : Block) (k : Colour) → 1 ≤ layer → IsBlock n b → r ≡ leaf_record n layer (b, k.0) → read ≡ Some (record { block = b; colour = k }))
     → read ≡ Some (record { block = e.0; colour = record { 0 = e.1 } })
-read_over layer n e o r read least block is has one = one e.0 (record { 0 = e.1 }) least block (some_same r (leaf_record n layer e) (sym has ∙ is))
+read_over layer n e o r read least block is has one = one e.0 (record { 0 = e.1 }) least block (same_Some r (leaf_record n layer e) (sym has ∙ is))
 
 -- where the square ends
 pub square_end : (n : ℕ) (b : Block) (end : ℕ) → n ≤ 12 → b ≡ whole n → end ≡ code_to b → (end ≡ 4 ^ n) × (end ≤ 16777216)

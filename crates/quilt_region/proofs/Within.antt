@@ -4,6 +4,7 @@ use Rattle.std.proofs.Common.{◌∙◌, ap, subst, ⊎_elim, Contains, arith, n
 use Rattle.std.proofs.lemmas.Bool.{cases_lt, and_parts, and_from, ltb-true, leb-true, le-leb, lt-ltb}
 use Rattle.std.proofs.lemmas.List.{length-map, get_or-map, take_all}
 use Rattle.std.proofs.lemmas.List.Elements.{Contains-get_or}
+use Rattle.std.proofs.lemmas.Option.{same_Some, none-some}
 use Rattle.quilt_types.specs.declared.plane.Pixel.{Pixel}
 use Rattle.quilt_types.specs.declared.plane.Block.{Block}
 use Rattle.quilt_types.specs.declared.plane.Colour.{Colour}
@@ -28,9 +29,8 @@ use Rattle.quilt_blocks.proofs.Maximal.{IsMaximal-from, Contains-maximal, cut_la
 use Rattle.quilt_blocks.proofs.Cuts.{Runs, cut_runs, leaf_total, leaf_is, leaves_rise, leaves_members}
 use Rattle.quilt_blocks.proofs.Inside.{smaller_inside, codes_inside}
 use Rattle.quilt_region.specs.Painting.{HasColours}
-use Rattle.quilt_region.specs.Regions.{leaf_record}
+use Rattle.quilt_spell.specs.OfLayer.{leaf_record}
 use Rattle.quilt_region.specs.Windows.{IsCutOut, leaves_within, records_within}
-use Rattle.quilt_region.proofs.Floors.{none_some, some_same}
 use Rattle.quilt_region.proofs.Parts.{HasColours-push}
 
 -- a block holds the corner of one that begins within its codes
@@ -173,10 +173,10 @@ module _ (n layer : ℕ) (g : Grid) (b : Block) (records : List Record) (i : ℕ
   is_read = one nth.leaf.0 (record { 0 = nth.leaf.1 }) least nth.block nth.is
 
   pub nth_some : read ≡ None → ⊥
-  nth_some none = none_some nth_read (sym none ∙ is_read)
+  nth_some none = none-some nth_read (sym none ∙ is_read)
 
   pub nth_same : (l : Leaf) → read ≡ Some l → pair_of l ≡ nth.leaf
-  nth_same l e = ap pair_of (sym (some_same nth_read l (sym is_read ∙ e)))
+  nth_same l e = ap pair_of (sym (same_Some nth_read l (sym is_read ∙ e)))
 
 -- where the leaf begins and ends
 pub nth_codes : (n layer : ℕ) (g : Grid) (b : Block) (i end : ℕ) (r : Record) (l : Leaf) (nth : IsNth n layer g b i r) → n ≤ 12 → IsBlock n b

@@ -23,7 +23,8 @@ use Rattle.quilt_blocks.proofs.Cuts.{leaf_is, leaf_total, leaves_rise}
 use Rattle.quilt_btree.specs.declared.tree.Tree.{Tree}
 use Rattle.quilt_btree.specs.Lists.{is_from_to, range_of}
 use Rattle.quilt_btree.specs.Trees.{IsTree}
-use Rattle.quilt_region.specs.Regions.{leaf_record, SpellsRegion, HasRegion}
+use Rattle.quilt_spell.specs.OfLayer.{leaf_record}
+use Rattle.quilt_region.specs.Regions.{SpellsRegion, HasRegion}
 use Rattle.quilt_region.specs.Windows.{leaves_within, records_within}
 use Rattle.quilt_spell.specs.Written.{by_key}
 use Rattle.quilt_spell.proofs.Written.{by_key_total}

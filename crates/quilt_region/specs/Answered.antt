@@ -5,7 +5,8 @@ use Rattle.quilt_types.specs.declared.plane.Block.{Block}
 use Rattle.quilt_types.specs.Plane.{in_block}
 use Rattle.quilt_record.specs.declared.record.Record.{Record}
 use Rattle.quilt_btree.specs.Lists.{floor_of}
-use Rattle.quilt_region.specs.Regions.{leaf_record, pixel_key}
+use Rattle.quilt_spell.specs.OfLayer.{leaf_record}
+use Rattle.quilt_region.specs.Regions.{pixel_key}
 
 -- the record of the greatest key up to a pixel's is the leaf of this colour around it
 pub record IsAnswered (n layer : ℕ) (rs : List Record) (p : Pixel) (colour : ℕ) : Type 0 where

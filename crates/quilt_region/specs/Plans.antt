@@ -9,7 +9,8 @@ use Rattle.quilt_loc.specs.Codes.{code_from, code_to}
 use Rattle.quilt_record.specs.declared.record.Record.{Record}
 use Rattle.quilt_record.specs.declared.edits.Edits.{Edits}
 use Rattle.quilt_blocks.specs.Cutting.{leaves_by_code}
-use Rattle.quilt_region.specs.Regions.{leaf_record, region_records}
+use Rattle.quilt_spell.specs.OfLayer.{leaf_record}
+use Rattle.quilt_region.specs.Regions.{region_records}
 
 -- the grid has this leaf, of this colour
 abbrev pub is_leaf : ℕ → Grid → Block × ℕ → Bool

@@ -12,10 +12,7 @@ use Rattle.quilt_record.specs.Records.{record_of}
 use Rattle.quilt_blocks.specs.Cutting.{leaves_by_code}
 use Rattle.quilt_btree.specs.declared.tree.Tree.{Tree}
 use Rattle.quilt_btree.specs.Trees.{IsTree}
-
--- the record of a leaf of the layer with this number
-abbrev pub leaf_record : ℕ → ℕ → Block × ℕ → Record
-leaf_record n layer e = record_of n 0 [] layer (HasColour e.0 e.1)
+use Rattle.quilt_spell.specs.OfLayer.{leaf_record}
 
 -- the records of the grid's leaves, in the order of their codes, which is that of their keys
 unfoldable pub region_records : ℕ → ℕ → Grid → List Record

@@ -6,7 +6,7 @@ use Rattle.quilt_btree.specs.declared.tree.Tree.{Tree}
 use Rattle.quilt_btree.specs.declared.cursor.Cursor.{Cursor}
 use Rattle.quilt_btree.specs.Cursors.{StandsIn}
 use Rattle.quilt_btree.specs.Trees.{IsTree}
-use Rattle.quilt_region.specs.Regions.{leaf_record}
+use Rattle.quilt_spell.specs.OfLayer.{leaf_record}
 
 -- the cursor goes over the records of these leaves next, and no record behind them is of the layer
 pub record IsAhead (told : Option (List (List ℕ))) (t : Tree) (c : Cursor) (layer n : ℕ) (rest : List (Block × ℕ)) : Type 0 where

@@ -10,7 +10,7 @@ use Rattle.quilt_loc.specs.Codes.{code_from, code_to}
 use Rattle.quilt_record.specs.declared.record.Record.{Record}
 use Rattle.quilt_blocks.specs.Cutting.{leaves_by_code}
 use Rattle.quilt_region.specs.declared.known.Known.{Known}
-use Rattle.quilt_region.specs.Regions.{leaf_record}
+use Rattle.quilt_spell.specs.OfLayer.{leaf_record}
 
 -- all pixels of the window are the block's
 pub record HoldsWindow (b : Block) (w : Window) : Type 0 where

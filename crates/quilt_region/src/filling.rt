@@ -35,10 +35,8 @@ pub fn fill(
 {
     let mut maker = Maker::new(alloc, level);
     let whole = whole_square(level);
-    match put_around(&mut maker, records, layer, level, whole, known) {
-        Err(e) => Err(e),
-        Ok(()) => Ok(maker.finish()),
-    }
+    put_around(&mut maker, records, layer, level, whole, known)?;
+    Ok(maker.finish())
 }
 
 /// Puts a block down: the leaves of the block that was read, and one colour for each block beside it.

@@ -98,22 +98,16 @@ fn plan_pixel<S: PageStore>(
     ensures left { OnlyReads S.PageStore store.old store.new result }
     ensures reads { IfOk result (λ _. Goes (λ old new. new ≤ old + (6 + 24 * level)) (S.reads store.old) (S.reads store.new)) }
 {
-    match leaf_with(store, tree, layer, level, Pixel { x: w.x, y: w.y }) {
-        Err(e) => Err(e),
-        Ok(leaf) => match block_up_to(store, tree, layer, level, leaf.block, c) {
-            Err(e) => Err(e),
-            Ok(top) => {
-                let known = Known {
-                    read: leaf.block,
-                    top,
-                    around: c,
-                    elsewhere: other_colour(c, leaf.colour),
-                };
-                let record = region_record(layer, leaf.block, level, leaf.colour);
-                plan_known(alloc, &[record], layer, level, &known, w)
-            }
-        },
-    }
+    let leaf = leaf_with(store, tree, layer, level, Pixel { x: w.x, y: w.y })?;
+    let top = block_up_to(store, tree, layer, level, leaf.block, c)?;
+    let known = Known {
+        read: leaf.block,
+        top,
+        around: c,
+        elsewhere: other_colour(c, leaf.colour),
+    };
+    let record = region_record(layer, leaf.block, level, leaf.colour);
+    plan_known(alloc, &[record], layer, level, &known, w)
 }
 
 /// What `plan_rect` answers where the leaf that holds the window is read, or the smallest block that does.
@@ -140,13 +134,9 @@ fn plan_together<S: PageStore>(
         → HoldsWindow b w → ((a : AnyBlock) → IsBlock level a → HoldsWindow a w → 2 ^ j ≤ a.side)
         → Goes (λ old new. new + 24 * j ≤ old + (15 + 24 * level + 3 * length (leaves_within level g b))) (S.reads store.old) (S.reads store.new)) }
 {
-    match what_is_around(store, tree, layer, level, w, c) {
-        Err(e) => Err(e),
-        Ok(known) => match records_in(alloc, store, tree, layer, level, known.read) {
-            Err(e) => Err(e),
-            Ok(records) => plan_known(alloc, &records, layer, level, &known, w),
-        },
-    }
+    let known = what_is_around(store, tree, layer, level, w, c)?;
+    let records = records_in(alloc, store, tree, layer, level, known.read)?;
+    plan_known(alloc, &records, layer, level, &known, w)
 }
 
 /// What is to be known of a layer where a window is painted. It reads at most 6 pages, and 24 more for each level.
@@ -173,18 +163,14 @@ fn what_is_around<S: PageStore>(
     ensures reads { IfOk result (λ k. (j : ℕ) → k.read.side ≡ 2 ^ j
         → Goes (λ old new. new + 24 * j ≤ old + (6 + 24 * level)) (S.reads store.old) (S.reads store.new)) }
 {
-    match block_with(store, tree, layer, level, w) {
-        Err(e) => Err(e),
-        Ok((read, first)) => match block_up_to(store, tree, layer, level, read, c) {
-            Err(e) => Err(e),
-            Ok(top) => Ok(Known {
-                read,
-                top,
-                around: c,
-                elsewhere: other_colour(c, first),
-            }),
-        },
-    }
+    let (read, first) = block_with(store, tree, layer, level, w)?;
+    let top = block_up_to(store, tree, layer, level, read, c)?;
+    Ok(Known {
+        read,
+        top,
+        around: c,
+        elsewhere: other_colour(c, first),
+    })
 }
 
 /// The records that go and those that come, where this is known of a layer.

@@ -233,15 +233,11 @@ fn plan_part<S: PageStore>(
     ensures reads { OnOk result ((g : Grid) → HasRegion (S.told store.old) tree.now layer level g
         → Goes (λ old new. new ≤ old + (6 + 3 * length (leaves_within level g known.now.read))) (S.reads store.old) (S.reads store.new)) }
 {
-    match records_in(alloc, store, tree, layer, level, known.read) {
-        Err(e) => Err(e),
-        Ok(records) => match plan_known(alloc, &records, layer, level, known, w) {
-            Err(e) => Err(e),
-            Ok(edits) => match add_edits(&edits, remove, add) {
-                Err(_) => Err(Stop::Memory),
-                Ok(()) => Ok(()),
-            },
-        },
+    let records = records_in(alloc, store, tree, layer, level, known.read)?;
+    let edits = plan_known(alloc, &records, layer, level, known, w)?;
+    match add_edits(&edits, remove, add) {
+        Err(_) => Err(Stop::Memory),
+        Ok(()) => Ok(()),
     }
 }
 

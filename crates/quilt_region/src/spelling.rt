@@ -9,7 +9,8 @@ ghost use Rattle.quilt_loc.specs.Codes.{code_from, code_to};
 ghost use Rattle.quilt_blocks.specs.Cutting.{pair_of};
 ghost use Rattle.quilt_store.specs.Stops.{IsSound};
 ghost use Rattle.quilt_region.specs.Painting.{HasColours};
-ghost use Rattle.quilt_region.specs.Regions.{leaf_record, region_records};
+ghost use Rattle.quilt_spell.specs.OfLayer.{leaf_record};
+ghost use Rattle.quilt_region.specs.Regions.{region_records};
 ghost use Rattle.quilt_region.specs.Windows.{IsCutOut, records_within};
 
 use quilt_blocks::{Leaf, LeafList, Maker};

@@ -42,10 +42,8 @@ pub fn leaf_counts<S: PageStore>(
     if tree.height == 0 {
         return Err(DAMAGED);
     }
-    match tree.seek(store, &first_key(layer)) {
-        Err(e) => Err(e),
-        Ok(mut cursor) => count_ahead(store, tree, &mut cursor, layer, level),
-    }
+    let mut cursor = tree.seek(store, &first_key(layer))?;
+    count_ahead(store, tree, &mut cursor, layer, level)
 }
 
 /// The same of a layer whose records a cursor goes over next.
@@ -71,18 +69,12 @@ fn count_ahead<S: PageStore>(
     let mut counts = [0; 13];
     let mut code = 0;
     while code < end {
-        match next_leaf(store, tree, cursor, layer, level, code) {
-            Err(e) => return Err(e),
-            Ok(leaf) => {
-                counts[exponent_of(leaf.block.side)] += 1;
-                code = end_of(leaf.block);
-            }
-        }
+        let leaf = next_leaf(store, tree, cursor, layer, level, code)?;
+        counts[exponent_of(leaf.block.side)] += 1;
+        code = end_of(leaf.block);
     }
-    match end_layer(store, tree, cursor, layer) {
-        Err(e) => Err(e),
-        Ok(()) => Ok(counts),
-    }
+    end_layer(store, tree, cursor, layer)?;
+    Ok(counts)
 }
 
 /// Goes over the next record, which is that of the layer's leaf that begins at a code. It reads at most 3 pages.

@@ -48,10 +48,8 @@ pub fn read_window<S: PageStore>(
     let side = side_over(w);
     let mut maker = Maker::new(alloc, level);
     let whole = whole_square(level);
-    match put_window(alloc, store, tree, layer, level, w, side, whole, &mut maker) {
-        Err(e) => Err(e),
-        Ok(()) => Ok(maker.finish()),
-    }
+    put_window(alloc, store, tree, layer, level, w, side, whole, &mut maker)?;
+    Ok(maker.finish())
 }
 
 /// The least power of two that is no less than either side of a window.
@@ -108,10 +106,7 @@ fn put_window<S: PageStore>(
         return put_read(alloc, store, tree, layer, level, b, maker);
     }
     for q in quarters(b) {
-        match put_window(alloc, store, tree, layer, level, w, side, q, maker) {
-            Err(e) => return Err(e),
-            Ok(()) => {}
-        }
+        put_window(alloc, store, tree, layer, level, w, side, q, maker)?;
     }
     Ok(())
 }

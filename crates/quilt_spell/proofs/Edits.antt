@@ -3,7 +3,7 @@ use Rattle.std.proofs.Common.{◌≡◌, ℕ, ◌+◌, ◌≤◌, ◌↔◌, Boo
 use Rattle.std.proofs.Common.{arith, Contains, filter, nat_cmp}
 use Rattle.std.specs.Cmp.Lexicographic.{slice_cmp, nat_list_cmp_total}
 use Rattle.std.specs.FinMap as finmap
-use Rattle.std.proofs.lemmas.Bool.{cases_Bool}
+use Rattle.std.proofs.lemmas.Bool.{cases_Bool, not_from_false}
 use Rattle.std.proofs.lemmas.List.{length-map}
 use Rattle.quilt_types.specs.Layers.{Layer, Map, IsMap}
 use Rattle.quilt_types.specs.Facts.{Fact, facts, records, changes}
@@ -19,9 +19,6 @@ use Rattle.quilt_spell.proofs.facts.FactKeys.{fact_alone, facts_apart}
 use Rattle.quilt_spell.proofs.facts.SameFacts.{among_from, among_is}
 use Rattle.quilt_spell.proofs.Changes.{not_true, got_here, got_there, changes_are, records_balance, lost_at}
 use Rattle.quilt_spell.proofs.Written.{name_same, number_in_layer, layer_record, layer_record_from, number_fits, name_alone, layer_fits}
-
-not_false : (b : Bool) → b ≡ false → not b ≡ true
-not_false b e = ap not e
 
 -- a record of facts of a layer
 pub record RecordWith (n : ℕ) (name : List ℕ) (number : ℕ) (layer : Option Layer) (fs : List Fact) (r : Record) : Type 0 where
@@ -71,7 +68,7 @@ alone_from n a b f c =
 alone_or_both : (n : ℕ) (a b : Option Layer) (f : Fact) → Contains (facts_in n a) f → Contains (facts_in n b) f ⊎ Contains (facts_alone n a b) f
 alone_or_both n a b f c =
     ⊎_elim (λ t. inl (among_from (facts_in n b) f t))
-    (λ e. inr (Contains-filter (λ g. not (is_among (facts_in n b) g)) (facts_in n a) f c (not_false (is_among (facts_in n b) f) e)))
+    (λ e. inr (Contains-filter (λ g. not (is_among (facts_in n b) g)) (facts_in n a) f c (not_from_false (is_among (facts_in n b) f) e)))
     (cases_Bool (is_among (facts_in n b) f))
 
 module _ (form n : ℕ) (layers : Map) (numbers after : Numbering) (name : List ℕ) (number : ℕ) (new : Option Layer) (le : n ≤ 12) (least : 1 ≤ number)

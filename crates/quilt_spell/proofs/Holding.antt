@@ -37,7 +37,7 @@ module _ (n : ℕ) (fits : Block → Bool) (p : Pixel) (hx : p.x < 2 ^ n) (hy : 
       let up = around (2 ^ suc k) p in
       let hu = IsBlock-around n (suc k) p (omega arith) hx hy in
       let twice = pow-suc 2 k in
-      let lt : b.side < 2 ^ n = below k n (omega arith) in
+      let lt : b.side < 2 ^ n = pow_below k n (omega arith) in
       let is : parent_of b ≡ up =
       same_block_from n (parent_of b) up p (IsBlock-parent_of n b hb lt) hu (omega arith)
       (Within-holds b (parent_of b) p (Within-parent_of n b hb lt) (Holds-around k p)) (Holds-around (suc k) p) in
@@ -45,9 +45,6 @@ module _ (n : ℕ) (fits : Block → Bool) (p : Pixel) (hx : p.x < 2 ^ n) (hy : 
       (λ passes. up_from d (suc k) (omega arith) (ap fits (sym is) ∙ passes))
       (λ fails. record { block = b; maximal = maximal b hb t (or_right (is_whole n b) (not (fits (parent_of b))) (ap not fails)); holds = Holds-around k p })
       (cases_Bool (fits (parent_of b)))
-    where
-      below : (i j : ℕ) → i < j → 2 ^ i < 2 ^ j
-      below i j lt = pow_below i j lt
 
   pub held : fits (around (2 ^ 0) p) ≡ true → HeldBy n fits p
   held t = up_from n 0 (omega arith) t

@@ -7,6 +7,7 @@ use Rattle.std.specs.FinMap as finmap
 use Rattle.std.specs.FinMap.{IsAntisymmetric}
 use Rattle.std.specs.FinMap.Entries as sorted
 use Rattle.std.proofs.lemmas.Bool.{cases_Bool, cond-true, cond-false}
+use Rattle.std.proofs.lemmas.Option.{none-some, same_Some}
 use Rattle.quilt_types.specs.Sets as finset
 use Rattle.quilt_loc.specs.Codes.{Rises}
 use Rattle.quilt_loc.proofs.Members.{Contains-nil, Contains-here, Contains-there, Contains-cons_cases, Contains-map, Contains-map_from}
@@ -29,12 +30,6 @@ tied : (o : Ordering) → is_eq o ≡ true → o ≡ Equal
 tied Less p = cc
 tied Equal p = refl
 tied Greater p = cc
-
-same_value : {X : Type 0} (v w : X) → Some v ≡ Some w → v ≡ w
-same_value v w e = cc
-
-no_value : {X : Type 0} (v : X) → None ≡ Some v → ⊥
-no_value v e = cc
 
 -- entries by their keys
 abbrev pub by_first : {K X : Type 0} → (K → K → Ordering) → K × X → K × X → Ordering
@@ -73,12 +68,12 @@ module _ {K X : Type 0} (R : K → K → Ordering) where
 
   module _ (o : IsTotalOrder R) (same : IsAntisymmetric R) where
     found_is : (es : List (K × X)) (k : K) (v : X) → sorted.find R k es ≡ Some v → Contains es (k, v)
-    found_is [] k v h = absurd (no_value v h)
+    found_is [] k v h = absurd (none-some v h)
     found_is (e ∷ es) k v h =
         ⊎_elim
         (λ t.
         let is : k ≡ e.0 = same k e.0 (tied (R k e.0) t) in
-        let w : e.1 ≡ v = same_value e.1 v (sym (cond-true (eq_by_cmp R k e.0) (Some e.1) (sorted.find R k es) t) ∙ h) in
+        let w : e.1 ≡ v = same_Some e.1 v (sym (cond-true (eq_by_cmp R k e.0) (Some e.1) (sorted.find R k es) t) ∙ h) in
         let pair : e ≡ (k, v) = λ i. (sym is i, w i) in
         subst (Contains (e ∷ es)) pair (Contains-here e es))
         (λ f. Contains-there e es (k, v) (found_is es k v (sym (cond-false (eq_by_cmp R k e.0) (Some e.1) (sorted.find R k es) f) ∙ h)))
@@ -130,7 +125,7 @@ module _ {K : Type 0} (R : K → K → Ordering) (o : IsTotalOrder R) (same : Is
 
   -- the members of a set that is made of a list
   pub member_from_list : (ks : List K) (k : K) → Contains (finset.items (finset.from_list {R = R} ks)) k → Contains ks k
-  member_from_list [] k c = absurd (no_value tt (sym (finmap.get-empty {X = Unit {0}} R k) ∙ (item_is finset.empty k).0 c))
+  member_from_list [] k c = absurd (none-some tt (sym (finmap.get-empty {X = Unit {0}} R k) ∙ (item_is finset.empty k).0 c))
   member_from_list (l ∷ ls) k c =
       ⊎_elim (λ e. subst (Contains (l ∷ ls)) (sym e) (Contains-here l ls))
       (λ d. Contains-there l ls k

@@ -4,6 +4,7 @@ use Rattle.std.proofs.Common.{Contains, filter, eqb, eqb-true, ne_eqb, eq-eqb}
 use Rattle.std.specs.Prelude.{◌==◌}
 use Rattle.std.specs.FinMap as finmap
 use Rattle.std.proofs.lemmas.Bool.{cases_Bool, cond-false}
+use Rattle.std.proofs.lemmas.Option.{same_Some}
 use Rattle.quilt_types.specs.declared.plane.Block.{Block}
 use Rattle.quilt_types.specs.Layers.{Layer, Region, Points, Lines, Grid, Map, IsLayer}
 use Rattle.quilt_types.specs.Facts.{Fact, IsOfKind, HasColour, HoldsPoint, HoldsNoPoint, IsSegment, IsMetBy, IsMetByNone, facts}
@@ -25,9 +26,6 @@ use Rattle.quilt_spell.proofs.Changes.{not_true, not_from}
 use Rattle.quilt_spell.proofs.Edits.{record_with_from, same_capacity}
 use Rattle.quilt_spell.proofs.Written.{by_key_total, number_in_layer, layer_record, layer_record_from, layer_length, layer_apart, number_is, number_fits}
 use Rattle.quilt_spell.proofs.Written.{name_alone, layer_fits}
-
-same_some : {X : Type 0} (v w : X) → Some v ≡ Some w → v ≡ w
-same_some v w e = cc
 
 pub kind_there : (n : ℕ) (l : Layer) → Contains (facts n l) (kind_fact l)
 kind_there n (Region grid) = Contains-here _ _
@@ -59,7 +57,7 @@ module _ (form n : ℕ) (numbers : Numbering) (rs : List Record) (layers : Map) 
         let w = (s.written r).0 c in
         let here = number_in_layer n w.name (number_of numbers w.name) w.layer r (number_fits layers numbers s.numbering w.name w.layer w.at).0 w.written in
         let same = name_alone layers numbers s.numbering w.name name w.layer l w.at at (sym here ∙ e) in
-        let layer = same_some w.layer l (sym w.at ∙ ap (finmap.get layers) same ∙ at) in
+        let layer = same_Some w.layer l (sym w.at ∙ ap (finmap.get layers) same ∙ at) in
         subst (λ (a : List ℕ). Contains (layer_records n a (number_of numbers a) l) r) same
         (subst (λ (m : Layer). Contains (layer_records n w.name (number_of numbers w.name) m) r) layer w.written);
   }
@@ -192,7 +190,7 @@ module _ (form n : ℕ) (layers : Map) (numbers : Numbering) (name : List ℕ) (
       (λ some.
       let l = some.0 in
       let names = name_alone layers numbers num w.name name w.layer l w.at some.1 (same ∙ sym (was l some.1)) in
-      let layer = same_some w.layer l (sym w.at ∙ ap (finmap.get layers) names ∙ some.1) in
+      let layer = same_Some w.layer l (sym w.at ∙ ap (finmap.get layers) names ∙ some.1) in
       let mine = subst (λ (a : List ℕ). Contains (layer_records n a number l) s) names
       (subst (λ (k : ℕ). Contains (layer_records n w.name k l) s) same
       (subst (λ (m : Layer). Contains (layer_records n w.name (number_of numbers w.name) m) s) layer w.written)) in

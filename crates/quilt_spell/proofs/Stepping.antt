@@ -12,7 +12,8 @@ use Rattle.std.proofs.lemmas.List.FromFn.{length-range_with_len}
 use Rattle.quilt_types.specs.Layers.{Layer, Map, is_name}
 use Rattle.quilt_types.specs.Facts.{records, changes}
 use Rattle.quilt_record.specs.declared.record.Record.{Record}
-use Rattle.quilt_record.specs.Records.{Numbering, capacity_of, record_of, filled, kind_number}
+use Rattle.quilt_types.specs.Bytes.{filled}
+use Rattle.quilt_record.specs.Records.{Numbering, capacity_of, record_of, kind_number}
 use Rattle.quilt_loc.specs.Codes.{Rises}
 use Rattle.quilt_spell.specs.Apart.{Apart}
 use Rattle.quilt_spell.specs.Written.{number_of, by_key}

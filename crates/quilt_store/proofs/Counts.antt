@@ -7,7 +7,7 @@ use Rattle.std.proofs.Math.Seq.{get_or-append_seam}
 use Rattle.std.proofs.lemmas.List.{get_or-drop, length-drop}
 use Rattle.std.proofs.lemmas.List.Quantifiers.{position-Some}
 use Rattle.std.proofs.lemmas.Bool.Decides.{nat_tests}
-use Rattle.std.proofs.lemmas.Bool.{cases_lt}
+use Rattle.std.proofs.lemmas.Bool.{cases_lt, lt-ltb}
 use Rattle.std.specs.Option.{is_some}
 use Rattle.std.proofs.lemmas.List.{replicate-append-replicate}
 use Rattle.quilt_store.specs.Store.{count_free}
@@ -67,9 +67,6 @@ first_below (false ∷ free) h =
     let rest = first_below free some in
     omega arith
 
-lt_test : (m n : ℕ) → m < n → nat_lt m n ≡ true
-lt_test m n h = grind (arith, nat_tests)
-
 -- no page before a place is free
 abbrev pub NoneBelow : List Bool → ℕ → Type 0
 NoneBelow free n = (page : ℕ) → page < n → is_free free page ≡ false
@@ -89,7 +86,7 @@ found free size n f low e some h =
     let many : 0 < count free = subst (λ n. 0 < n) (count_of_free free size f e some) h in
     let left : 0 < count (drop n free) = subst (λ m. 0 < m) (sym (count_from free n low)) many in
     let at = position_or_len (λ b. b) (drop n free) in
-    ap (λ b. is_some (cond b (Some at) None)) (lt_test at (length (drop n free)) (first_below (drop n free) left))
+    ap (λ b. is_some (cond b (Some at) None)) (lt-ltb at (length (drop n free)) (first_below (drop n free) left))
 
 -- the page is free, and none before it is
 pub record IsLowest (free : List Bool) (page : ℕ) : Type 0 where
@@ -226,7 +223,7 @@ one_counted zero c b e h =
     omega arith
 one_counted (suc n) c b e h =
     let some : 0 < suc n = omega arith in
-    let one : cond {A = ℕ} b 1 0 ≡ 1 = ap (λ d. cond {A = ℕ} d 1 0) (e ∙ lt_test 0 (suc n) some) in
+    let one : cond {A = ℕ} b 1 0 ≡ 1 = ap (λ d. cond {A = ℕ} d 1 0) (e ∙ lt-ltb 0 (suc n) some) in
     omega arith
 
 pub one_more : (pages : List (List ℕ)) (free : List Bool) (n : ℕ) (b : Bool) → b ≡ nat_lt 0 n → AreFresh pages free n
@@ -250,4 +247,4 @@ one_more pages free n b e f = record {
     here page h k ge =
         let at : page ≡ length free = omega (arith, f.tests) in
         let some : 0 < n = omega arith in
-        ap (is_free (free ++ b ∷ [])) at ∙ get_or-append_seam free b [] false ∙ e ∙ lt_test 0 n some
+        ap (is_free (free ++ b ∷ [])) at ∙ get_or-append_seam free b [] false ∙ e ∙ lt-ltb 0 n some

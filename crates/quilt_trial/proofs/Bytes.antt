@@ -2,19 +2,15 @@
 use Rattle.std.proofs.Common.{◌≡◌, ℕ, ◌+◌, ◌%◌, ◌^◌, ◌<◌, ◌==◌, ◌&&◌, not, Bool, true, false, List, [], ◌∷◌, ◌++◌, map, flat_map, sym, ◌∙◌, ap, arith}
 use Rattle.std.proofs.Common.{append_assoc, append-nil}
 use Rattle.std.specs.Fmt.{decimal}
-use Rattle.std.proofs.lemmas.Bool.{ne_eqb}
+use Rattle.std.proofs.lemmas.Bool.{ne_eqb, and_from}
 use Rattle.std.proofs.lemmas.Fmt.{decimal_by_steps}
 use Rattle.std.proofs.lemmas.List.Folds.{list_all-append}
 use Rattle.quilt_lang.specs.Trials.{spaced}
 use Rattle.quilt_trial.specs.Drawing.{command_text, has_no_newline}
 
-both : (a b : Bool) → a ≡ true → b ≡ true → (a && b) ≡ true
-both true b first second = second
-both false b first second = first
-
 -- bytes with no newline behind others
 pub plain_joined : (a b : List ℕ) → has_no_newline a ≡ true → has_no_newline b ≡ true → has_no_newline (a ++ b) ≡ true
-plain_joined a b first second = list_all-append (λ (c : ℕ). not (c == 10)) a b ∙ both (has_no_newline a) (has_no_newline b) first second
+plain_joined a b first second = list_all-append (λ (c : ℕ). not (c == 10)) a b ∙ and_from (has_no_newline a) (has_no_newline b) first second
 
 plain_digit : (d : ℕ) → has_no_newline ((48 + d) ∷ []) ≡ true
 plain_digit d = ap (λ (b : Bool). not b && true) (ne_eqb (48 + d) 10 (λ e. omega (arith, e)))

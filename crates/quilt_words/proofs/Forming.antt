@@ -1,10 +1,10 @@
 -- What a word and the words behind it spell is what the word's row of the table makes.
 use Rattle.std.proofs.Common.{◌≡◌, inl, inr, ℕ, ◌-◌, ◌/◌, ◌==◌, Bool, true, false, List, ◌∷◌, length, Option, Some, None, Ok, Err, codes, cond, find, refl}
 use Rattle.std.specs.Str.{bytes_eq}
+use Rattle.std.proofs.lemmas.Bool.{cases_Bool}
 use Rattle.quilt_types.specs.declared.code.Code.TheVariants as codes_of
 use Rattle.quilt_words.specs.Forms.{Further, Entry, table, or_err, ◌>>=◌, values_of, with_count, recolour_entry, points_entry, form_of_words}
 use Rattle.quilt_words.specs.Made.{made, row_formed, has_pairs, formed}
-use Rattle.quilt_words.proofs.Cases.{bool_cases}
 
 -- the number of words is looked at before the first of them
 counted_first : (b : Bool) (e : Entry) (more : Further) (ws : List (List ℕ)) →
@@ -32,9 +32,9 @@ some_row (Some e) more ws = row e more ws
 
 pub formed_is : (f : ℕ) (more : Further) (bs : List ℕ) (ws : List (List ℕ)) → form_of_words f more (bs ∷ ws) ≡ formed f more bs ws
 unfolding form_of_words
-formed_is f more bs ws = elim (bool_cases (bytes_eq bs (codes "recolour"))) [
+formed_is f more bs ws = elim (cases_Bool (bytes_eq bs (codes "recolour"))) [
   | inl same ↦ rw same (paired (has_pairs (length ws)) (recolour_entry f ((length ws - 2) / 2)) more ws)
-  | inr other ↦ elim (bool_cases (bytes_eq bs (codes "points"))) [
+  | inr other ↦ elim (cases_Bool (bytes_eq bs (codes "points"))) [
     | inl same ↦ rw (other, same) (row (points_entry (length ws)) more ws)
     | inr not_ ↦ rw (other, not_) (some_row (find (λ e. bytes_eq e.word bs) (table f)) more ws)
   ]

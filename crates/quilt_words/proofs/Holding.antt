@@ -4,7 +4,7 @@ use Rattle.std.proofs.Common.{nat_lt, Bool, true, false, List, [], ◌∷◌, �
 use Rattle.std.proofs.Common.{unwrap_or, cond, codes, refl, sym, ◌∙◌, ap, arith, length-append}
 use Rattle.std.specs.List.{list_all}
 use Rattle.std.specs.Str.{bytes_eq}
-use Rattle.std.proofs.lemmas.Bool.{leb-true, ltb-false, eqb-true, eqb-false}
+use Rattle.std.proofs.lemmas.Bool.{leb-true, ltb-false, eqb-true, eqb-false, cases_Bool}
 use Rattle.std.proofs.Math.Nat.{suc-mul}
 use Rattle.std.proofs.lemmas.List.Elements.{All-nil, All-cons, All-head, All-tail}
 use Rattle.quilt_types.specs.declared.plane.Point.{Point}
@@ -21,7 +21,6 @@ use Rattle.quilt_words.specs.Spelling.{number, row, hex_digit, cons_both, is_spe
 use Rattle.quilt_words.specs.Forms.{form, Spelled}
 use Rattle.quilt_words.specs.Made.{further_of}
 use Rattle.quilt_words.specs.Parsing.{Answers}
-use Rattle.quilt_words.proofs.Cases.{bool_cases}
 
 both_right : (a b : Bool) → (a && b) ≡ true → b ≡ true
 both_right true b is = is
@@ -34,7 +33,7 @@ both_left false b is = is
 -- a number within its range
 pub number_within : (low high : ℕ) (cs : List ℕ) (n : ℕ) → number low high cs ≡ Some n → IsWithin low high n
 unfolding number
-number_within low high cs n is = elim (bool_cases (is_spelled cs && nat_le low (value_of cs) && nat_le (value_of cs) high)) [
+number_within low high cs n is = elim (cases_Bool (is_spelled cs && nat_le low (value_of cs) && nat_le (value_of cs) high)) [
   | inl holds ↦
       let e : Some (value_of cs) ≡ Some n = rw holds at is in
       let same : value_of cs ≡ n = cc in
@@ -183,15 +182,15 @@ rings_are (line ∷ lines) = next_are IsRing (length lines) (ring_of line) (ring
 
 -- a digit, and a byte of two
 pub digit_low : (c : ℕ) → IfSome (hex_digit c) (λ d. d < 16)
-digit_low c = elim (bool_cases (nat_le 48 c && nat_le c 57)) [
+digit_low c = elim (cases_Bool (nat_le 48 c && nat_le c 57)) [
   | inl is ↦ rw is (omega (arith, leb-true c 57 (both_right (nat_le 48 c) (nat_le c 57) is)))
   | inr not_ ↦ rw not_ (letter_low c)
 ]
   where
     letter_low : (c : ℕ) → IfSome (cond (nat_le 97 c && nat_le c 102) (Some (c - 87)) (cond (nat_le 65 c && nat_le c 70) (Some (c - 55)) None)) (λ d. d < 16)
-    letter_low c = elim (bool_cases (nat_le 97 c && nat_le c 102)) [
+    letter_low c = elim (cases_Bool (nat_le 97 c && nat_le c 102)) [
       | inl is ↦ rw is (omega (arith, leb-true c 102 (both_right (nat_le 97 c) (nat_le c 102) is)))
-      | inr not_ ↦ rw not_ (elim (bool_cases (nat_le 65 c && nat_le c 70)) [
+      | inr not_ ↦ rw not_ (elim (cases_Bool (nat_le 65 c && nat_le c 70)) [
         | inl is ↦ rw is (omega (arith, leb-true c 70 (both_right (nat_le 65 c) (nat_le c 70) is)))
         | inr none ↦ rw none tt
       ])
@@ -285,7 +284,7 @@ rows_are f width (line ∷ lines) form =
 
 -- what each kind of further lines spells, where there are as many as are asked for
 rows_fit : (f n : ℕ) (more : List (List ℕ)) → (f ≡ 1) ⊎ (f ≡ 2) → IfSome (rows_of f n more) (IsRows f n)
-rows_fit f n more form = elim (bool_cases (length more == side n)) [
+rows_fit f n more form = elim (cases_Bool (length more == side n)) [
   | inl same ↦ rw same (square (rows_joined f (side n) more) (eqb-true (length more) (side n) same) (rows_are f (side n) more form))
   | inr other ↦ rw other tt
 ]
@@ -295,7 +294,7 @@ rows_fit f n more form = elim (bool_cases (length more == side n)) [
     square (Some bytes) same is = record { size = is.size ∙ ap (λ (k : ℕ). 2 * (k * side n)) same; colours = is.colours }
 
 points_fit : (k : ℕ) (more : List (List ℕ)) → 1 ≤ k → k ≤ 100000 → IfSome (points_of k more) ArePoints
-points_fit k more some few = elim (bool_cases (length more == k)) [
+points_fit k more some few = elim (cases_Bool (length more == k)) [
   | inl same ↦ rw same (enough (points_joined more) (eqb-true (length more) k same) (points_are more))
   | inr other ↦ rw other tt
 ]
@@ -306,7 +305,7 @@ points_fit k more some few = elim (bool_cases (length more == k)) [
         record { number = record { least = omega (arith, is.size, same, some); most = omega (arith, is.size, same, few) }; each = is.each }
 
 rings_fit : (k : ℕ) (more : List (List ℕ)) → 1 ≤ k → k ≤ 1000 → IfSome (rings_of k more) AreRings
-rings_fit k more some few = elim (bool_cases (length more == k)) [
+rings_fit k more some few = elim (cases_Bool (length more == k)) [
   | inl same ↦ rw same (enough (rings_joined more) (eqb-true (length more) k same) (rings_are more))
   | inr other ↦ rw other tt
 ]
@@ -321,9 +320,9 @@ no_further f n = record { rows = tt; points = tt; rings = tt }
 
 as_fits : (f n k : ℕ) (group : Group) → (f ≡ 1) ⊎ (f ≡ 2) → asked n group.line ≡ k → FurtherFits f n (further_of (held_as f n k group))
 as_fits f n zero group form is = no_further f n
-as_fits f n (suc k) group form is = elim (bool_cases (begins_with (words_of group.line) (codes "raster"))) [
+as_fits f n (suc k) group form is = elim (cases_Bool (begins_with (words_of group.line) (codes "raster"))) [
   | inl raster ↦ rw raster (record { rows = rows_fit f n group.more form; points = tt; rings = tt })
-  | inr other ↦ rw other (elim (bool_cases (begins_with (words_of group.line) (codes "scatter"))) [
+  | inr other ↦ rw other (elim (cases_Bool (begins_with (words_of group.line) (codes "scatter"))) [
     | inl scatter ↦ rw scatter
         (record { rows = tt; points = points_fit (suc k) group.more (omega arith) (omega (arith, is, asked_most n group.line other)); rings = tt })
     | inr no_list ↦ rw no_list
@@ -336,7 +335,7 @@ either_fits f n true item is = no_further f n
 either_fits f n false item is = is
 
 one_or_two : (f : ℕ) → 1 ≤ f → f ≤ 2 → (f ≡ 1) ⊎ (f ≡ 2)
-one_or_two f low high = elim (bool_cases (f == 1)) [
+one_or_two f low high = elim (cases_Bool (f == 1)) [
   | inl one ↦ inl (eqb-true f 1 one)
   | inr other ↦ inr (let no_one : f ≢ 1 = eqb-false f 1 other in omega (arith, low, high, no_one))
 ]

@@ -1,4 +1,3 @@
-pub mod Cases
 pub mod FirstWords
 pub mod Forming
 pub mod Holding

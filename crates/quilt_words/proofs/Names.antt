@@ -6,9 +6,9 @@ use Rattle.std.specs.Str.{IsAscii, IsUtf8}
 use Rattle.std.proofs.lemmas.Str.{IsUtf8-from_ascii}
 use Rattle.std.proofs.lemmas.Str.Ascii.{IsAscii-nil, IsAscii-cons}
 use Rattle.std.proofs.lemmas.Bool.Decides.{nat_tests}
+use Rattle.std.proofs.lemmas.Bool.{cases_Bool}
 use Rattle.quilt_types.specs.Layers.{is_name, is_name_byte, is_letter}
 use Rattle.quilt_words.specs.Spelling.{name}
-use Rattle.quilt_words.proofs.Cases.{bool_cases}
 
 and_first : (a b : Bool) → (a && b) ≡ true → a ≡ true
 and_first true b is = refl
@@ -40,7 +40,7 @@ name_ascii (c ∷ cs) is =
 -- what is no text is no name
 pub unnamed : (cs : List ℕ) → (IsUtf8 cs → ⊥) → None ≡ name cs
 unfolding name
-unnamed cs none = elim (bool_cases (is_name cs)) [
+unnamed cs none = elim (cases_Bool (is_name cs)) [
   | inl is ↦ absurd (none (IsUtf8-from_ascii cs (name_ascii cs is)))
   | inr not_ ↦ rw not_ refl
 ]

@@ -2,9 +2,8 @@
 use Rattle.std.proofs.Common.{◌≡◌, inl, inr, ℕ, ◌+◌, Bool, true, false, ◌==◌, not, List, [], ◌∷◌, length, filter, Option, Some, None, refl, ap, arith, find}
 use Rattle.std.specs.List.{slice_split, onto_first}
 use Rattle.std.proofs.lemmas.List.Splits.{length-slice_split}
-use Rattle.std.proofs.lemmas.Bool.{ne_eqb}
+use Rattle.std.proofs.lemmas.Bool.{ne_eqb, cases_Bool}
 use Rattle.quilt_words.specs.Items.{is_empty, words_of, is_remark}
-use Rattle.quilt_words.proofs.Cases.{bool_cases}
 
 -- no byte, or a `#`
 abbrev pub is_hash : Option ℕ → Bool
@@ -18,7 +17,7 @@ onto_word c (l ∷ ls) k size = refl
 pub remark_is : (line : List ℕ) → is_remark (words_of line) ≡ is_hash (find (λ c. not (c == 32)) line)
 unfolding words_of
 remark_is [] = refl
-remark_is (c ∷ cs) = elim (bool_cases (c == 32)) [
+remark_is (c ∷ cs) = elim (cases_Bool (c == 32)) [
   | inl space ↦ rw space (remark_is cs)
   | inr other ↦ rw other (onto_word c (slice_split (λ x. x == 32) cs) _ (length-slice_split (λ x. x == 32) cs))
 ]

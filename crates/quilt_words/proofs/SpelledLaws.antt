@@ -3,7 +3,7 @@ use Rattle.std.proofs.Common.{◌≡◌, inl, inr, ℕ, zero, suc, ◌+◌, ◌-
 use Rattle.std.proofs.Common.{Option, Some, None, Result, Ok, Err, refl, sym, ◌∙◌, ap, subst, ◌==◌, option_map, find, ℤ, pos, neg_ℤ, codes, IfOk, IfSome}
 use Rattle.std.specs.List.{list_all}
 use Rattle.std.specs.Str.{bytes_eq}
-use Rattle.std.proofs.lemmas.Bool.{eqb-true}
+use Rattle.std.proofs.lemmas.Bool.{eqb-true, cases_Bool}
 use Rattle.std.proofs.Math.Dec.{le→leb}
 use Rattle.std.proofs.lemmas.List.Elements.{All-nil, All-cons}
 use Rattle.quilt_types.specs.declared.plane.Colour.{Colour}
@@ -25,7 +25,6 @@ use Rattle.quilt_words.specs.Parsing.{Answers}
 use Rattle.quilt_words.specs.declared.parse_err.ParseErr.{ParseErr}
 use Rattle.quilt_words.specs.Made.{made, row_formed, recoloured, has_pairs, formed, further_of}
 use Rattle.quilt_words.specs.Spelling.{number, signed, name}
-use Rattle.quilt_words.proofs.Cases.{bool_cases}
 use Rattle.quilt_words.proofs.Holding.{number_within, further_fits}
 use Rattle.quilt_words.proofs.Recolours.{paired, pair_number}
 use Rattle.quilt_words.proofs.Forming.{formed_is}
@@ -78,7 +77,7 @@ made_of value code (Some x) v is = (x, refl, let same : value x ≡ v = cc in sa
 
 name_fits : (word a : List ℕ) → name word ≡ Some a → IsName a
 unfolding name
-name_fits word a is = elim (bool_cases (is_name word)) [
+name_fits word a is = elim (cases_Bool (is_name word)) [
   | inl yes_ ↦ let e : Some word ≡ Some a = rw yes_ at is in let same : word ≡ a = cc in subst IsName same yes_
   | inr not_ ↦ let e : None ≡ Some a = rw not_ at is in absurd (cc)
 ]
@@ -189,7 +188,7 @@ module _ (f n : ℕ) where
 
   by_row : (arguments : List Argument) (command : Further → List Value → Option Command) (more : Further) (ws : List (List ℕ)) (c : Command)
       → Row arguments command → made arguments command more ws ≡ Ok c → FitsWith f n more c
-  by_row arguments command more ws c row is = elim (bool_cases (length arguments == length ws)) [
+  by_row arguments command more ws c row is = elim (cases_Bool (length arguments == length ws)) [
     | inl same ↦
         let all : (values_of arguments ws >>= λ vs. or_err codes_of.Word (command more vs)) ≡ Ok c = rw same at is in
         let first = bound (values_of arguments ws) _ c all in
@@ -291,7 +290,7 @@ module _ (f n : ℕ) where
   recolour_fits m within more vs c fit is = cc
 
   recolour_made : (more : Further) (ws : List (List ℕ)) (c : Command) → recoloured f more ws ≡ Ok c → FitsWith f n more c
-  recolour_made more ws c is = elim (bool_cases (has_pairs (length ws))) [
+  recolour_made more ws c is = elim (cases_Bool (has_pairs (length ws))) [
     | inl some ↦
         let m : ℕ = (length ws - 2) / 2 in
         let all : (values_of (A_name ∷ A_name ∷ paired f 0 m) ws >>= λ vs. or_err codes_of.Word (recolour_command more vs)) ≡ Ok c = rw some at is in
@@ -305,7 +304,7 @@ module _ (f n : ℕ) where
   by_found : (p : Entry → Bool) (es : List Entry) (more : Further) (ws : List (List ℕ)) (c : Command) → AllRows es →
       row_formed (find p es) more ws ≡ Ok c → FitsWith f n more c
   by_found p [] more ws c rows is = cc
-  by_found p (e ∷ es) more ws c rows is = elim (bool_cases (p e)) [
+  by_found p (e ∷ es) more ws c rows is = elim (cases_Bool (p e)) [
     | inl yes_ ↦ let it : made e.arguments e.command more ws ≡ Ok c = rw yes_ at is in by_row e.arguments e.command more ws c rows.0 it
     | inr not_ ↦ by_found p es more ws c rows.1 (rw not_ at is)
   ]
@@ -313,9 +312,9 @@ module _ (f n : ℕ) where
   -- ---- items
 
   formed_good : (more : Further) (bs : List ℕ) (ws : List (List ℕ)) (c : Command) → formed f more bs ws ≡ Ok c → FitsWith f n more c
-  formed_good more bs ws c is = elim (bool_cases (bytes_eq bs (codes "recolour"))) [
+  formed_good more bs ws c is = elim (cases_Bool (bytes_eq bs (codes "recolour"))) [
     | inl same ↦ recolour_made more ws c (rw same at is)
-    | inr other ↦ elim (bool_cases (bytes_eq bs (codes "points"))) [
+    | inr other ↦ elim (cases_Bool (bytes_eq bs (codes "points"))) [
       | inl same ↦ by_row (A_name ∷ cond (length ws == 1) [] (A_number 1 16 ∷ [])) points_command more ws c (points_fits (length ws == 1)) (rw (other, same) at is)
       | inr not_ ↦ by_found (λ e. bytes_eq e.word bs) (table f) more ws c all_rows (rw (other, not_) at is)
     ]
@@ -326,7 +325,7 @@ module _ (f n : ℕ) where
   words_good more (bs ∷ ws) c is = formed_good more bs ws c (sym (formed_is f more bs ws) ∙ is)
 
   line_good : (line : List ℕ) (more : Further) (c : Command) → form_of_line f line more ≡ Ok c → FitsWith f n more c
-  line_good line more c is = elim (bool_cases (list_all is_plain line)) [
+  line_good line more c is = elim (cases_Bool (list_all is_plain line)) [
     | inl plain ↦ words_good more (words_of line) c (rw plain at is)
     | inr not_ ↦ let bad : Err codes_of.Bytes ≡ Ok c = rw not_ at is in absurd (cc)
   ]

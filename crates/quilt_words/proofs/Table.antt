@@ -3,17 +3,16 @@ use Rattle.std.proofs.Common.{◌≡◌, inl, inr, ℕ, ◌≤◌, Bool, true, f
 use Rattle.std.proofs.Common.{Option, Some, None, Err, refl, sym, ◌∙◌, ap, subst, codes, filter, find, length, get_or, arith, IfSome}
 use Rattle.std.specs.List.{list_any, list_all}
 use Rattle.std.specs.Str.{bytes_eq}
-use Rattle.std.proofs.lemmas.Bool.{eq-eqb}
+use Rattle.std.proofs.lemmas.Bool.{eq-eqb, cases_Bool}
 use Rattle.std.proofs.lemmas.Slice.Eq.{bytes_eq-Decides}
 use Rattle.quilt_words.specs.declared.word.Word.{Word}
 use Rattle.quilt_types.specs.declared.code.Code.TheVariants as codes_of
 use Rattle.quilt_words.specs.Words.{first_is, spelling, all_words}
 use Rattle.quilt_words.specs.Forms.{Further, Entry, table, form_of_words}
-use Rattle.quilt_words.proofs.Cases.{bool_cases}
 
 pub find_holds : {X : Type 0} (p : X → Bool) (xs : List X) (x : X) → find p xs ≡ Some x → p x ≡ true
 find_holds p [] x is = cc
-find_holds p (y ∷ ys) x is = elim (bool_cases (p y)) [
+find_holds p (y ∷ ys) x is = elim (cases_Bool (p y)) [
   | inl holds ↦ let e : Some y ≡ Some x = rw holds at is in let same : y ≡ x = cc in subst (λ z. p z ≡ true) same holds
   | inr not_ ↦ find_holds p ys x (rw not_ at is)
 ]
@@ -22,16 +21,16 @@ find_holds p (y ∷ ys) x is = elim (bool_cases (p y)) [
 other_bytes : (bs w : List ℕ) (xs : List Word) → find (λ v. bytes_eq (spelling v) bs) xs ≡ None
     → list_any (λ v. bytes_eq (spelling v) w) xs ≡ true → bytes_eq w bs ≡ false
 other_bytes bs w [] none some = cc
-other_bytes bs w (x ∷ xs) none some = elim (bool_cases (bytes_eq (spelling x) bs)) [
+other_bytes bs w (x ∷ xs) none some = elim (cases_Bool (bytes_eq (spelling x) bs)) [
   | inl there ↦ let e : Some x ≡ None = rw there at none in absurd (cc)
-  | inr not_ ↦ elim (bool_cases (bytes_eq (spelling x) w)) [
+  | inr not_ ↦ elim (cases_Bool (bytes_eq (spelling x) w)) [
     | inl same ↦ subst (λ (v : List ℕ). bytes_eq v bs ≡ false) ((bytes_eq-Decides (spelling x) w).0 same) not_
     | inr other ↦ other_bytes bs w xs (rw not_ at none) (rw other at some)
   ]
 ]
 
 not_equal : (bs w : List ℕ) → bytes_eq w bs ≡ false → bytes_eq bs w ≡ false
-not_equal bs w other = elim (bool_cases (bytes_eq bs w)) [
+not_equal bs w other = elim (cases_Bool (bytes_eq bs w)) [
   | inl same ↦ let e : bs ≡ w = (bytes_eq-Decides bs w).0 same in let bad : true ≡ false = sym ((bytes_eq-Decides w bs).1 (sym e)) ∙ other in absurd (cc)
   | inr not_ ↦ not_
 ]
@@ -40,7 +39,7 @@ not_equal bs w other = elim (bool_cases (bytes_eq bs w)) [
 no_row : (bs : List ℕ) (xs : List Word) (es : List Entry) → find (λ v. bytes_eq (spelling v) bs) xs ≡ None
     → list_all (λ e. list_any (λ v. bytes_eq (spelling v) e.word) xs) es ≡ true → find (λ e. bytes_eq e.word bs) es ≡ None
 no_row bs xs [] none part = refl
-no_row bs xs (e ∷ es) none part = elim (bool_cases (list_any (λ v. bytes_eq (spelling v) e.word) xs)) [
+no_row bs xs (e ∷ es) none part = elim (cases_Bool (list_any (λ v. bytes_eq (spelling v) e.word) xs)) [
   | inl there ↦ rw (other_bytes bs e.word xs none there) (no_row bs xs es none (rw there at part))
   | inr missing ↦ let bad : false ≡ true = rw missing at part in absurd (cc)
 ]
@@ -65,12 +64,12 @@ spelled_some bs (Some w) is = spelled_is bs w (sym is)
 pub found_among : (c : ℕ) (cs : List ℕ) (xs : List Word) →
     find (λ w. bytes_eq (spelling w) (c ∷ cs)) (filter (λ w. first_is c (spelling w)) xs) ≡ find (λ w. bytes_eq (spelling w) (c ∷ cs)) xs
 found_among c cs [] = refl
-found_among c cs (x ∷ xs) = elim (bool_cases (bytes_eq (spelling x) (c ∷ cs))) [
+found_among c cs (x ∷ xs) = elim (cases_Bool (bytes_eq (spelling x) (c ∷ cs))) [
   | inl same ↦
       let is : spelling x ≡ c ∷ cs = (bytes_eq-Decides (spelling x) (c ∷ cs)).0 same in
       let first : first_is c (spelling x) ≡ true = ap (first_is c) is ∙ eq-eqb c c refl in
       rw first (rw same refl)
-  | inr other ↦ elim (bool_cases (first_is c (spelling x))) [
+  | inr other ↦ elim (cases_Bool (first_is c (spelling x))) [
     | inl first ↦ rw (first, other) (found_among c cs xs)
     | inr not_ ↦ rw (not_, other) (found_among c cs xs)
   ]

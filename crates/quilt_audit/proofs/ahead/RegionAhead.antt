@@ -18,10 +18,9 @@ use Rattle.quilt_blocks.specs.Listing.{Follows, EndsInQuarters}
 use Rattle.quilt_blocks.proofs.Chains.{Follows-back, Follows-rises, Follows-member}
 use Rattle.quilt_blocks.proofs.Cuts.{leaves_rise, leaves_members, leaf_is, leaf_total}
 use Rattle.quilt_blocks.specs.declared.leaf.Leaf.{Leaf}
-use Rattle.quilt_spell.specs.OfLayer.{SpellsRegion}
+use Rattle.quilt_spell.specs.OfLayer.{SpellsRegion, leaf_record}
 use Rattle.quilt_spell.specs.Written.{by_key}
 use Rattle.quilt_spell.proofs.Written.{by_key_total}
-use Rattle.quilt_region.specs.Regions.{leaf_record}
 use Rattle.quilt_edits.proofs.Keys.{less_code}
 use Rattle.quilt_region.proofs.Records.{leaf_alone}
 use Rattle.quilt_line_audit.specs.Layers.{SpellsOne}

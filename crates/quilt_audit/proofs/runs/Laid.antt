@@ -22,7 +22,7 @@ use Rattle.quilt_blocks.proofs.Colours.{uniform-from_HasColour, colour_is}
 use Rattle.quilt_blocks.proofs.Cuts.{leaves_run, leaves_members, leaf_is}
 use Rattle.quilt_blocks.proofs.Merging.{IsGrowing-push, IsUnmerged-end}
 use Rattle.quilt_spell.proofs.Spelling.{all_from}
-use Rattle.quilt_region.specs.Regions.{leaf_record}
+use Rattle.quilt_spell.specs.OfLayer.{leaf_record}
 use Rattle.quilt_audit.specs.Regions.{HasBlocks, AreLaid, nothing, no_leaves, EndsIn, AreSiblings}
 use Rattle.quilt_audit.proofs.Lists.{last_cases, in_front, at_last, same_tail}
 

@@ -27,7 +27,7 @@ use Rattle.quilt_blocks.proofs.Listed.{IsListed-made}
 use Rattle.quilt_blocks.proofs.Painting.{code_in}
 use Rattle.quilt_spell.specs.Catalogued.{kind_of}
 use Rattle.quilt_spell.specs.Written.{by_key}
-use Rattle.quilt_region.specs.Regions.{leaf_record}
+use Rattle.quilt_spell.specs.OfLayer.{leaf_record}
 use Rattle.quilt_region.proofs.Records.{leaf_is_record}
 use Rattle.quilt_line_audit.specs.Layers.{SpellsOne, IsLayerOf, Refuses, IsShort}
 use Rattle.quilt_audit.specs.Regions.{AreLaid, IsGoing, AreSiblings, no_leaves, EndsIn}

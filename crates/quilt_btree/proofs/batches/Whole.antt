@@ -1,6 +1,6 @@
 -- A whole tree behind edits.
 use Rattle.std.proofs.Common.{◌≡◌, ◌≢◌, ℕ, zero, suc, ◌+◌, ◌-◌, ◌<◌, ◌≤◌, Bool, true, false, not, ◌&&◌, ◌||◌, filter, List, [], ◌∷◌, ◌++◌, length, take, drop}
-use Rattle.std.proofs.lemmas.Bool.{and_from, and_parts, or_parts}
+use Rattle.std.proofs.lemmas.Bool.{and_from, and_parts, or_parts, not-true, and_right}
 use Rattle.std.proofs.Common.{Option, None, Result, Ok, Err, IfOk, IfErr, refl, sym, ◌∙◌, ap, subst, arith, take-append-drop, length-drop}
 use Rattle.std.proofs.Common.{◌*◌}
 use Rattle.std.proofs.Common.{Ordering, Less, Equal, Greater}
@@ -128,13 +128,9 @@ gone k (r ∷ rs) = step (has_key k r) refl (gone k rs)
         ap (λ l. list_any (has_key k) l) (filter_cond (λ s. not (has_key k s)) r (filter (λ s. not (has_key k s)) rs)
         (filter (λ s. not (has_key k s)) rs) true (ap not e)) ∙ ap (λ b. b || list_any (has_key k) (filter (λ s. not (has_key k s)) rs)) e ∙ h
 
-not_true : (b : Bool) → not b ≡ true → b ≡ false
-not_true true h = cc
-not_true false h = refl
-
 pub asc_edited : (x : Edit) (rs : List Record) → is_ascending (keys_of rs) ≡ true → is_due x rs ≡ true → is_ascending (keys_of (edited x rs)) ≡ true
 asc_edited (edit.Remove k) rs a d = asc_without k rs a
-asc_edited (edit.Put r) rs a d = asc_put r rs a (not_true (list_any (has_key r.key) rs) d)
+asc_edited (edit.Put r) rs a d = asc_put r rs a (not-true (list_any (has_key r.key) rs) d)
 asc_edited (edit.Replace r) rs a d = asc_put r (without r.key rs) (asc_without r.key rs a) (gone r.key rs)
 
 pub length_edited : (x : Edit) (rs : List Record) → is_ascending (keys_of rs) ≡ true → is_due x rs ≡ true
@@ -277,12 +273,8 @@ rest_fails e told mid free was size at i t u run same made f rs w page is =
     let h = f (edit_all xs rs) (subst (λ m. IsWhole mid was m u (edit_all xs rs)) (sym same) (made.whole rs w).1) page is in (
       h.0,
       ap (λ l. are_due l rs) (sym (take-append-drop i run)) ∙ are_due-append xs (drop i run) rs
-          ∙ late (are_due xs rs) (are_due (drop i run) (edit_all xs rs)) (ap (λ l. are_due l (edit_all xs rs)) (sym (take_rest run i)) ∙ h.1),
+          ∙ and_right (are_due xs rs) (are_due (drop i run) (edit_all xs rs)) (ap (λ l. are_due l (edit_all xs rs)) (sym (take_rest run i)) ∙ h.1),
     )
-  where
-    late : (a b : Bool) → b ≡ false → (a && b) ≡ false
-    late true b h = h
-    late false b h = refl
 
 pub rest_cost : (run : List Edit) (i n : ℕ) → cost (take (i + n) run) ≡ cost (take i run) + cost (take n (rest run i))
 rest_cost run i n =

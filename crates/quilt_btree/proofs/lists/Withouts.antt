@@ -1,6 +1,6 @@
 -- How many records are left without the one with a key.
 use Rattle.std.proofs.Common.{◌≡◌, suc, Bool, true, false, ◌||◌, not, List, [], ◌∷◌, length, filter, refl, ◌∙◌, ap, Ordering, Less, Equal, Greater}
-use Rattle.std.proofs.lemmas.Bool.{and_from}
+use Rattle.std.proofs.lemmas.Bool.{and_from, or_parts}
 use Rattle.std.specs.List.{list_any, list_all}
 use Rattle.std.specs.Ordering.{is_lt, is_le, is_eq, ordering_reverse}
 use Rattle.quilt_record.specs.declared.key.Key.{Key}
@@ -19,14 +19,10 @@ pub without_missing : (k : Key) (rs : List Record) → list_any (has_key k) rs �
 unfolding without
 without_missing k rs h = filter_all (λ r. not (has_key k r)) rs (none_has rs h)
   where
-    or_none : (a b : Bool) → (a || b) ≡ false → (a ≡ false) × (b ≡ false)
-    or_none true b h = cc
-    or_none false b h = (refl, h)
-
     none_has : (rs : List Record) → list_any (has_key k) rs ≡ false → list_all (λ r. not (has_key k r)) rs ≡ true
     none_has [] h = refl
     none_has (r ∷ rs) h =
-        let t = or_none (has_key k r) (list_any (has_key k) rs) h in
+        let t = or_parts (has_key k r) (list_any (has_key k) rs) h in
         and_from (not (has_key k r)) (list_all (λ s. not (has_key k s)) rs) (ap not t.0) (none_has rs t.1)
 
 turned : (o : Ordering) → is_eq o ≡ true → is_le (ordering_reverse o) ≡ true

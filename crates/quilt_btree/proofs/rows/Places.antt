@@ -1,6 +1,6 @@
 -- A child's place among the others of its page.
 use Rattle.std.proofs.Common.{◌≡◌, ℕ, suc, ◌+◌, Bool, true, false, not, ◌&&◌, List, [], ◌∷◌, ◌++◌, length, map, Some, refl, sym, ◌∙◌, ap, subst, arith}
-use Rattle.std.proofs.lemmas.Bool.{and_parts}
+use Rattle.std.proofs.lemmas.Bool.{and_parts, not-true}
 use Rattle.std.specs.List.{list_all}
 use Rattle.std.specs.Ordering.{is_lt, is_le}
 use Rattle.std.proofs.lemmas.List.{append-nil}
@@ -166,11 +166,8 @@ module _ (S : Reading) (one : Rises S) (past before : Key → Bool) (side : IsSi
       (within_rest b k ks a w) row in
       all_map (λ (r : Record). r.key) (λ m. not (past m)) rs
       (all_follow (λ m. is_le (key_cmp k m) && is_below b.high m) (λ m. not (past m))
-      (λ m g. ap not (side.up k m (turned (past k) t.0) (and_parts (is_le (key_cmp k m)) (is_below b.high m) g).0)) (map (λ r. r.key) rs) rises.within)
+      (λ m g. ap not (side.up k m (not-true (past k) t.0) (and_parts (is_le (key_cmp k m)) (is_below b.high m) g).0)) (map (λ r. r.key) rs) rises.within)
     where
       more : (m n : ℕ) → m ≡ suc n → m ≡ n + 1
       more m n h = omega arith
 
-      turned : (x : Bool) → not x ≡ true → x ≡ false
-      turned true h = cc
-      turned false h = refl

@@ -4,6 +4,7 @@ use Rattle.std.proofs.Common.{take, Option, Some, None, refl, sym, ◌∙◌, ap
 use Rattle.std.specs.List.{list_all, list_any, filter}
 use Rattle.std.proofs.lemmas.List.{take-take}
 use Rattle.std.proofs.lemmas.Bool.Decides.{nat_tests}
+use Rattle.std.proofs.lemmas.Bool.{and_from}
 use Rattle.quilt_store.specs.Store.{Touches, first_eight}
 use Rattle.quilt_world.specs.Tale.{Goes}
 use Rattle.quilt_btree.specs.Floors.{TouchesEach, AreAmongFirst}
@@ -109,9 +110,6 @@ stays_first p q old new t hp hq =
 abbrev pub all_first : List ℕ → List ℕ → Bool
 all_first ps held = list_all (λ p. list_any (λ q. q == p) (first_eight held)) ps
 
-both : (a b : Bool) → a ≡ true → b ≡ true → (a && b) ≡ true
-both a b h k = grind arith
-
 left_of : (a b : Bool) → (a && b) ≡ true → a ≡ true
 left_of a b h = grind arith
 
@@ -127,7 +125,7 @@ far_behind (p ∷ ps) q n old new le t h = far_behind ps q (suc n) t.0 new (omeg
 all_touched : (ps old new : List ℕ) → length ps ≤ 8 → TouchesEach ps old new → all_first ps new ≡ true
 all_touched [] old new le t = refl
 all_touched (p ∷ ps) old new le t =
-    both (is_in p (first_eight new)) (all_first ps new) (far_behind ps p 1 t.0 new (omega arith) t.2 (front_first p old t.0 t.1))
+    and_from (is_in p (first_eight new)) (all_first ps new) (far_behind ps p 1 t.0 new (omega arith) t.2 (front_first p old t.0 t.1))
     (all_touched ps t.0 new (omega arith) t.2)
 
 all_stay : (p : ℕ) (qs old new : List ℕ) → Touches p old new → is_in p (first_eight old) ≡ true → all_first qs old ≡ true → all_first qs new ≡ true
@@ -135,7 +133,7 @@ all_stay p [] old new t hp h = refl
 all_stay p (q ∷ qs) old new t hp h =
     let a = left_of (is_in q (first_eight old)) (all_first qs old) h in
     let b = right_of (is_in q (first_eight old)) (all_first qs old) h in
-    both (is_in q (first_eight new)) (all_first qs new) (stays_first p q old new t hp a) (all_stay p qs old new t hp b)
+    and_from (is_in q (first_eight new)) (all_first qs new) (stays_first p q old new t hp a) (all_stay p qs old new t hp b)
 
 -- where pages of the first are read, the others stay among the first
 rest_first : (ps qs old new : List ℕ) → TouchesEach ps old new → all_first (ps ++ qs) old ≡ true → all_first qs new ≡ true
@@ -150,7 +148,7 @@ part_first [] qs old h = refl
 part_first (p ∷ ps) qs old h =
     let a = left_of (is_in p (first_eight old)) (all_first (ps ++ qs) old) h in
     let b = right_of (is_in p (first_eight old)) (all_first (ps ++ qs) old) h in
-    both (is_in p (first_eight old)) (all_first ps old) a (part_first ps qs old b)
+    and_from (is_in p (first_eight old)) (all_first ps old) a (part_first ps qs old b)
 
 turns_append : (ps qs a b c : List ℕ) → TouchesEach ps a b → TouchesEach qs b c → TouchesEach (ps ++ qs) a c
 turns_append [] qs a b c s t = subst (λ l. TouchesEach qs l c) s t

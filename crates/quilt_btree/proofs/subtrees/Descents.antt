@@ -1,6 +1,6 @@
 -- The child to which a key leads, and what stands before and behind it.
 use Rattle.std.proofs.Common.{◌≡◌, ℕ, suc, ◌+◌, ◌-◌, ◌<◌, ◌≤◌, Bool, true, false, ◌&&◌, not, List, [], ◌∷◌, ◌++◌, length, map, take, drop, Option, Some, None}
-use Rattle.std.proofs.lemmas.Bool.{and_parts}
+use Rattle.std.proofs.lemmas.Bool.{and_parts, not-true}
 use Rattle.std.proofs.Common.{slice_index, refl, sym, ◌∙◌, ap, subst, arith, take-append-drop, length-take-le, length-drop, drop-cons}
 use Rattle.std.specs.List.{list_all}
 use Rattle.std.specs.Ordering.{is_lt, is_le}
@@ -106,16 +106,12 @@ module _ (inner : Inner) (b : Bounds) (i : ℕ) (rs : List Record) (used : List 
         lower = front_before S rises (λ l. is_le (key_cmp l k)) (λ m. is_lt (key_cmp m k)) (key_side k)
             (take i inner.children) ka b at.first at.first_used p.before at.row_before;
         higher = all_follow (λ (r : Record). not (is_le (key_cmp r.key k))) (λ r. is_lt (key_cmp k r.key))
-            (λ r h. not_le r.key k (turned (is_le (key_cmp r.key k)) h)) at.last
+            (λ r h. not_le r.key k (not-true (is_le (key_cmp r.key k)) h)) at.last
             (tail_behind S rises (λ l. is_le (key_cmp l k)) (λ m. is_lt (key_cmp m k)) (key_side k) (drop (suc i) inner.children) kb
             (from_keys ka b) at.last at.last_used
             (behind_many inner.children inner.keys i page.keys) behind.ascend behind.within
             (all_follow (λ l. is_lt (key_cmp k l)) (λ l. not (is_le (key_cmp l k))) (λ l g. ap not (gt_not_le k l g)) kb p.behind) at.row_behind);
       }
-    where
-      turned : (x : Bool) → not x ≡ true → x ≡ false
-      turned true h = cc
-      turned false h = refl
 
 -- the records behind the first child are from its upper bound on
 pub tail_past : (S : Reading) → Rises S → (cs : List ℕ) (ks : List Key) (b : Bounds) (rs : List Record) (used : List ℕ)

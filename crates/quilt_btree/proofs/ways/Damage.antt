@@ -4,6 +4,7 @@ use Rattle.std.proofs.Common.{[], length, Option, Some, None, Result, Ok, Err, I
 use Rattle.std.proofs.Common.{slice_index_or, slice_set, refl, sym, ◌∙◌, ap, subst, arith, get_or-set_other}
 use Rattle.std.specs.Prelude.{if◌then◌else◌, IsErrOf, min}
 use Rattle.std.specs.List.{last_or}
+use Rattle.std.proofs.lemmas.Option.{none-some}
 use Rattle.quilt_record.specs.declared.record.Record.{Record}
 use Rattle.quilt_node.specs.Pages.{Inner, leaf_of, inner_of}
 use Rattle.quilt_types.specs.declared.stop.Stop.{Stop}
@@ -71,10 +72,7 @@ module _ (told : Option (List (List ℕ))) (height page : ℕ) where
   fault_named at q P (inr e) f ne = subst (λ q. NamesBad told height page (Damaged q)) (sym e.0) (f e.1)
 
 not_none : {A : Type 0} (o : Option A) → o ≡ None → (x : A) → o ≡ Some x → ⊥
-not_none o none x is = differ x (sym none ∙ is)
-  where
-    differ : {A : Type 0} (x : A) → None ≡ Some x → ⊥
-    differ x h = cc
+not_none o none x is = none-some x (sym none ∙ is)
 
 -- what names no page over 0 names no good one
 pub zero_names : (told : Option (List (List ℕ))) (height page : ℕ) (e : Stop) → NamesPage 1 e → e ≢ Damaged 0 → NamesBad told height page e

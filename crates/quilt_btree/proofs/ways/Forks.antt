@@ -1,6 +1,6 @@
 -- What the bytes of a page say of the subtree there: the child to which a key leads, and the last one.
 use Rattle.std.proofs.Common.{◌≡◌, ◌≢◌, ◌⊎◌, ℕ, zero, suc, ◌-◌, ◌<◌, ◌≤◌, true, ◌&&◌, nat_le, nat_lt, List, [], ◌∷◌, ◌++◌, length, Option, Some, None, Result}
-use Rattle.std.proofs.lemmas.Bool.{and_parts}
+use Rattle.std.proofs.lemmas.Bool.{and_parts, leb-true, ltb-true}
 use Rattle.std.proofs.Common.{Ok, Err, IfOk, IfErr, IfSome, OnOk, slice_index, slice_index_or, refl, sym, ◌∙◌, ap, subst, append_assoc, arith}
 use Rattle.std.specs.List.{last_or}
 use Rattle.std.specs.Ordering.{is_lt}
@@ -237,13 +237,8 @@ child_page size [] i h lt = absurd (omega arith)
 child_page size (c ∷ cs) zero h lt =
     let p = and_parts (nat_le 1 c && nat_lt c size) (are_pages size cs) h in
     let q = and_parts (nat_le 1 c) (nat_lt c size) p.0 in
-    (from_le 1 c q.0, from_lt c size q.1)
-  where
-    from_le : (m n : ℕ) → nat_le m n ≡ true → m ≤ n
-    from_le m n h = grind (arith, nat_tests)
+    (leb-true 1 c q.0, ltb-true c size q.1)
 
-    from_lt : (m n : ℕ) → nat_lt m n ≡ true → m < n
-    from_lt m n h = grind (arith, nat_tests)
 child_page size (c ∷ cs) (suc i) h lt =
     let p = and_parts (nat_le 1 c && nat_lt c size) (are_pages size cs) h in
     child_page size cs i p.1 (nearer i (length cs) lt)

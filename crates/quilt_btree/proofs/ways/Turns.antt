@@ -3,6 +3,7 @@ use Rattle.std.proofs.Common.{◌≡◌, ◌≢◌, ℕ, ◌-◌, ◌≤◌, Boo
 use Rattle.std.proofs.Common.{slice_index, refl, ◌∙◌, ap, arith}
 use Rattle.std.proofs.lemmas.List.{append-nil}
 use Rattle.std.proofs.lemmas.Bool.Decides.{nat_tests}
+use Rattle.std.proofs.lemmas.Bool.{or_right}
 use Rattle.quilt_record.specs.declared.key.Key.{Key}
 use Rattle.quilt_record.specs.declared.record.Record.{Record}
 use Rattle.quilt_node.specs.Pages.{Inner}
@@ -123,10 +124,7 @@ module _ (old new : Option (List (List ℕ))) (page height child i : ℕ) (k : K
 
   pub finds_here : Finds new k (height - 1) child true → Finds old k height page true
   finds_here f = λ pages is. finds_parts pages is
-      ∙ late (nat_lt 0 i) (finds_floor pages k (height - 1) child) (f pages (a.told ∙ is))
-    where
-      late : (b c : Bool) → c ≡ true → (b || c) ≡ true
-      late b c h = grind arith
+      ∙ or_right (nat_lt 0 i) (finds_floor pages k (height - 1) child) (f pages (a.told ∙ is))
 
   pub finds_none : i ≡ 0 → Finds new k (height - 1) child false → Finds old k height page false
   finds_none e f = λ pages is.

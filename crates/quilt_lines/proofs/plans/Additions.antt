@@ -7,7 +7,7 @@ use Rattle.std.specs.FinMap.{nat_cmp-IsAntisymmetric}
 use Rattle.std.specs.Ordering.{nat_cmp}
 use Rattle.std.specs.Cmp.{nat_cmp_total}
 use Rattle.std.specs.List.Sorted.{IsPermutation}
-use Rattle.std.proofs.lemmas.Bool.{and_from, and_parts, and_right}
+use Rattle.std.proofs.lemmas.Bool.{and_from, and_parts, and_right, cases_eq}
 use Rattle.std.proofs.lemmas.List.{append-nil, map-append, take_all}
 use Rattle.std.proofs.lemmas.Grind.{flat_map-append}
 use Rattle.std.proofs.lemmas.List.Sums.{length-filter}
@@ -33,7 +33,7 @@ use Rattle.quilt_edits.specs.Edits.{CanBeEdits}
 use Rattle.quilt_edits.proofs.Lists.{take_next}
 use Rattle.quilt_line_laws.specs.Lines.{none_on, added_on, removed_on, IsAlone, IsMetList, facts_added, facts_removed, with_seg}
 use Rattle.quilt_line_laws.specs.Merging.{met_in}
-use Rattle.quilt_line_laws.proofs.Adding.{same_seg_value, no_seg, same_id, add_law}
+use Rattle.quilt_line_laws.proofs.Adding.{same_seg_value, no_seg, add_law}
 use Rattle.quilt_line_laws.proofs.FactsOnce.{add_once_law}
 use Rattle.quilt_line_laws.proofs.Lawful.{added_law}
 use Rattle.quilt_line_laws.proofs.Visiting.{visit_law}
@@ -93,7 +93,7 @@ module _ (segs : SegMap) (id : ℕ) (s : Seg) (new : finmap.get segs id ≡ None
       let is = same_seg_value s e.1 (sym (get_inserted nat_cmp nat_cmp_total nat_cmp-IsAntisymmetric segs id s)
       ∙ ap (finmap.get (finmap.insert segs id s)) (sym same) ∙ g) in
       inr (λ i. (sym same i, is i)))
-      (λ d. inl (entry segs e.0 e.1 (sym (get_others nat_cmp nat_cmp_total nat_cmp-IsAntisymmetric segs id s e.0 d) ∙ g))) (same_id e.0 id)
+      (λ d. inl (entry segs e.0 e.1 (sym (get_others nat_cmp nat_cmp_total nat_cmp-IsAntisymmetric segs id s e.0 d) ∙ g))) (cases_eq e.0 id)
 
   -- those that meet a block before, and the new one
   abbrev listed : Block → List (ℕ × Seg)

@@ -2,7 +2,7 @@
 use Rattle.std.proofs.Common.{◌≡◌, ◌⊎◌, inl, ℕ, ◌+◌, ◌*◌, ◌≤◌, Bool, true, false, ◌||◌, List, [], ◌∷◌, Option, Some, None, is_some, Result, Ok, Err, IfOk, IfErr, OnOk}
 use Rattle.std.proofs.Common.{OnErr, refl, sym, ◌∙◌, ap, subst}
 use Rattle.std.specs.List.{list_all}
-use Rattle.std.proofs.lemmas.Bool.{and_parts}
+use Rattle.std.proofs.lemmas.Bool.{and_parts, both_ways}
 use Rattle.quilt_types.specs.declared.plane.Pixel.{Pixel}
 use Rattle.quilt_types.specs.declared.stop.Stop.{Stop}
 use Rattle.quilt_types.specs.declared.stop.Stop.TheVariants as stops
@@ -74,20 +74,17 @@ device_of : {T : Type 0} (before now : ℕ) (r : Result T Stop) → HasStopCause
 device_of before now (Ok x) h = tt
 device_of before now (Err e) h = λ is. h.device (ap Err is)
 
-pub never_both : (b : Bool) → b ≡ false → b ≡ true → ⊥
-never_both b no_ is = let e : false ≡ true = sym no_ ∙ is in cc
-
 -- a command that gives an edition does not go back, and asks nothing
 gives_else : (c : Command) → gives_edition c ≡ true → (goes_back c ≡ false) × (asks c ≡ false)
 gives_else commands.Publish gives = (refl, refl)
 gives_else commands.Upgrade gives = (refl, refl)
-gives_else c gives = absurd (never_both (gives_edition c) refl gives)
+gives_else c gives = absurd (both_ways (gives_edition c) refl gives)
 
 -- a command that only asks gives no edition and does not go back
 asks_only : (c : Command) → asks c ≡ true → (gives_edition c ≡ false) × (goes_back c ≡ false)
-asks_only commands.Publish is = absurd (never_both false refl is)
-asks_only commands.Upgrade is = absurd (never_both false refl is)
-asks_only commands.Revert is = absurd (never_both false refl is)
+asks_only commands.Publish is = absurd (both_ways false refl is)
+asks_only commands.Upgrade is = absurd (both_ways false refl is)
+asks_only commands.Revert is = absurd (both_ways false refl is)
 asks_only c is = (refl, refl)
 
 -- what a command has that is spelled is of the format and the level of the work, and so of the last edition
@@ -182,7 +179,7 @@ module _ {W : Type 0} {D : disk.Ghosts W} where
     quiet_going : (c : Command) (r : Result Reply Stop) → gives_edition c ≡ false
         → IfErr r (λ stop. stop ≡ stops.Memory → gives_edition c ≡ true → new.book.world ≡ old.book.world)
     quiet_going c (Ok reply) quiet = tt
-    quiet_going c (Err e) quiet = λ is some. absurd (never_both (gives_edition c) quiet some)
+    quiet_going c (Err e) quiet = λ is some. absurd (both_ways (gives_edition c) quiet some)
 
     kept_head : (r : Result Reply Stop) → IfOk r (Refuses old new)
         → IfOk r (λ reply. IsRefusal reply → (head_of new ≡ head_of old) × (format_of new ≡ format_of old) × (changes_of new ≡ changes_of old))
@@ -316,10 +313,10 @@ module _ {W : Type 0} {D : disk.Ghosts W} (old new : Session W D) (command other
     reads = reads;
     ready = ready;
     kept = kept_head old new r refuses;
-    stays = λ is. absurd (never_both (asks command) (gives_else command gives).1 is);
+    stays = λ is. absurd (both_ways (asks command) (gives_else command gives).1 is);
     whole = whole_giving old new command r whole;
     quiet = quiet_giving old new command r whole;
-    back = λ is. absurd (never_both (goes_back command) (gives_else command gives).0 (ap goes_back is));
+    back = λ is. absurd (both_ways (goes_back command) (gives_else command gives).0 (ap goes_back is));
   }
 
 -- a command that only asks: all of the session stays but the last pixel, and the pages that its answer reads are few
@@ -332,7 +329,7 @@ module _ {W : Type 0} {D : disk.Ghosts W} (old new : Session W D) (command other
   applied_asking asking ready law answers sound cause keeps reads =
       let only = asks_only command (ap asks is ∙ asking) in
       applied_going old new command other (sym is) r answers sound cause reads (refused_still old new r keeps) ready
-      (goes_of old.book new.book keeps.book.later) only.0 (λ back. absurd (never_both (goes_back command) only.1 back)) (λ is. keeps_state old new law keeps)
+      (goes_of old.book new.book keeps.book.later) only.0 (λ back. absurd (both_ways (goes_back command) only.1 back)) (λ is. keeps_state old new law keeps)
 
 -- behind the pages of another last pixel, which are held, it is what is promised above this crate
 module _ {W : Type 0} {D : disk.Ghosts W} (old new : Session W D) (w : Option (List ℕ × Pixel)) where

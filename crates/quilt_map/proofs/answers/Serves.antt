@@ -1,5 +1,6 @@
 -- What the call for a command promises is all that is promised of the answer: one law for a question, one for an edit and two for editions.
 use Rattle.std.proofs.Common.{◌≡◌, ℕ, ◌+◌, ◌*◌, false, true, List, Option, None, Result, Ok, Err, IfOk, IfErr, OnOk, OnErr, refl, sym, ◌∙◌, ap, subst, arith}
+use Rattle.std.proofs.lemmas.Bool.{both_ways}
 use Rattle.quilt_types.specs.declared.plane.Pixel.{Pixel}
 use Rattle.quilt_types.specs.declared.stop.Stop.{Stop}
 use Rattle.quilt_types.specs.declared.stop.Stop.TheVariants as stops
@@ -19,7 +20,7 @@ use Rattle.quilt_map.specs.Sessions.{IsAtState}
 use Rattle.quilt_map.specs.Steps.{Leaves, asks, gives_edition, goes_back}
 use Rattle.quilt_map.specs.declared.session.Session.{Session}
 use Rattle.quilt_map.proofs.answers.Answered.{keeps_here}
-use Rattle.quilt_map.proofs.answers.Commanded.{WritesPages, applied_asking, applied_giving, applied_going, applied_warm, never_both, sound_at}
+use Rattle.quilt_map.proofs.answers.Commanded.{WritesPages, applied_asking, applied_giving, applied_going, applied_warm, sound_at}
 use Rattle.quilt_map.proofs.questions.Warming.{cold}
 use Rattle.quilt_map.proofs.states.Moving.{IsLawful}
 
@@ -63,8 +64,8 @@ module _ {W : Type 0} {D : disk.Ghosts W} (old new : Session W D) (command other
   pub edited_within : IfOk r (Refuses old new) → books.GoesOn old.book new.book → Reads → IsEdit other → Forgets → IsServed command old new r
   edited_within refuses goes reads edit forgets =
       forgetting forgets (applied_going old new command command refl r answers sound cause reads refuses ready goes
-      (ap gives_edition is ∙ edit.0) (λ back. absurd (never_both (goes_back command) (ap goes_back is ∙ edit.1) back))
-      (λ asking. absurd (never_both (asks command) (ap asks is ∙ edit.2) asking)))
+      (ap gives_edition is ∙ edit.0) (λ back. absurd (both_ways (goes_back command) (ap goes_back is ∙ edit.1) back))
+      (λ asking. absurd (both_ways (asks command) (ap asks is ∙ edit.2) asking)))
 
   pub edited : IfOk r (Refuses old new) → books.GoesOn old.book new.book → ((s : State) → IsPromised s other r → ⊥) → IsEdit other → Forgets
       → IsServed command old new r
@@ -75,7 +76,7 @@ module _ {W : Type 0} {D : disk.Ghosts W} (old new : Session W D) (command other
       → ((s : State) → IsPromised s other r → ⊥) → gives_edition other ≡ false → asks other ≡ false → Forgets → IsServed command old new r
   reverted refuses goes world whole never quiet silent forgets =
       forgetting forgets (applied_going old new command command refl r answers sound cause (unbounded never) refuses ready goes
-      (ap gives_edition is ∙ quiet) (λ back. (world, whole)) (λ asking. absurd (never_both (asks command) (ap asks is ∙ silent) asking)))
+      (ap gives_edition is ∙ quiet) (λ back. (world, whole)) (λ asking. absurd (both_ways (asks command) (ap asks is ∙ silent) asking)))
 
   -- another edition
   pub published : IfOk r (Refuses old new) → OnOk r (books.IsReady new.book) → IfErr r (λ stop. stop ≡ stops.Memory → new ≡ old)

@@ -2,6 +2,7 @@
 use Rattle.std.proofs.Common.{◌≡◌, ℕ, ◌<◌, Bool, true, false, not, List, [], ◌∷◌, All, Option, Some, refl, sym, ◌∙◌, ap, subst}
 use Rattle.std.specs.FinMap as finmap
 use Rattle.std.proofs.lemmas.List.Elements.{All-nil, All-cons, All-head, All-tail}
+use Rattle.std.proofs.lemmas.Option.{same_Some}
 use Rattle.quilt_types.specs.declared.code.Code.{Code}
 use Rattle.quilt_types.specs.declared.code.Code.TheVariants as no
 use Rattle.quilt_types.specs.declared.plane.Colour.{Colour}
@@ -42,18 +43,15 @@ deriving_of s command name into =
     makes s (unknown s name ∷ unless_region s name ∷ exists s into ∷ too_many s ∷ (not (is_inside s.last.level command), no.Outside) ∷ []) into
     (Region (derived command s.last.level (grid s name)))
 
-pair_of : {A : Type 0} (p q : A) → Some p ≡ Some q → p ≡ q
-pair_of p q e = cc
-
 derive_is : (s : State) (command : Command) (name into : List ℕ) → layers_derived command ≡ Some (name, into)
     → answer s command ≡ deriving_of s command name into
 unfolding answer
 derive_is s (commands.Recolour a c pairs) name into is =
-    ap (λ (p : List ℕ × List ℕ). deriving_of s (commands.Recolour a c pairs) p.0 p.1) (pair_of (a, c) (name, into) is)
-derive_is s (commands.Window a w c) name into is = ap (λ (p : List ℕ × List ℕ). deriving_of s (commands.Window a w c) p.0 p.1) (pair_of (a, c) (name, into) is)
+    ap (λ (p : List ℕ × List ℕ). deriving_of s (commands.Recolour a c pairs) p.0 p.1) (same_Some (a, c) (name, into) is)
+derive_is s (commands.Window a w c) name into is = ap (λ (p : List ℕ × List ℕ). deriving_of s (commands.Window a w c) p.0 p.1) (same_Some (a, c) (name, into) is)
 derive_is s (commands.Shift a dx dy c) name into is =
-    ap (λ (p : List ℕ × List ℕ). deriving_of s (commands.Shift a dx dy c) p.0 p.1) (pair_of (a, c) (name, into) is)
-derive_is s (commands.Buffer a r c) name into is = ap (λ (p : List ℕ × List ℕ). deriving_of s (commands.Buffer a r c) p.0 p.1) (pair_of (a, c) (name, into) is)
+    ap (λ (p : List ℕ × List ℕ). deriving_of s (commands.Shift a dx dy c) p.0 p.1) (same_Some (a, c) (name, into) is)
+derive_is s (commands.Buffer a r c) name into is = ap (λ (p : List ℕ × List ℕ). deriving_of s (commands.Buffer a r c) p.0 p.1) (same_Some (a, c) (name, into) is)
 derive_is s command name into is = cc
 
 pub derive_forward : (command : Command) (name into : List ℕ) → layers_derived command ≡ Some (name, into) → goes_back command ≡ false
@@ -67,7 +65,7 @@ derive_forward command name into is = cc
 pub cut_from : (command : Command) (name into a b : List ℕ) (w : Window) → layers_derived command ≡ Some (name, into) → command ≡ commands.Window a w b
     → name ≡ a
 cut_from command name into a b w derives is =
-    ap (λ (p : List ℕ × List ℕ). p.0) (pair_of (name, into) (a, b) (sym derives ∙ ap layers_derived is))
+    ap (λ (p : List ℕ × List ℕ). p.0) (same_Some (name, into) (a, b) (sym derives ∙ ap layers_derived is))
 
 pub same_window : (a b c d : List ℕ) (v w : Window) → commands.Window a v b ≡ commands.Window c w d → v ≡ w
 same_window a b c d v w e = cc

@@ -3,7 +3,7 @@ use Rattle.std.specs.Prelude.{◌↔◌, is_some, is_none, IsNone, unwrap_or}
 use Rattle.std.specs.List.{list_any}
 use Rattle.std.proofs.Common.{◌≡◌, ℕ, Bool, true, false, not, ◌||◌, List, [], ◌∷◌, map, All, Contains, Option, Some, None, refl, sym, ◌∙◌, ap, subst, ⊎_elim}
 use Rattle.std.specs.FinMap as finmap
-use Rattle.std.proofs.lemmas.Bool.{cases_Bool}
+use Rattle.std.proofs.lemmas.Bool.{cases_Bool, or_parts, or_from, not-false}
 use Rattle.std.proofs.lemmas.List.Elements.{All-weaker, All-contains_itself}
 use Rattle.quilt_types.specs.declared.code.Code.{Code}
 use Rattle.quilt_types.specs.declared.code.Code.TheVariants as no
@@ -31,13 +31,6 @@ use Rattle.quilt_map.proofs.answers.Placing.{answered_by}
 use Rattle.quilt_map.proofs.layers.PointAnswers.{none_with_two}
 
 -- ---- which points are new
-both_false : (a b : Bool) → (a || b) ≡ false → (a ≡ false) × (b ≡ false)
-both_false true b h = cc
-both_false false b h = (refl, h)
-
-either_false : (a b : Bool) → a ≡ false → b ≡ false → (a || b) ≡ false
-either_false a b p q = ap (λ c. c || b) p ∙ q
-
 nothing_there : {X : Type 0} (o : Option X) → is_some o ≡ false → o ≡ None
 nothing_there None h = refl
 nothing_there (Some x) h = cc
@@ -46,7 +39,7 @@ pub new_when : (points : PointMap) (ps : List Point) → collide points ps ≡ f
 new_when points [] h = record { differ = tt; free = λ q c. absurd (Contains-nil q c) }
 new_when points (p ∷ ps) h =
     let after = finmap.insert points p.at p.label in
-    let parts = both_false (is_some (finmap.get points p.at)) (collide after ps) h in
+    let parts = or_parts (is_some (finmap.get points p.at)) (collide after ps) h in
     let rest = new_when after ps parts.1 in
     let away : (q : Point) → Contains ps q → q.at ≡ p.at → ⊥ = λ q c e.
     (let wrong : None ≡ Some p.label =
@@ -69,24 +62,20 @@ none_when points (p ∷ ps) n =
           get_others pixel_cmp pixel_total pixel_same points p.at p.label q.at
           (λ e. n.differ.0 (subst (Contains (map at ps)) e (Contains-map at ps q c))) ∙ n.free q (Contains-there p ps q c);
     } in
-    either_false (is_some (finmap.get points p.at)) (collide after ps) (ap (λ (o : Option ℕ). is_some o) (n.free p (Contains-here p ps)))
+    or_from (is_some (finmap.get points p.at)) (collide after ps) (ap (λ (o : Option ℕ). is_some o) (n.free p (Contains-here p ps)))
     (none_when after ps rest)
 
 -- ---- pixels of the square
 any_none : {X : Type 0} (p : X → Bool) (xs : List X) → list_any p xs ≡ false → (x : X) → Contains xs x → p x ≡ false
 any_none {X = X} p [] h x c = absurd (Contains-nil x c)
 any_none {X = X} p (y ∷ ys) h x c =
-    let parts = both_false (p y) (list_any p ys) h in
+    let parts = or_parts (p y) (list_any p ys) h in
     ⊎_elim (λ is. subst (λ (z : X). p z ≡ false) is parts.0) (λ d. any_none p ys parts.1 x d) (Contains-cons_cases y ys x c)
-
-not_false : (b : Bool) → not b ≡ false → b ≡ true
-not_false true h = refl
-not_false false h = cc
 
 pub none_outside : (n : ℕ) (ps : List Point) → list_any (λ q. not (is_pixel n q.at)) ps ≡ false → All (λ q. is_pixel n q.at ≡ true) ps
 none_outside n ps h =
     All-weaker (Contains ps) (λ q. is_pixel n q.at ≡ true)
-    (λ q c. not_false (is_pixel n q.at) (any_none (λ (z : Point). not (is_pixel n z.at)) ps h q c)) ps (All-contains_itself ps)
+    (λ q c. not-false (is_pixel n q.at) (any_none (λ (z : Point). not (is_pixel n z.at)) ps h q c)) ps (All-contains_itself ps)
 
 -- what a plan says of the points
 pub scatter_finds : {X : Type 0} (o : Option X) (points : PointMap) (ps : List Point) → IsNone o ↔ (AreNew points ps → ⊥)

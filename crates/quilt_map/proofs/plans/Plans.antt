@@ -2,6 +2,7 @@
 use Rattle.std.proofs.Common.{◌≡◌, ℕ, ◌≤◌, Bool, true, false, ◌&&◌, ◌||◌, List, [], ◌∷◌, Option, None, Contains, refl, sym, ◌∙◌, ap, subst}
 use Rattle.std.specs.FinMap as finmap
 use Rattle.std.specs.List.{list_any}
+use Rattle.std.proofs.lemmas.Bool.{and_from, or_from}
 use Rattle.quilt_types.specs.Layers.{Layer, Map}
 use Rattle.quilt_loc.proofs.Members.{Contains-here, Contains-there}
 use Rattle.quilt_record.specs.declared.record.Record.{Record}
@@ -20,12 +21,6 @@ use Rattle.quilt_spell.proofs.Stepping.{step_there, step_apart}
 
 -- ---- lists
 
-both : (a b : Bool) → a ≡ true → b ≡ true → (a && b) ≡ true
-both a b p q = ap (λ c. c && b) p ∙ q
-
-neither : (a b : Bool) → a ≡ false → b ≡ false → (a || b) ≡ false
-neither a b p q = ap (λ c. c || b) p ∙ q
-
 -- the tree's words for records taken out and put in, and those of spelling
 pub taken_as : (removed rs : List Record) → without_all (keys_of removed) rs ≡ taken rs removed
 taken_as [] rs = refl
@@ -38,13 +33,13 @@ given_as (r ∷ added) rs = given_as added (put r rs)
 pub each_of : (rs removed : List Record) → ((r : Record) → Contains removed r → Contains rs r) → has_each (keys_of removed) rs ≡ true
 each_of rs [] there = refl
 each_of rs (r ∷ removed) there =
-    both (list_any (has_key r.key) rs) (has_each (keys_of removed) rs) (has_some rs r (there r (Contains-here r removed)))
+    and_from (list_any (has_key r.key) rs) (has_each (keys_of removed) rs) (has_some rs r (there r (Contains-here r removed)))
     (each_of rs removed (λ s c. there s (Contains-there r removed s c)))
 
 pub none_of : (left added : List Record) → ((r s : Record) → Contains added r → Contains left s → r.key ≡ s.key → ⊥) → has_any added left ≡ false
 none_of left [] apart = refl
 none_of left (r ∷ added) apart =
-    neither (list_any (has_key r.key) left) (has_any added left) (has_none r.key left (λ s c. apart r s (Contains-here r added) c))
+    or_from (list_any (has_key r.key) left) (has_any added left) (has_none r.key left (λ s c. apart r s (Contains-here r added) c))
     (none_of left added (λ q s c. apart q s (Contains-there r added q c)))
 
 -- ---- a plan

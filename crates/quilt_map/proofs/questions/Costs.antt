@@ -5,7 +5,7 @@ use Rattle.quilt_types.specs.declared.plane.Window.{Window}
 use Rattle.quilt_types.specs.Layers.{Layer, Region, Points, PointMap, Grid}
 use Rattle.quilt_world.specs.Tale.{Goes}
 use Rattle.quilt_replies.specs.Answers.{State, layer, capacity_in, grid_in, points_in}
-use Rattle.quilt_region.proofs.Counting.{reads_then}
+use Rattle.quilt_world.proofs.ReadCounts.{reads_then}
 use Rattle.quilt_map.specs.Costs.{within_pages, show_pages, cut_pages, block_pages, block_pages_in}
 
 -- the same cost, told otherwise

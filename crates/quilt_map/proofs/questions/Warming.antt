@@ -14,12 +14,9 @@ use Rattle.quilt_spell.specs.Catalogued.{IsCatalogOf}
 use Rattle.quilt_spell.specs.Written.{number_of}
 use Rattle.quilt_map.specs.Sessions.{IsHeldWarm, pages_asked, tree_in}
 
-none_some : {A : Type 0} (w : A) → None ≡ Some w → ⊥
-none_some w e = cc
-
 -- where no pixel is kept
 pub cold : (entries : List Entry) (told : Option Pages) (h : Head) (held : List ℕ) → IsHeldWarm None entries told h held
-cold entries told h held = record { are_first = λ w e layers numbers catalog rs tree pages is. absurd (none_some w e) }
+cold entries told h held = record { are_first = λ w e layers numbers catalog rs tree pages is. absurd (none-some w e) }
 
 -- by other names of the pages, the header and what is held
 pub warm_as : (w : Option (List ℕ × Pixel)) (entries : List Entry) (told again : Option Pages) (h k : Head) (held now : List ℕ)

@@ -14,6 +14,7 @@ use Rattle.std.proofs.lemmas.List.FromFn.{length-range_with_len}
 use Rattle.std.proofs.lemmas.List.Elements.{All-contains, All-weaker, All-nil, All-cons, Contains-get_or}
 use Rattle.std.proofs.lemmas.List.Quantifiers.{position-Some}
 use Rattle.std.proofs.lemmas.Slice.Eq.{bytes_eq-Decides}
+use Rattle.std.proofs.lemmas.Option.{none-some, same_Some}
 use Rattle.quilt_types.specs.declared.plane.Kind.TheVariants as kinds
 use Rattle.quilt_types.specs.Layers.{Layer, Map}
 use Rattle.quilt_record.specs.declared.entry.Entry.{Entry}
@@ -41,12 +42,6 @@ by_name d e = name_cmp d.name e.name
 
 by_name_total : IsTotalOrder by_name
 by_name_total = on_total (λ (e : Entry). e.name) nat_list_cmp_total
-
-some_same : {X : Type 0} (a b : X) → Some a ≡ Some b → a ≡ b
-some_same a b e = cc
-
-some_none : {X : Type 0} (a : X) → None ≡ Some a → ⊥
-some_none a e = cc
 
 module _ (layers : Map) (numbers : Numbering) where
   -- a layer has an entry, and an entry has a layer
@@ -365,7 +360,7 @@ module _ (layers : Map) (numbers : Numbering) (entries : List Entry) (c : IsCata
       (with_rises e entries (catalog_rises layers numbers entries c) (λ f there same. apart f there (same ∙ named)))
       (λ b l at. ⊎_elim
       (λ same.
-      let value : new ≡ l = some_same new l (sym (got_here layers name (Some new)) ∙ ap (finmap.get after) (sym same) ∙ at) in
+      let value : new ≡ l = same_Some new l (sym (got_here layers name (Some new)) ∙ ap (finmap.get after) (sym same) ∙ at) in
       let pair : e ≡ entry_of numbered (b, l) = sym made ∙ (λ i. entry_of numbered (sym same i, value i)) in
       (with_members e entries (entry_of numbered (b, l))).1 (inl (sym pair)))
       (λ d.
@@ -394,7 +389,7 @@ module _ (layers : Map) (numbers : Numbering) (entries : List Entry) (c : IsCata
       catalog_from after numbered (remove entries i)
       (without_rises entries i d name up lt at)
       (λ b l got. ⊎_elim
-      (λ same. absurd (some_none l (sym (got_here layers name None) ∙ ap (finmap.get after) (sym same) ∙ got)))
+      (λ same. absurd (none-some l (sym (got_here layers name None) ∙ ap (finmap.get after) (sym same) ∙ got)))
       (λ differ.
       let was = entry_there layers numbers entries c b l (sym (got_there layers name None b differ) ∙ got) in
       (members (entry_of numbered (b, l))).1 (subst (Contains entries) (same_entry numbers numbered b l (sym (number_there number None b differ))) was, differ))
@@ -415,7 +410,7 @@ module _ (layers : Map) (numbers : Numbering) (entries : List Entry) (c : IsCata
       catalog_from after numbered entries (catalog_rises layers numbers entries c)
       (λ b l at. ⊎_elim
       (λ same.
-      let value : new ≡ l = some_same new l (sym (got_here layers name (Some new)) ∙ ap (finmap.get after) (sym same) ∙ at) in
+      let value : new ≡ l = same_Some new l (sym (got_here layers name (Some new)) ∙ ap (finmap.get after) (sym same) ∙ at) in
       let pair : entry_of numbered (name, new) ≡ entry_of numbered (b, l) = λ i. entry_of numbered (sym same i, value i) in
       subst (Contains entries) (here ∙ pair) (entry_there layers numbers entries c name old was))
       (λ d. subst (Contains entries) (same_entry numbers numbered b l (sym (number_there number (Some new) b d)))
@@ -425,7 +420,7 @@ module _ (layers : Map) (numbers : Numbering) (entries : List Entry) (c : IsCata
       let l = layer_there layers numbers entries c f there in
       ⊎_elim
       (λ same.
-      let value : l.0 ≡ old = some_same l.0 old (sym l.1 ∙ ap (finmap.get layers) same ∙ was) in
+      let value : l.0 ≡ old = same_Some l.0 old (sym l.1 ∙ ap (finmap.get layers) same ∙ was) in
       let is : entry_of numbers (f.name, l.0) ≡ entry_of numbers (name, old) = λ i. entry_of numbers (same i, value i) in
       (new, ap (finmap.get after) same ∙ got_here layers name (Some new), l.2 ∙ is ∙ here ∙ (λ i. entry_of numbered (sym same i, new))))
       (λ d. (

@@ -27,7 +27,7 @@ use Rattle.quilt_spell.specs.Written.{by_key}
 use Rattle.quilt_spell.proofs.Written.{by_key_total}
 use Rattle.quilt_spell.proofs.Lists.{Apart-le, Apart-rises}
 use Rattle.quilt_edits.proofs.Keys.{less_code}
-use Rattle.quilt_region.specs.Regions.{leaf_record}
+use Rattle.quilt_spell.specs.OfLayer.{leaf_record}
 use Rattle.quilt_region.specs.Plans.{is_leaf, records_without}
 use Rattle.quilt_region.specs.Quarters.{records_without_in}
 use Rattle.quilt_region.specs.Windows.{leaves_within}

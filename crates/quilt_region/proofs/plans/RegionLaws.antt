@@ -12,7 +12,7 @@ use Rattle.quilt_record.specs.Records.{record_of}
 use Rattle.quilt_spell.specs.Apart.{SameMembers}
 use Rattle.quilt_spell.specs.Written.{layer_records}
 use Rattle.quilt_spell.specs.Changing as changing
-use Rattle.quilt_spell.specs.OfLayer.{kind_record}
+use Rattle.quilt_spell.specs.OfLayer.{kind_record, leaf_record}
 use Rattle.quilt_spell.proofs.Lists.{Apart-rises}
 use Rattle.quilt_spell.proofs.Written.{layer_record, layer_record_from, layer_fits}
 use Rattle.quilt_spell.proofs.OfLayer.{kind_there, region_spelled}
@@ -21,7 +21,7 @@ use Rattle.quilt_spell.proofs.Commands.{fresh_leads}
 use Rattle.quilt_spell.proofs.RegionPlans.{region_plan}
 use Rattle.quilt_blocks.specs.Cutting.{leaves_by_code, leaf_cmp}
 use Rattle.quilt_blocks.proofs.Cuts.{leaves_rise, leaves_members}
-use Rattle.quilt_region.specs.Regions.{leaf_record, region_records}
+use Rattle.quilt_region.specs.Regions.{region_records}
 use Rattle.quilt_region.specs.Plans.{records_without}
 use Rattle.quilt_region.specs.Laws.{IsPlan, ReadLaw, ChangeLaw, FreshLaw}
 use Rattle.quilt_spell.specs.Written.{by_key}

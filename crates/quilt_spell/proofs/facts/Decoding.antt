@@ -14,7 +14,8 @@ use Rattle.quilt_types.specs.Codes.{code, depth}
 use Rattle.quilt_types.specs.Layers.{Layer, Region, Points, Lines, IsLayer, is_in_square}
 use Rattle.quilt_types.specs.Facts.{Fact, IsOfKind, HasColour, HoldsPoint, HoldsNoPoint, IsSegment, IsMetBy, IsMetByNone, facts}
 use Rattle.quilt_record.specs.declared.record.Record.{Record}
-use Rattle.quilt_record.specs.Records.{record_of, filled}
+use Rattle.quilt_types.specs.Bytes.{filled}
+use Rattle.quilt_record.specs.Records.{record_of}
 use Rattle.quilt_spell.specs.LayerFacts.{LayerSays}
 use Rattle.quilt_record.specs.Canonical.{FactFits}
 use Rattle.quilt_loc.proofs.Blocks.{side_most}

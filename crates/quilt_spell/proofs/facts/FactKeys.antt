@@ -10,6 +10,7 @@ use Rattle.std.proofs.lemmas.Bool.{and_parts, cases_Bool, cond-false}
 use Rattle.std.proofs.lemmas.List.{get_or_default}
 use Rattle.std.proofs.lemmas.List.Sums.{length-filter}
 use Rattle.std.proofs.lemmas.List.Elements.{All-contains, Contains-append_cases}
+use Rattle.std.proofs.lemmas.Option.{same_Some}
 use Rattle.quilt_types.specs.Sets as finset
 use Rattle.quilt_types.specs.declared.plane.Block.{Block}
 use Rattle.quilt_types.specs.declared.plane.Pixel.{Pixel}
@@ -56,18 +57,15 @@ block_same a b e =
     let s = nat_cmp-IsAntisymmetric a.side b.side u.1 in
     λ i. record { x = x i; y = y i; side = s i }
 
-same_some : {X : Type 0} (v w : X) → Some v ≡ Some w → v ≡ w
-same_some v w e = cc
-
 -- a map has one value at a key
 pub one_label : (points : PointMap) (p q : Pixel) (k l : ℕ) → Contains (finmap.entries points) (p, k) → Contains (finmap.entries points) (q, l) → p ≡ q → k ≡ l
 one_label points p q k l c d e =
-    same_some k l (sym (get_from_entry pixel_cmp pixel_total pixel_same points (p, k) c) ∙ ap (finmap.get points) e
+    same_Some k l (sym (get_from_entry pixel_cmp pixel_total pixel_same points (p, k) c) ∙ ap (finmap.get points) e
     ∙ get_from_entry pixel_cmp pixel_total pixel_same points (q, l) d)
 
 pub one_seg : (segs : SegMap) (i j : ℕ) (s t : Seg) → Contains (finmap.entries segs) (i, s) → Contains (finmap.entries segs) (j, t) → i ≡ j → s ≡ t
 one_seg segs i j s t c d e =
-    same_some s t (sym (get_from_entry nat_cmp nat_cmp_total nat_cmp-IsAntisymmetric segs (i, s) c) ∙ ap (finmap.get segs) e
+    same_Some s t (sym (get_from_entry nat_cmp nat_cmp_total nat_cmp-IsAntisymmetric segs (i, s) c) ∙ ap (finmap.get segs) e
     ∙ get_from_entry nat_cmp nat_cmp_total nat_cmp-IsAntisymmetric segs (j, t) d)
 
 -- ---- at most one element passes

@@ -8,7 +8,8 @@ use Rattle.std.proofs.lemmas.Bool.{cases_Bool, cond-true, cond-false}
 use Rattle.quilt_types.specs.Layers.{Layer, Region, Points, Lines, Map, IsLayer}
 use Rattle.quilt_types.specs.Facts.{Fact, IsOfKind, HasColour, HoldsPoint, HoldsNoPoint, IsSegment, IsMetBy, IsMetByNone, facts}
 use Rattle.quilt_record.specs.declared.record.Record.{Record}
-use Rattle.quilt_record.specs.Records.{Numbering, Spells, capacity_of, kind_number, filled, record_of}
+use Rattle.quilt_types.specs.Bytes.{filled}
+use Rattle.quilt_record.specs.Records.{Numbering, Spells, capacity_of, kind_number, record_of}
 use Rattle.quilt_spell.specs.Written.{number_of}
 use Rattle.quilt_spell.specs.Spelled.{SpellsUnder}
 use Rattle.quilt_spell.specs.OfLayer.{kind_fact, kind_record, SpellsLayer}

@@ -4,6 +4,7 @@ use Rattle.std.specs.List.{list_all}
 use Rattle.std.proofs.lemmas.List.{take_at, append_cancel_left}
 use Rattle.std.proofs.lemmas.List.Folds.{list_all-append}
 use Rattle.std.proofs.Math.Seq.{take-append-add}
+use Rattle.std.proofs.lemmas.Bool.{and_parts}
 use Rattle.quilt_world.specs.Added.{Only, is_of_text}
 use Rattle.quilt_world.specs.Disk.{Pages, Log, CanLeave}
 use Rattle.quilt_world.specs.Stops.{Since, Leaves}
@@ -34,13 +35,9 @@ front_split (x ∷ a) b (e ∷ so) front =
 
 -- ---- events of one sort
 
-pub and_both : (a b : Bool) → (a && b) ≡ true → (a ≡ true) × (b ≡ true)
-and_both true b is = (refl, is)
-and_both false b is = absurd (cc)
-
 pub only_front : (sort : Event → Bool) (log so : Log) → Begins log so → Only sort log → Only sort so
 only_front sort log so front only =
-    (and_both (list_all sort so) (list_all sort front.0) (sym (list_all-append sort so front.0) ∙ ap (list_all sort) (sym front.1) ∙ only)).0
+    (and_parts (list_all sort so) (list_all sort front.0) (sym (list_all-append sort so front.0) ∙ ap (list_all sort) (sym front.1) ∙ only)).0
 
 took_is_text : (e : Event) → is_took e ≡ true → is_of_text e ≡ true
 took_is_text (Took bytes) is = refl

@@ -3,7 +3,7 @@ use Rattle.std.proofs.Common.{◌≡◌, ◌≢◌, inl, inr, ◌+◌, ◌-◌, 
 use Rattle.std.proofs.Common.{Some, None, Result, Ok, Err, OnErr, refl, sym, ◌∙◌, ap, subst, arith, append-nil, take-append-drop}
 use Rattle.std.specs.Option.{IfSome}
 use Rattle.std.specs.List.{list_all}
-use Rattle.std.proofs.lemmas.Bool.{cases_lt}
+use Rattle.std.proofs.lemmas.Bool.{cases_lt, and_parts}
 use Rattle.std.proofs.lemmas.List.{take_at, take-append-le, get_or-replicate, length-replicate}
 use Rattle.std.proofs.lemmas.List.Folds.{list_all-append}
 use Rattle.std.proofs.Math.Seq.{take-append-add}
@@ -18,21 +18,17 @@ use Rattle.quilt_world.specs.declared.disk.Door.{Door}
 use Rattle.quilt_world.specs.declared.disk.Door.TheVariants as doors
 use Rattle.quilt_world.proofs.PageLaws.{seen_left}
 use Rattle.quilt_edition.specs.Stands.{Stands}
-use Rattle.quilt_edition.specs.Creating.{IsBlank, is_of_pages, IsNoneOrEmpty, Creates, IsCreated}
+use Rattle.quilt_edition.specs.Creating.{IsBlank, IsNoneOrEmpty, Creates, IsCreated}
 use Rattle.quilt_top.specs.declared.run.End.{End}
 use Rattle.quilt_top.specs.declared.run.End.TheVariants as ends
 use Rattle.quilt_top.specs.Saying.{Says, SaysPrefix}
-use Rattle.quilt_world.specs.Added.{AddsOnly, is_of_text}
+use Rattle.quilt_world.specs.Added.{AddsOnly, is_of_text, is_of_pages}
 use Rattle.quilt_world.proofs.TextLaws.{text_leaves}
 use Rattle.quilt_top.specs.Words.{New}
 use Rattle.quilt_top.specs.Headline.{IsOneOf, IsStop, fresh, new_line, MakesFile, FindsFile, KeepsPromises, WhereTold}
 use Rattle.quilt_top.proofs.logs.Events.{put_bytes-append, taken_bytes-append, nothing_taken}
 
 -- ---- events of one sort
-
-and_both : (a b : Bool) → (a && b) ≡ true → (a ≡ true) × (b ≡ true)
-and_both true b is = (refl, is)
-and_both false b is = absurd (cc)
 
 pages_put_nothing : (log : Log) → list_all is_of_pages log ≡ true → put_bytes log ≡ []
 pages_put_nothing [] only = refl
@@ -127,7 +123,7 @@ said_making level said t v w making created says only = record {
             let longer : so_far ≡ v.log ++ events =
             front ∙ ap (λ j. take j (v.log ++ only.events)) (let e : n ≡ m + k = omega arith in e) ∙ take-append-add v.log only.events k in
             let of_text : list_all is_of_text events ≡ true =
-            (and_both _ _ (sym (list_all-append is_of_text events (drop k only.events)) ∙ ap (list_all is_of_text) (take-append-drop k only.events)
+            (and_parts _ _ (sym (list_all-append is_of_text events (drop k only.events)) ∙ ap (list_all is_of_text) (take-append-drop k only.events)
             ∙ only.only)).0 in
             let there : CanLeave v.start v.log image = text_leaves v.start v.log events image of_text (subst (λ l. CanLeave v.start l image) longer left) in
             ((making.crash v.log image (record { front = ([], sym (append-nil v.log)); left = there })).0, λ some. created.left image there)

@@ -3,7 +3,7 @@ use Rattle.std.proofs.Common.{◌≡◌, ℕ, zero, suc, ◌+◌, ◌<◌, ◌�
 use Rattle.std.proofs.Common.{map, replicate, Option, Some, None, refl, sym, ◌∙◌, ap, subst, arith, append-nil}
 use Rattle.std.specs.Option.{IfSome}
 use Rattle.std.specs.List.{list_all, list_any, IsDistinct, AllByRecursion, Contains}
-use Rattle.std.proofs.lemmas.Bool.{false≢true, eqb-true, le-leb, lt-ltb}
+use Rattle.std.proofs.lemmas.Bool.{false≢true, eqb-true, le-leb, lt-ltb, and_from, and_parts}
 use Rattle.std.proofs.lemmas.List.FromFn.{length-map-range_with_len}
 use Rattle.std.specs.Ordering.{is_lt}
 use Rattle.std.proofs.lemmas.Map.Text.{is_eq-slice_cmp}
@@ -85,10 +85,6 @@ on_damaged P (stops.Damaged p) so page is = subst P (same_page p page is) so
 
 -- ---- the numbers of a catalog
 
-and_both : (a b : Bool) → (a && b) ≡ true → (a ≡ true) × (b ≡ true)
-and_both true b is = (refl, is)
-and_both false b is = absurd (false≢true is)
-
 not_before_itself : (name : List ℕ) → is_lt (name_cmp name name) ≡ true → ⊥
 not_before_itself name lt =
     false≢true (sym (lt_not_eq (name_cmp name name) lt) ∙ is_eq-slice_cmp name name ∙ (bytes_eq-Decides name name).1 refl)
@@ -103,7 +99,7 @@ behind_differs : (e : Entry) (es : List Entry) → list_all (λ (f : Entry). is_
     → AllByRecursion (λ y. nat_eq e.number y ≡ false) (map (λ (f : Entry). f.number) es)
 behind_differs e [] order once = tt
 behind_differs e (f ∷ fs) order once =
-    let parts = and_both (is_lt (name_cmp e.name f.name)) (list_all (λ (f : Entry). is_lt (name_cmp e.name f.name)) fs) order in (
+    let parts = and_parts (is_lt (name_cmp e.name f.name)) (list_all (λ (f : Entry). is_lt (name_cmp e.name f.name)) fs) order in (
       number_differs e.number f.number (nat_eq e.number f.number) refl (λ same.
           let is : e ≡ f = once f (Contains-here f fs) same in
           not_before_itself f.name (subst (λ (x : Entry). is_lt (name_cmp x.name f.name) ≡ true) is parts.0)),
@@ -165,15 +161,11 @@ one_of : (b : Bool) → cond {A = ℕ} (not b) 1 0 + cond {A = ℕ} b 1 0 ≡ 1
 one_of true = refl
 one_of false = refl
 
-both_true : (a b : Bool) → a ≡ true → b ≡ true → (a && b) ≡ true
-both_true true b x y = y
-both_true false b x y = absurd (false≢true x)
-
 -- the pages that an audit found, and no others, are spoken for by the tree
 balanced : (n : ℕ) (used visited : List ℕ) (free : ℕ → Bool) (p : ℕ) → ((q : ℕ) → free q ≡ is_left_out n used q) → bits.Marks used visited
     → times p visited ≡ cond {A = ℕ} (list_any (λ v. v == p) visited) 1 0 → 1 ≤ p → p < n → account free visited p ≡ 1
 balanced n used visited free p is marks once low high =
-    let within : (nat_le 1 p && nat_lt p n) ≡ true = both_true (nat_le 1 p) (nat_lt p n) (le-leb 1 p low) (lt-ltb p n high) in
+    let within : (nat_le 1 p && nat_lt p n) ≡ true = and_from (nat_le 1 p) (nat_lt p n) (le-leb 1 p low) (lt-ltb p n high) in
     let out : is_left_out n used p ≡ not (list_any (λ v. v == p) visited) =
     ap (λ b. b && not (has_bit used p)) within ∙ ap not (marks.each p) in
     ap (λ b. cond {A = ℕ} b 1 0 + times p visited) (is p ∙ out) ∙ ap (λ m. cond {A = ℕ} (not (list_any (λ v. v == p) visited)) 1 0 + m) once

@@ -1,6 +1,7 @@
 -- Pages are written between replies alone: before each of them whole replies were put.
 use Rattle.std.proofs.Common.{◌≡◌, ◌⊎◌, inl, inr, ℕ, Bool, true, List, [], ◌∷◌, ◌++◌, refl, sym, ◌∙◌, ap, subst, append_assoc, append-nil}
 use Rattle.std.specs.List.{list_all}
+use Rattle.std.proofs.lemmas.Bool.{and_parts}
 use Rattle.quilt_world.specs.Added.{Only, is_of_pages, is_of_text}
 use Rattle.quilt_world.specs.Disk.{Log}
 use Rattle.quilt_world.specs.Tale.{Tale, put_bytes}
@@ -15,7 +16,7 @@ use Rattle.quilt_top.specs.Saying.{is_took}
 use Rattle.quilt_top.specs.Stronger.{PutsWhole, touches_page}
 use Rattle.quilt_top.specs.TextRun.{run_in, WritesBetween}
 use Rattle.quilt_top.proofs.logs.Events.{put_bytes-append, pages_unput}
-use Rattle.quilt_top.proofs.logs.Prefixes.{heads, tails, and_both, only_front, took_text_only, took_unput, same_events, events_then}
+use Rattle.quilt_top.proofs.logs.Prefixes.{heads, tails, only_front, took_text_only, took_unput, same_events, events_then}
 use Rattle.quilt_top.proofs.turns.Fine.{answer_grows, steps_grow, part_grows, grows_then, answer_puts}
 use Rattle.quilt_top.proofs.turns.Places.{whole_behind}
 
@@ -39,8 +40,8 @@ event_split (x ∷ a) b (y ∷ so) rest e is =
 -- ---- events of one sort
 
 only_at : (sort : Event → Bool) (so rest : Log) (e : Event) → Only sort (so ++ e ∷ rest) → sort e ≡ true
-only_at sort [] rest e only = (and_both (sort e) (list_all sort rest) only).0
-only_at sort (x ∷ so) rest e only = only_at sort so rest e (and_both (sort x) (list_all sort (so ++ e ∷ rest)) only).1
+only_at sort [] rest e only = (and_parts (sort e) (list_all sort rest) only).0
+only_at sort (x ∷ so) rest e only = only_at sort so rest e (and_parts (sort x) (list_all sort (so ++ e ∷ rest)) only).1
 
 text_untouched : (e : Event) → is_of_text e ≡ true → touches_page e ≡ true → ⊥
 text_untouched (Took bytes) is touches = cc

@@ -5,7 +5,8 @@ use Rattle.quilt_types.specs.declared.plane.Point.{Point}
 use Rattle.quilt_types.specs.Plane.{is_pixel}
 use Rattle.quilt_points.proofs.Finds.{false_true, if_some_at}
 use Rattle.quilt_points.proofs.plans.Adds.{added_all}
-use Rattle.quilt_points.proofs.Bounds.{if_ok_of, reads_none}
+use Rattle.quilt_world.proofs.ReadCounts.{reads_none}
+use Rattle.quilt_points.proofs.Bounds.{if_ok_of}
 use Rattle.quilt_points.proofs.climbing.add_quarter.Goals as goal
 
 pub returns-in-Ok-None-clause-other : goal.returns-in-Ok-None-clause-other

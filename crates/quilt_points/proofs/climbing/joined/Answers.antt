@@ -16,7 +16,8 @@ use Rattle.quilt_points.proofs.Finds.{has_along}
 use Rattle.quilt_points.proofs.Singles.{spot_along}
 use Rattle.quilt_edits.proofs.Lists.{member_at}
 use Rattle.quilt_points.proofs.Unions.{AreOfAll, all_none}
-use Rattle.quilt_points.proofs.Bounds.{reads_none, reads_more, times_next, spared_next, spares, spared_here, spared_end}
+use Rattle.quilt_world.proofs.ReadCounts.{reads_none, reads_more}
+use Rattle.quilt_points.proofs.Bounds.{times_next, spared_next, spares, spared_here, spared_end}
 use Rattle.quilt_points.proofs.Ways.{way_next, way_all, way_fails, own_place}
 use Rattle.quilt_points.proofs.climbing.joined.Goals as goal
 

@@ -9,7 +9,7 @@ use Rattle.quilt_point_laws.specs.Laws.{AreIn}
 use Rattle.quilt_points.specs.Layers.{entries_of}
 use Rattle.quilt_points.specs.Climbing.{IsOnWay}
 use Rattle.quilt_points.proofs.Finds.{if_some_at}
-use Rattle.quilt_points.proofs.Bounds.{reads_none}
+use Rattle.quilt_world.proofs.ReadCounts.{reads_none}
 use Rattle.quilt_points.proofs.Ways.{way_last, way_up, way_many, inner_from}
 use Rattle.quilt_points.proofs.climbing.merged.Goals as goal
 

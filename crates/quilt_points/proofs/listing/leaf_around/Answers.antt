@@ -7,7 +7,7 @@ use Rattle.quilt_point_laws.specs.Laws.{AreIn}
 use Rattle.quilt_points.specs.Layers.{entries_of}
 use Rattle.quilt_store.proofs.Reading.{only_reads_then, only_reads_err, only_reads_ok, only_reads_free}
 use Rattle.quilt_points.proofs.Finds.{has_along}
-use Rattle.quilt_points.proofs.Bounds.{reads_then}
+use Rattle.quilt_world.proofs.ReadCounts.{reads_then}
 use Rattle.quilt_points.proofs.Singles.{one_held, all_held}
 use Rattle.quilt_points.proofs.listing.leaf_around.Goals as goal
 

@@ -8,7 +8,7 @@ use Rattle.quilt_points.specs.Plans.{IsPlan}
 use Rattle.quilt_points.proofs.Finds.{has_along, false_true}
 use Rattle.quilt_points.proofs.plans.Puts.{free_from, held_point}
 use Rattle.quilt_points.proofs.plans.Dels.{is_none_from, none_is}
-use Rattle.quilt_points.proofs.Bounds.{reads_then, reads_more}
+use Rattle.quilt_world.proofs.ReadCounts.{reads_then, reads_more}
 use Rattle.quilt_points.proofs.planning.plan_del.Goals as goal
 
 pub returns-in-None-clause-none : goal.returns-in-None-clause-none

@@ -9,7 +9,8 @@ use Rattle.quilt_points.specs.Scattering.{IsTaken, IsGrown}
 use Rattle.quilt_points.proofs.Finds.{has_along, if_some_at}
 use Rattle.quilt_points.proofs.Codings.{rest_is, Rises-drop, Rises-take, dropped_there, take_further, drop_further, pixels_apart}
 use Rattle.quilt_points.proofs.plans.Scatters.{grown_none, grown_next, entries_apart}
-use Rattle.quilt_points.proofs.Bounds.{reads_none, times_most, blocks_next, blocks_all}
+use Rattle.quilt_world.proofs.ReadCounts.{reads_none}
+use Rattle.quilt_points.proofs.Bounds.{times_most, blocks_next, blocks_all}
 use Rattle.quilt_points.proofs.scattering.grown.Goals as goal
 
 pub loop-done-init : goal.loop-done-init

@@ -3,7 +3,7 @@ use Rattle.std.specs.FinMap as finmap
 use Rattle.std.specs.List.Sorted.{IsPermutation}
 use Rattle.std.proofs.lemmas.List.Sorted.{All-permutation, length_permutation}
 use Rattle.quilt_world.specs.Tale.{Goes}
-use Rattle.quilt_points.proofs.Bounds.{reads_none}
+use Rattle.quilt_world.proofs.ReadCounts.{reads_none}
 use Rattle.quilt_types.specs.declared.plane.Point.{Point}
 use Rattle.quilt_types.specs.Plane.{is_pixel}
 use Rattle.quilt_edits.proofs.Ascents.{permuted}

@@ -11,7 +11,7 @@ use Rattle.quilt_edits.proofs.Lists.{member_at}
 use Rattle.quilt_points.proofs.Unions.{all_none}
 use Rattle.quilt_points.proofs.Windows.{none_of, open_pixel, open_quarter, found_next, found_all, quarter_pixel, covered_next}
 use Rattle.quilt_points.proofs.Windows.{open_many, meets_none, window_sides, reads_once, reads_first, reads_next, reads_within, quarter_side, wide_power}
-use Rattle.quilt_points.proofs.Bounds.{reads_none}
+use Rattle.quilt_world.proofs.ReadCounts.{reads_none}
 use Rattle.quilt_points.proofs.Singles.{search_along}
 use Rattle.quilt_points.specs.Windows.{visited}
 use Rattle.quilt_world.specs.Tale.{Goes}

@@ -1,5 +1,6 @@
 use Rattle.std.proofs.Common.{◌≡◌, Some, ◌∙◌, sym}
-use Rattle.quilt_record.proofs.Readers.{pair_same, pair_named, pair_by_parts, pair_parts}
+use Rattle.std.proofs.lemmas.Option.{some_pair_parts}
+use Rattle.quilt_record.proofs.Readers.{pair_named, pair_by_parts, pair_parts}
 use Rattle.quilt_record.proofs.lines.read_pair.Goals as goal
 
 pub returns-in_default-clause-one : goal.returns-in_default-clause-one
@@ -17,7 +18,7 @@ returns-clause-some c =
 
 pub returns-clause-one : goal.returns-clause-one
 returns-clause-one c layer b v f =
-    let same = pair_same c.in-Some-named.field-0-0 layer c.in-Some-named.b b
+    let same = some_pair_parts c.in-Some-named.field-0-0 layer c.in-Some-named.b b
     (sym c.in-Some-named.is ∙ c.named.ensures.one layer b (pair_named c.args.level c.args.r.now layer b v f)) in
     let said = sym c.in-Some.is ∙ c.pair_in.ensures.one v (pair_parts c.args.level c.args.r.now layer b v f) in
     let id : c.in-Some.id ≡ v = cc in

@@ -1,6 +1,7 @@
 use Rattle.std.proofs.Common.{◌≡◌, ℕ, [], ◌∷◌, ◌++◌, ◌∙◌, ap, take, drop, List}
 use Rattle.std.proofs.lemmas.List.{append-nil}
-use Rattle.quilt_record.specs.Records.{filled, kind_number}
+use Rattle.quilt_types.specs.Bytes.{filled}
+use Rattle.quilt_record.specs.Records.{kind_number}
 use Rattle.quilt_record.specs.Listing.{number_of_kind, number_beside}
 use Rattle.quilt_record.proofs.Names.{first_twelve, behind_twelve}
 use Rattle.quilt_record.proofs.listing.catalog_record.Goals as goal

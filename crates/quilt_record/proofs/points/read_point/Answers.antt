@@ -1,7 +1,8 @@
 use Rattle.std.proofs.Common.{◌≡◌, true, false, Some, ◌∙◌, sym, subst, IfSome}
+use Rattle.std.proofs.lemmas.Option.{some_pair_parts}
 use Rattle.quilt_types.specs.declared.plane.Point.{Point}
 use Rattle.quilt_types.specs.Plane.{is_pixel}
-use Rattle.quilt_record.proofs.Readers.{pair_same, point_named, point_held, point_inside, point_by_parts, point_parts}
+use Rattle.quilt_record.proofs.Readers.{point_named, point_held, point_inside, point_by_parts, point_parts}
 use Rattle.quilt_record.proofs.points.read_point.Goals as goal
 
 true_false : true ≡ false → ⊥
@@ -31,7 +32,7 @@ returns-clause-some c =
 
 pub returns-clause-one : goal.returns-clause-one
 returns-clause-one c layer b v f =
-    let same = pair_same c.in-Some.field-0-0 layer c.in-Some.b b
+    let same = some_pair_parts c.in-Some.field-0-0 layer c.in-Some.b b
     (sym c.in-Some.is ∙ c.named.ensures.one layer b (point_named c.args.level c.args.bucket c.args.r.now layer b v f)) in
     let value = c.held_in-held.ensures.value ∙ point_held c.args.level c.args.bucket c.args.r.now layer b v c.requires.1 f in
     λ i. Some (same.1 i, value i)

@@ -1,5 +1,6 @@
 use Rattle.std.proofs.Common.{◌≡◌, true, false, Some, ◌∙◌, sym, arith}
-use Rattle.quilt_record.proofs.Readers.{pair_same, region_named, region_colour, region_under, under_region}
+use Rattle.std.proofs.lemmas.Option.{some_pair_parts}
+use Rattle.quilt_record.proofs.Readers.{region_named, region_colour, region_under, under_region}
 use Rattle.quilt_record.proofs.region.read_region.Goals as goal
 
 true_false : true ≡ false → ⊥
@@ -28,7 +29,7 @@ returns-clause-some c =
 
 pub returns-clause-one : goal.returns-clause-one
 returns-clause-one c layer b colour in_format f =
-    let same = pair_same c.in-Some.field-0-0 layer c.in-Some.b b
+    let same = some_pair_parts c.in-Some.field-0-0 layer c.in-Some.b b
     (sym c.in-Some.is ∙ c.named.ensures.one layer b (region_named c.args.level c.args.r.now layer b colour.0 f)) in
     let value = c.colour_in-c.ensures ∙ region_colour c.args.level c.args.r.now layer b colour.0 f in
     λ i. Some (same.1 i, record { 0 = value i })

@@ -4,7 +4,7 @@ use Rattle.quilt_blocks.specs.Cutting.{leaves_by_code, pair_of}
 use Rattle.quilt_blocks.specs.Walk.{IsLeafAt}
 use Rattle.quilt_blocks.proofs.Paired.{zip_some}
 use Rattle.quilt_record.specs.declared.record.Record.{Record}
-use Rattle.quilt_region.specs.Regions.{leaf_record}
+use Rattle.quilt_spell.specs.OfLayer.{leaf_record}
 use Rattle.quilt_region.proofs.Leaves.{only_test, only_apart}
 use Rattle.quilt_region.proofs.InStep.{has_passed, both_end, none_left, none_so_far, one_passes, one_fails, same_pass, first_alone, second_alone}
 use Rattle.quilt_region.proofs.InStep.{within_alone, go_on_at, leaves_equal, leaves_differ}

@@ -25,18 +25,18 @@ put_around-requires-clause-next c = sym (whole_next _ _ _ c.whole_square-whole.e
 pub finish-requires : goal.finish-requires
 finish-requires c =
     let n = c.args.level in
-    c.in-Ok.ensures.end ∙ ap code_to c.whole_square-whole.ensures ∙ code_to-whole n ∙ ap (λ (k : ℕ). 4 ^ k) (sym c.in-Ok.ensures.level)
+    c.in_ok-put_around.ensures.end ∙ ap code_to c.whole_square-whole.ensures ∙ code_to-whole n ∙ ap (λ (k : ℕ). 4 ^ k) (sym c.in_ok-put_around.ensures.level)
 
-pub returns-in-Ok-clause-list : goal.returns-in-Ok-clause-list
-returns-in-Ok-clause-list c g is =
+pub returns-clause-list : goal.returns-clause-list
+returns-clause-list c g is =
     let n = c.args.level in
     let f = known_colour n g c.args.known.now in
     let none = ap (λ (m : Painted). m.colours) c.new-maker.ensures in
     let start = Paints-none n f in
     let empty : HasColours n f c.new-maker.result.colours = subst (HasColours n f) (sym none) (record { each = start.each }) in
-    let has = c.in-Ok.ensures.colours g is empty in
-    let end : length c.put_around.new.maker.colours ≡ 4 ^ n = c.in-Ok.ensures.end ∙ ap code_to c.whole_square-whole.ensures ∙ code_to-whole n in
-    let level = c.finish.ensures.level ∙ c.in-Ok.ensures.level in
-    let grid = c.finish.ensures.value ∙ ap (λ (k : ℕ). grid_by_code k c.put_around.new.maker.colours) c.in-Ok.ensures.level
+    let has = c.in_ok-put_around.ensures.colours g is empty in
+    let end : length c.put_around.new.maker.colours ≡ 4 ^ n = c.in_ok-put_around.ensures.end ∙ ap code_to c.whole_square-whole.ensures ∙ code_to-whole n in
+    let level = c.finish.ensures.level ∙ c.in_ok-put_around.ensures.level in
+    let grid = c.finish.ensures.value ∙ ap (λ (k : ℕ). grid_by_code k c.put_around.new.maker.colours) c.in_ok-put_around.ensures.level
     ∙ Paints-all n f c.put_around.new.maker.colours c.requires.level.1 end (record { each = has.each }) in
     λ i. record { level = level i; grid = grid i }

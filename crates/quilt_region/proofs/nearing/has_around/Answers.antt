@@ -11,7 +11,7 @@ use Rattle.quilt_loc.proofs.Nesting.{side_pos, IsBlock-parent_of, Within-parent_
 use Rattle.quilt_blocks.proofs.Adding.{part_at}
 use Rattle.quilt_region.specs.Regions.{HasRegion}
 use Rattle.quilt_region.specs.Windows.{HasAround}
-use Rattle.quilt_region.proofs.Counting.{reads_then}
+use Rattle.quilt_world.proofs.ReadCounts.{reads_then}
 use Rattle.quilt_region.proofs.Nearby.{around_has, around_several, quarter_leaf}
 use Rattle.quilt_region.proofs.nearing.has_around.Goals as goal
 

@@ -1,6 +1,6 @@
 use Rattle.std.proofs.Common.{ℕ, [], ◌∙◌, ap}
 use Rattle.quilt_blocks.specs.Cutting.{pair_of}
-use Rattle.quilt_region.specs.Regions.{leaf_record}
+use Rattle.quilt_spell.specs.OfLayer.{leaf_record}
 use Rattle.quilt_region.proofs.Leaves.{none_made, one_made}
 use Rattle.quilt_region.proofs.planning.plan_new.Goals as goal
 

@@ -1,5 +1,6 @@
 use Rattle.std.proofs.Common.{◌≡◌, ◌++◌, map, length}
-use Rattle.quilt_region.specs.Regions.{leaf_record, region_records}
+use Rattle.quilt_spell.specs.OfLayer.{leaf_record}
+use Rattle.quilt_region.specs.Regions.{region_records}
 use Rattle.quilt_region.proofs.planning.plan_new.Given as goal
 
 abbrev pub invariant-loop-leaf : goal.invariant-loop-leaf

@@ -1,4 +1,5 @@
 use Rattle.std.proofs.Common.{◌≡◌, ◌+◌, ◌*◌, ◌<◌, [], ◌∷◌, sym, ◌∙◌, ap, subst, arith}
+use Rattle.std.proofs.lemmas.Result.{err_from_is_err_and}
 use Rattle.quilt_types.specs.declared.plane.Block.{Block}
 use Rattle.quilt_store.proofs.Reading.{only_reads_then, only_reads_err, only_reads_free}
 use Rattle.quilt_blocks.specs.Cutting.{pair_of}
@@ -19,72 +20,76 @@ leaf_with-requires-clause-in_x g c = let i = window_in c.args.level c.args.w c.r
 pub leaf_with-requires-clause-in_y : goal.leaf_with-requires-clause-in_y
 leaf_with-requires-clause-in_y g c = let i = window_in c.args.level c.args.w c.requires.window in let a = i.high in let b = i.bottom in omega arith
 
-pub returns-in-Err-block_up_to-clause-sound : goal.returns-in-Err-block_up_to-clause-sound
-returns-in-Err-block_up_to-clause-sound g c grid h = c.in-Err-block_up_to.ensures.sound grid
-    (subst (λ told. HasRegion told c.args.tree.now c.args.layer c.args.level grid) (sym c.in-Ok.ensures.left.told) h)
+pub returns-in_err-top-clause-sound : goal.returns-in_err-top-clause-sound
+returns-in_err-top-clause-sound g c =
+    let p = err_from_is_err_and c.from_residual-in_err-top.result c.from_residual-in_err-top.ensures.1 in
+    rw (p.1, p.2) (λ grid h. c.in_err-top.ensures.sound grid
+    (subst (λ told. HasRegion told c.args.tree.now c.args.layer c.args.level grid) (sym c.in_ok-leaf.ensures.left.told) h))
 
 pub plan_known-requires-clause-blocks : goal.plan_known-requires-clause-blocks
 plan_known-requires-clause-blocks g c =
-    record { read = c.in-Ok.ensures.block; top = c.in-Ok-block_up_to.ensures.block; inside = c.in-Ok-block_up_to.ensures.inside }
+    record { read = c.in_ok-leaf.ensures.block; top = c.in_ok-top.ensures.block; inside = c.in_ok-top.ensures.inside }
 
-pub returns-in-Ok-block_up_to-clause-plan : goal.returns-in-Ok-block_up_to-clause-plan
-returns-in-Ok-block_up_to-clause-plan g c =
+pub returns-clause-plan : goal.returns-clause-plan
+returns-clause-plan g c =
     if_ok_weaker c.plan_known.result
     (λ edits law grid h.
     let n = c.args.level in
-    let leaf = c.in-Ok.ensures.leaf grid h in
-    let cut_out = leaf_cut n grid (pair_of c.in-Ok.leaf) leaf.member in
-    let after = (subst (λ told. HasRegion told c.args.tree.now c.args.layer c.args.level grid) (sym c.in-Ok.ensures.left.told) h) in
-    let up = c.in-Ok-block_up_to.ensures in
+    let leaf = c.in_ok-leaf.ensures.leaf grid h in
+    let cut_out = leaf_cut n grid (pair_of c.in_ok-leaf.leaf) leaf.member in
+    let after = (subst (λ told. HasRegion told c.args.tree.now c.args.layer c.args.level grid) (sym c.in_ok-leaf.ensures.left.told) h) in
+    let up = c.in_ok-top.ensures in
     law grid (ap (λ (r : Record). r ∷ []) (c.region_record-record.ensures.written [])
-    ∙ sym (leaf_rows n c.args.layer grid (pair_of c.in-Ok.leaf) c.requires.level.1 leaf.member))
+    ∙ sym (leaf_rows n c.args.layer grid (pair_of c.in_ok-leaf.leaf) c.requires.level.1 leaf.member))
     (record {
-      blocks = record { read = c.in-Ok.ensures.block; top = up.block; inside = up.inside };
-      holds = pixel_in_block c.in-Ok.leaf.block c.args.w c.requires.wide c.requires.high leaf.holds;
+      blocks = record { read = c.in_ok-leaf.ensures.block; top = up.block; inside = up.inside };
+      holds = pixel_in_block c.in_ok-leaf.leaf.block c.args.w c.requires.wide c.requires.high leaf.holds;
       read_cut = cut_out;
       top_cut = up.cut_out grid after cut_out;
       around = up.same grid after;
       ends = up.ends grid after cut_out;
       other = c.other_colour.ensures.first;
-      first = λ e. c.other_colour.ensures.second (e ∙ (leaf_is n grid (pair_of c.in-Ok.leaf) leaf.member).colour.each _ leaf.holds);
+      first = λ e. c.other_colour.ensures.second (e ∙ (leaf_is n grid (pair_of c.in_ok-leaf.leaf) leaf.member).colour.each _ leaf.holds);
     }))
     c.plan_known.ensures.plan
 
-pub returns-in-Ok-block_up_to-clause-sound : goal.returns-in-Ok-block_up_to-clause-sound
-returns-in-Ok-block_up_to-clause-sound g c =
+pub returns-clause-sound : goal.returns-clause-sound
+returns-clause-sound g c =
     if_err_weaker c.plan_known.result
     (λ e law grid h.
     let n = c.args.level in
-    let leaf = c.in-Ok.ensures.leaf grid h in
-    let cut_out = leaf_cut n grid (pair_of c.in-Ok.leaf) leaf.member in
-    let after = (subst (λ told. HasRegion told c.args.tree.now c.args.layer c.args.level grid) (sym c.in-Ok.ensures.left.told) h) in
-    let up = c.in-Ok-block_up_to.ensures in
+    let leaf = c.in_ok-leaf.ensures.leaf grid h in
+    let cut_out = leaf_cut n grid (pair_of c.in_ok-leaf.leaf) leaf.member in
+    let after = (subst (λ told. HasRegion told c.args.tree.now c.args.layer c.args.level grid) (sym c.in_ok-leaf.ensures.left.told) h) in
+    let up = c.in_ok-top.ensures in
     law grid (ap (λ (r : Record). r ∷ []) (c.region_record-record.ensures.written [])
-    ∙ sym (leaf_rows n c.args.layer grid (pair_of c.in-Ok.leaf) c.requires.level.1 leaf.member))
+    ∙ sym (leaf_rows n c.args.layer grid (pair_of c.in_ok-leaf.leaf) c.requires.level.1 leaf.member))
     (record {
-      blocks = record { read = c.in-Ok.ensures.block; top = up.block; inside = up.inside };
-      holds = pixel_in_block c.in-Ok.leaf.block c.args.w c.requires.wide c.requires.high leaf.holds;
+      blocks = record { read = c.in_ok-leaf.ensures.block; top = up.block; inside = up.inside };
+      holds = pixel_in_block c.in_ok-leaf.leaf.block c.args.w c.requires.wide c.requires.high leaf.holds;
       read_cut = cut_out;
       top_cut = up.cut_out grid after cut_out;
       around = up.same grid after;
       ends = up.ends grid after cut_out;
       other = c.other_colour.ensures.first;
-      first = λ e. c.other_colour.ensures.second (e ∙ (leaf_is n grid (pair_of c.in-Ok.leaf) leaf.member).colour.each _ leaf.holds);
+      first = λ e. c.other_colour.ensures.second (e ∙ (leaf_is n grid (pair_of c.in_ok-leaf.leaf) leaf.member).colour.each _ leaf.holds);
     }))
     c.plan_known.ensures.sound
 
-pub returns-in-Ok-block_up_to-clause-reads : goal.returns-in-Ok-block_up_to-clause-reads
-returns-in-Ok-block_up_to-clause-reads g c =
-    let b = c.in-Ok.ensures.block in
+pub returns-clause-reads : goal.returns-clause-reads
+returns-clause-reads g c =
+    let b = c.in_ok-leaf.ensures.block in
     if_ok c.plan_known.result _
     (saved_less (24 * b.level) (6 + 24 * c.args.level) (6 + 24 * c.args.level) _ _ (omega arith)
-    (then_saved (24 * b.level) 6 (24 * c.args.level) (6 + 24 * c.args.level) _ _ _ (omega arith) c.in-Ok.ensures.reads
-    (c.in-Ok-block_up_to.ensures.reads b.level b.size)))
+    (then_saved (24 * b.level) 6 (24 * c.args.level) (6 + 24 * c.args.level) _ _ _ (omega arith) c.in_ok-leaf.ensures.reads
+    (c.in_ok-top.ensures.reads b.level b.size)))
 
-pub returns-in-Err-block_up_to-clause-left : goal.returns-in-Err-block_up_to-clause-left
-returns-in-Err-block_up_to-clause-left g c = only_reads_err _ (only_reads_then _ g.met.S.PageStore.goes_on _ _ _ c.in-Ok.ensures.left c.in-Err-block_up_to.ensures.left)
+pub returns-in_err-top-clause-left : goal.returns-in_err-top-clause-left
+returns-in_err-top-clause-left g c =
+    let p = err_from_is_err_and c.from_residual-in_err-top.result c.from_residual-in_err-top.ensures.1 in
+    rw (p.1, p.2) (only_reads_err _ (only_reads_then _ g.met.S.PageStore.goes_on _ _ _ c.in_ok-leaf.ensures.left c.in_err-top.ensures.left))
 
-pub returns-in-Ok-block_up_to-clause-left : goal.returns-in-Ok-block_up_to-clause-left
-returns-in-Ok-block_up_to-clause-left g c =
-    only_reads_free _ c.plan_known.result (only_reads_then _ g.met.S.PageStore.goes_on _ _ _ c.in-Ok.ensures.left c.in-Ok-block_up_to.ensures.left)
+pub returns-clause-left : goal.returns-clause-left
+returns-clause-left g c =
+    only_reads_free _ c.plan_known.result (only_reads_then _ g.met.S.PageStore.goes_on _ _ _ c.in_ok-leaf.ensures.left c.in_ok-top.ensures.left)
     c.plan_known.ensures.no_fault

@@ -9,7 +9,8 @@ use Rattle.quilt_record.specs.declared.edits.Edits.{Edits}
 use Rattle.quilt_region.specs.Regions.{HasRegion}
 use Rattle.quilt_region.specs.Windows.{HoldsWindow, leaves_within}
 use Rattle.quilt_region.proofs.Beside.{if_err_weaker, if_ok_weaker}
-use Rattle.quilt_region.proofs.Counting.{reads_more, then_saved, saved_less}
+use Rattle.quilt_world.proofs.ReadCounts.{reads_more}
+use Rattle.quilt_region.proofs.Counting.{then_saved, saved_less}
 use Rattle.quilt_region.proofs.Nearby.{pixel_block, pixel_holds, pixel_within, power_le}
 use Rattle.quilt_region.proofs.plans.QuarterPlans.{some_at}
 use Rattle.quilt_region.proofs.planning.plan_rect.Goals as goal

@@ -13,7 +13,7 @@ use Rattle.quilt_region.specs.Quarters.{records_without_in}
 use Rattle.quilt_region.specs.Regions.{HasRegion}
 use Rattle.quilt_region.specs.Windows.{Knows, leaves_within}
 use Rattle.quilt_region.proofs.Beside.{if_ok_weaker}
-use Rattle.quilt_region.proofs.Counting.{reads_then, reads_more}
+use Rattle.quilt_world.proofs.ReadCounts.{reads_then, reads_more}
 use Rattle.quilt_region.proofs.Nearby.{more_within}
 use Rattle.quilt_region.proofs.Parts.{block_room, window_room}
 use Rattle.quilt_region.proofs.plans.QuarterPlans.{without_part, part_several, with_part, top_inside}

@@ -1,7 +1,7 @@
 use Rattle.std.proofs.Common.{◌+◌, ◌*◌, ◌≤◌, rules, length, arith}
 use Rattle.quilt_region.specs.Windows.{leaves_within}
 use Rattle.quilt_region.proofs.Beside.{if_ok_weaker}
-use Rattle.quilt_region.proofs.Counting.{reads_more}
+use Rattle.quilt_world.proofs.ReadCounts.{reads_more}
 use Rattle.quilt_region.proofs.Nearby.{more_within}
 use Rattle.quilt_region.proofs.plans.QuarterPlans.{if_planned, if_some_plan}
 use Rattle.quilt_region.proofs.quartering.plan_apart.Goals as goal

@@ -3,7 +3,7 @@ use Rattle.quilt_types.specs.declared.plane.Pixel.{Pixel}
 use Rattle.quilt_types.specs.declared.stop.Stop.TheVariants.{Memory, Damaged}
 use Rattle.quilt_types.specs.Algebra.{painted}
 use Rattle.quilt_region.specs.Windows.{leaves_within}
-use Rattle.quilt_region.proofs.Counting.{reads_more}
+use Rattle.quilt_world.proofs.ReadCounts.{reads_more}
 use Rattle.quilt_region.proofs.plans.KnownPlans.{corner_in}
 use Rattle.quilt_region.proofs.Nearby.{window_corner}
 use Rattle.quilt_region.proofs.plans.Quarters.{quarter_with, few_in_quarters}

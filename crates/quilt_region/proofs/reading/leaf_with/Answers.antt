@@ -1,9 +1,10 @@
 use Rattle.std.proofs.Common.{◌≡◌, true, false, Option, Some, None, sym, ◌∙◌, ap, subst, List, Contains, arith}
 use Rattle.std.specs.Prelude.{IfSome, unwrap_or}
+use Rattle.std.proofs.lemmas.Option.{none-some}
 use Rattle.quilt_record.specs.declared.key.Key.{Key}
 use Rattle.quilt_record.specs.declared.record.Record.{Record}
 use Rattle.quilt_btree.specs.Lists.{floor_of}
-use Rattle.quilt_region.specs.Regions.{leaf_record}
+use Rattle.quilt_spell.specs.OfLayer.{leaf_record}
 use Rattle.quilt_btree.specs.Trees.{IsTree}
 use Rattle.quilt_btree.specs.Floors.{floor_pages, HoldsFirst, ReadsNone}
 use Rattle.quilt_types.specs.Plane.{in_block}
@@ -11,14 +12,14 @@ use Rattle.quilt_types.specs.Quadtrees.{leaves}
 use Rattle.quilt_loc.proofs.Blocks.{IsBlock-up, side_most, Holds-from}
 use Rattle.quilt_blocks.specs.Cutting.{pair_of}
 use Rattle.quilt_blocks.specs.declared.leaf.Leaf.{Leaf}
-use Rattle.quilt_region.proofs.Floors.{none_some, floor_found, leaf_read, read_same}
+use Rattle.quilt_region.proofs.Floors.{floor_found, leaf_read, read_same}
 use Rattle.quilt_region.proofs.reading.leaf_with.Goals as goal
 
 false_true : false ≡ true → ⊥
 false_true e = cc
 
 is_there : (o : Option Leaf) (l : Leaf) (P : Leaf → Type 0) → o ≡ Some l → IfSome o P → P l
-is_there None l P e h = absurd (none_some l e)
+is_there None l P e h = absurd (none-some l e)
 is_there (Some k) l P e h = subst P (ap (λ (o : Option Leaf). unwrap_or o l) e) h
 
 pub key_with-k-requires-clause-in_x : goal.key_with-k-requires-clause-in_x
@@ -38,7 +39,7 @@ returns-in-Ok-None-clause-sound g c grid h page e =
     let f =
     floor_found (g.S.PageStore.told c.args.store.now) c.args.tree.now c.args.layer c.args.level grid c.args.p _ _
     c.requires.level.1 c.requires.in_x c.requires.in_y c.key_with-k.ensures c.in-Ok-None.ensures.floor h in
-    none_some _ (sym c.in-Ok-None.field-0-is ∙ f.2)
+    none-some _ (sym c.in-Ok-None.field-0-is ∙ f.2)
 
 pub returns-in-Some-clause-leaf : goal.returns-in-Some-clause-leaf
 returns-in-Some-clause-leaf g c grid h =
@@ -67,7 +68,7 @@ returns-in_default-2-clause-sound g c grid h page e =
     leaf_read (g.S.PageStore.told c.args.store.now) c.args.tree.now c.args.layer c.args.level grid c.args.p _ _ c.in-Ok-Some.r c.leaf_of.result
     c.requires.layer c.requires.level.1 c.requires.in_x c.requires.in_y c.key_with-k.ensures c.in-Ok-Some.ensures.floor c.in-Ok-Some.field-0-is
     c.leaf_of.ensures.one h in
-    none_some _ (sym c.in_default.is ∙ f.is)
+    none-some _ (sym c.in_default.is ∙ f.is)
 
 pub returns-in-Err-clause-again : goal.returns-in-Err-clause-again
 returns-in-Err-clause-again g c =

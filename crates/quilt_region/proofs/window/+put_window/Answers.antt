@@ -1,6 +1,6 @@
 use Rattle.std.proofs.Common.{◌≡◌, ℕ, ◌+◌, ◌*◌, ◌/◌, take, get_or, length, sym, ◌∙◌, ap, subst, arith}
 use Rattle.std.specs.List.{sum_by}
-use Rattle.std.proofs.lemmas.Result.{on_ok_weaker}
+use Rattle.std.proofs.lemmas.Result.{on_ok_weaker, err_from_is_err_and}
 use Rattle.std.proofs.lemmas.List.Sums.{sum_by-take-le}
 use Rattle.quilt_store.proofs.Reading.{read_on}
 use Rattle.quilt_types.specs.declared.plane.Block.{Block}
@@ -14,7 +14,7 @@ use Rattle.quilt_btree.specs.Trees.{IsRooted}
 use Rattle.quilt_region.specs.Regions.{HasRegion}
 use Rattle.quilt_region.specs.Windows.{leaves_within}
 use Rattle.quilt_region.specs.Covers.{cover_of, cover_colour, cost_in}
-use Rattle.quilt_region.proofs.Counting.{reads_then, reads_more}
+use Rattle.quilt_world.proofs.ReadCounts.{reads_then, reads_more}
 use Rattle.quilt_region.proofs.Covers.{beside_cover, met_cover, in_cover, wide_over, half_over, cost_here, cost_quarters, quarter_sum}
 use Rattle.quilt_region.proofs.Parts.{block_room, window_room, HasColours-push}
 use Rattle.quilt_region.proofs.window.+put_window.Goals as goal
@@ -99,16 +99,17 @@ put_window-requires g t c κs within =
       ),
     )
 
-pub returns-in-Err-put_window-clause-sound : goal.returns-in-Err-put_window-clause-sound
-returns-in-Err-put_window-clause-sound g t c grid h =
-    c.in-Err-put_window.ensures.sound grid (subst (λ told. HasRegion told c.args.tree.now c.args.layer c.args.level grid)
-    (sym c.loop-q.invariant.left.told) h)
+pub returns-in_err-put_window-clause-sound : goal.returns-in_err-put_window-clause-sound
+returns-in_err-put_window-clause-sound g t c =
+    let p = err_from_is_err_and c.from_residual.result c.from_residual.ensures.1 in
+    rw (p.1, p.2) (λ grid h. c.in_err-put_window.ensures.sound grid (subst (λ told. HasRegion told c.args.tree.now c.args.layer c.args.level grid)
+    (sym c.loop-q.invariant.left.told) h))
 
 pub loop-q-preserved : goal.loop-q-preserved
 loop-q-preserved g t c =
     let n = c.args.level in
     let inv = c.loop-q.invariant in
-    let more = c.in-Ok-put_window.ensures in
+    let more = c.in_ok-put_window.ensures in
     let wide = wide_over c.args.side c.args.b c.requires.over.power c.requires.wide c.if-b-side.false in
     let q = part_at n c.args.b c.quarters-q-items.result c.loop-q.q-index zero_block c.requires.level.1 c.requires.block wide
     c.quarters-q-items.ensures.value c.loop-q-test.true in

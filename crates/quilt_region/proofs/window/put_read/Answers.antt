@@ -5,7 +5,8 @@ use Rattle.quilt_blocks.specs.Painting.{Painted}
 use Rattle.quilt_region.specs.Regions.{HasRegion}
 use Rattle.quilt_region.specs.Windows.{leaves_within}
 use Rattle.quilt_region.proofs.Beside.{if_err_weaker}
-use Rattle.quilt_region.proofs.Counting.{reads_then, reads_plain}
+use Rattle.quilt_world.proofs.ReadCounts.{reads_then}
+use Rattle.quilt_region.proofs.Counting.{reads_plain}
 use Rattle.quilt_region.proofs.Covers.{smaller_cut, larger_colour}
 use Rattle.quilt_region.proofs.Parts.{HasColours-push}
 use Rattle.quilt_region.proofs.window.put_read.Goals as goal

@@ -1,8 +1,7 @@
 use Rattle.std.proofs.Common.{◌≡◌, ℕ, ◌+◌, ◌-◌, ◌≤◌, ◌<◌, Some, None, ⊎_elim, sym, ◌∙◌, ap, arith}
 use Rattle.std.proofs.lemmas.Bool.{cases_eq, cases_lt}
 use Rattle.std.specs.FinMap as finmap
-use Rattle.std.proofs.lemmas.Option.{none-some}
-use Rattle.quilt_record.proofs.Readers.{pair_same}
+use Rattle.std.proofs.lemmas.Option.{none-some, some_pair_parts}
 use Rattle.quilt_near.specs.Knowing.{known_seg}
 use Rattle.quilt_near.proofs.Knowing.{knows_more, stays_more}
 use Rattle.quilt_lines.specs.Reads.{segment_key}
@@ -34,7 +33,7 @@ returns-in_default-clause-sound g c l h all page e =
     (λ q from lt. all q from (below run.first run.last q c.requires.some lt)) c.loop-r.r-index _ c.loop-r-test.true c.segment_said.result c.segment_said.ensures.one in
     elim c.in_default.branch [
       | in_default-via-in-Some+else-from-next w ↦
-          let same = pair_same w.in-Some.id (run.first + c.loop-r.r-index) w.in-Some.s said.0 (sym w.in-Some.is ∙ said.1) in
+          let same = some_pair_parts w.in-Some.id (run.first + c.loop-r.r-index) w.in-Some.s said.0 (sym w.in-Some.is ∙ said.1) in
           let id = same.0 in
           let from = w.from.ensures in
           let no = w.if-from-next.false in
@@ -70,7 +69,7 @@ loop-r-preserved g c =
           (c.segment_key-high.ensures ∙ ap (segment_key self.layer) (last_is run.first run.last c.requires.some))
           (λ rs is. c.deref-r-items.ensures.value ∙ c.in-Ok.ensures.range rs is) self.has_level.1 h.has c.loop-r.r-index _ c.loop-r-test.true
           c.segment_said.result c.segment_said.ensures.one in
-          let p = pair_same id w.0.0 c.in-Some.s w.0.1 (sym c.in-Some.is ∙ w.2) in
+          let p = some_pair_parts id w.0.0 c.in-Some.s w.0.1 (sym c.in-Some.is ∙ w.2) in
           ap (finmap.get l.segs) p.0 ∙ w.1 ∙ ap Some (sym p.1));
       stays = λ q t e. stays_more c.loop-r.known c.keep.new.self id c.in-Some.s here others none q t (i.stays q t e);
       many = omega arith;

@@ -1,6 +1,5 @@
 use Rattle.std.proofs.Common.{Some, sym, ◌∙◌, ap}
-use Rattle.std.proofs.lemmas.Option.{none-some}
-use Rattle.quilt_record.proofs.Readers.{pair_same}
+use Rattle.std.proofs.lemmas.Option.{none-some, some_pair_parts}
 use Rattle.quilt_lines.proofs.Lookups.{none_found, found}
 use Rattle.quilt_lines.proofs.Saying.{sound_zero, segment_at, none_at}
 use Rattle.quilt_lines.proofs.view.LineView.segment_from.Goals as goal
@@ -18,7 +17,7 @@ returns-in-Some-clause-segment g c t segs cover h =
     let f = found (g.S.PageStore.told c.args.store.now) c.args.self.now.tree c.args.self.now.layer c.args.self.now.level t segs cover c.args.id _ _
     c.segment_key-key.ensures c.in-Ok-Some.ensures.value h _ c.in-Ok-Some.field-0-is
     c.args.self.now.has_level.1 c.segment_said.result c.segment_said.ensures.one in
-    ap Some (pair_same c.in-Some.field-0-0 c.args.id c.in-Some.s f.seg (sym c.in-Some.is ∙ f.is_said)).1 ∙ sym f.got
+    ap Some (some_pair_parts c.in-Some.field-0-0 c.args.id c.in-Some.s f.seg (sym c.in-Some.is ∙ f.is_said)).1 ∙ sym f.got
 
 pub returns-in-None-clause-sound : goal.returns-in-None-clause-sound
 returns-in-None-clause-sound g c t segs cover h page e =

@@ -1,6 +1,6 @@
 use Rattle.std.proofs.Common.{ℕ, ◌+◌, ◌≤◌, List, true, false, refl, ◌∙◌, ap, subst}
 use Rattle.quilt_world.specs.Tale.{Goes}
-use Rattle.quilt_region.proofs.Counting.{reads_none}
+use Rattle.quilt_world.proofs.ReadCounts.{reads_none}
 use Rattle.quilt_node.specs.declared.head.Head.{Head}
 use Rattle.quilt_types.specs.declared.code.Code.TheVariants as no
 use Rattle.quilt_replies.specs.Answers.{Refused, layer, grid_in}

@@ -6,7 +6,7 @@ use Rattle.quilt_record.specs.declared.entry.Entry.{Entry}
 use Rattle.quilt_record.specs.Records.{record_of}
 use Rattle.quilt_record.specs.Listing.{kind_fact}
 use Rattle.quilt_blocks.specs.Cutting.{leaves_by_code}
-use Rattle.quilt_region.proofs.Counting.{reads_none}
+use Rattle.quilt_world.proofs.ReadCounts.{reads_none}
 use Rattle.quilt_region.proofs.Records.{region_length}
 use Rattle.quilt_spell.specs.Catalogued.{IsCatalogOf}
 use Rattle.quilt_map.specs.Asking.{reads_in}
