@@ -14,9 +14,9 @@ use Rattle.quilt_top.specs.Stronger.{KeepsMore}
 use Rattle.quilt_top.proofs.InTurn.{shut_more}
 use Rattle.quilt_top.specs.Headline.{KeepsPromises, WhereTold, FindsFile, IsUsage, IsDoorOf, allowed_doors, is_allowed, HasEndCause}
 use Rattle.quilt_host.specs.Story.{Story}
-use Rattle.quilt_host.specs.Calls.{Says, SaysFront}
-use Rattle.quilt_host.specs.Worlds.{tale_of, IsFresh, IsKept}
-use Rattle.quilt.specs.Program.{line_of, lines_of, order_of, IfTold, Does, unsaid, Runs}
+use Rattle.quilt_host.specs.Calls.{SaysLine, SaysFront}
+use Rattle.quilt_host.specs.Worlds.{tale_of, IsUnasked, IsFileKept}
+use Rattle.quilt.specs.Program.{line_of, lines_of_end, order_of_call, IfTold, Does, unsaid, Runs}
 
 -- ---- a world over the system
 
@@ -27,7 +27,7 @@ untaken_first (Some s) = refl
 
 -- what is promised of the tale of the world is promised of the story that it was read off
 pub does_of_tales : (order : Option Order) (end : End) (o n : Option Story) (told now : Option Tale) (before faults : ℕ) (door : Door) (pages reads writes : ℕ)
-    → told ≡ option_map (tale_of doors.Shut 0 0 0) o → now ≡ option_map (tale_of door pages reads writes) n → before ≡ 0 → IfSome n (IsKept door)
+    → told ≡ option_map (tale_of doors.Shut 0 0 0) o → now ≡ option_map (tale_of door pages reads writes) n → before ≡ 0 → IfSome n (IsFileKept door)
     → IsUsage order end → (order ≡ None → n ≡ o) → HasEndCause order before faults door end
     → WhereTold (KeepsPromises order (Rose before faults) door end) told now → WhereTold (KeepsMore order door end) told now → IfTold (Does order end) o n
 does_of_tales order end None n told now before faults door pages reads writes is_told is_now zero kept usage untouched cause promises more = tt
@@ -126,7 +126,7 @@ cause_usage = record {
 }
 
 -- what holds before the first call
-kept_first : (s : Story) → IsFresh s → IsKept doors.Shut s
+kept_first : (s : Story) → IsUnasked s → IsFileKept doors.Shut s
 kept_first s fresh = record {
   there = λ was. fresh.file ∙ was;
   owes = λ apart. fresh.owes;
@@ -134,7 +134,7 @@ kept_first s fresh = record {
   says = fresh.says;
 }
 
-pub memory_at_once : (order : Option Order) (s : Story) → IsFresh s → Does order ends.Memory s s
+pub memory_at_once : (order : Option Order) (s : Story) → IsUnasked s → Does order ends.Memory s s
 memory_at_once order s fresh = record {
   door = doors.Shut;
   pages = 0;
@@ -149,7 +149,7 @@ memory_at_once order s fresh = record {
   kept = kept_first s fresh;
 }
 
-pub usage_at_once : (s : Story) → IsFresh s → Does None ends.Usage s s
+pub usage_at_once : (s : Story) → IsUnasked s → Does None ends.Usage s s
 usage_at_once s fresh = record {
   door = doors.Shut;
   pages = 0;
@@ -165,36 +165,36 @@ usage_at_once s fresh = record {
 }
 
 -- where nothing was done
-pub told_at_once : (step : Story → Story → Type 0) (o n : Option Story) → IfSome o IsFresh → n ≡ o → ((s : Story) → IsFresh s → step s s) → IfTold step o n
+pub told_at_once : (step : Story → Story → Type 0) (o n : Option Story) → IfSome o IsUnasked → n ≡ o → ((s : Story) → IsUnasked s → step s s) → IfTold step o n
 told_at_once step None n fresh same here = tt
 told_at_once step (Some s) n fresh same here = subst (λ (m : Option Story). IfTold step (Some s) m) (sym same) (here s fresh)
 
 -- the words are those of the call
 pub told_words : (words : List (List ℕ)) (end : End) (o m n : Option Story) → m ≡ o → IfSome o (λ s. s.words ≡ Some words)
-    → IfTold (Does (asked_for (drop 1 words)) end) m n → IfTold (λ s. Does (order_of s.words) end s) o n
+    → IfTold (Does (asked_for (drop 1 words)) end) m n → IfTold (λ s. Does (order_of_call s.words) end s) o n
 told_words words end None m n same are does = tt
 told_words words end (Some s) m n same are does =
     let here : IfTold (Does (asked_for (drop 1 words)) end) (Some s) n = subst (λ (x : Option Story). IfTold (Does (asked_for (drop 1 words)) end) x n) same does in
     by_after n here
   where
-    by_after : (n : Option Story) → IfTold (Does (asked_for (drop 1 words)) end) (Some s) n → IfTold (λ s. Does (order_of s.words) end s) (Some s) n
+    by_after : (n : Option Story) → IfTold (Does (asked_for (drop 1 words)) end) (Some s) n → IfTold (λ s. Does (order_of_call s.words) end s) (Some s) n
     by_after None none = none
-    by_after (Some u) does = subst (λ (w : Option (List (List ℕ))). Does (order_of w) end s u) (sym are) does
+    by_after (Some u) does = subst (λ (w : Option (List (List ℕ))). Does (order_of_call w) end s u) (sym are) does
 
 -- no text
-pub usage_told : (o n : Option Story) → IfSome o IsFresh → n ≡ o → IfSome o (λ s. s.words ≡ None) → IfTold (λ s. Does (order_of s.words) ends.Usage s) o n
+pub usage_told : (o n : Option Story) → IfSome o IsUnasked → n ≡ o → IfSome o (λ s. s.words ≡ None) → IfTold (λ s. Does (order_of_call s.words) ends.Usage s) o n
 usage_told None n fresh same none = tt
 usage_told (Some s) n fresh same none =
-    subst (λ (m : Option Story). IfTold (λ (x : Story). Does (order_of x.words) ends.Usage x) (Some s) m) (sym same)
-    (subst (λ (w : Option (List (List ℕ))). Does (order_of w) ends.Usage s s) (sym none) (usage_at_once s fresh))
+    subst (λ (m : Option Story). IfTold (λ (x : Story). Does (order_of_call x.words) ends.Usage x) (Some s) m) (sym same)
+    (subst (λ (w : Option (List (List ℕ))). Does (order_of_call w) ends.Usage s s) (sym none) (usage_at_once s fresh))
 
-pub memory_told : (o n : Option Story) → IfSome o IsFresh → n ≡ o → IfTold (λ s. Does (order_of s.words) ends.Memory s) o n
-memory_told o n fresh same = told_at_once (λ s. Does (order_of s.words) ends.Memory s) o n fresh same (λ s first. memory_at_once (order_of s.words) s first)
+pub memory_told : (o n : Option Story) → IfSome o IsUnasked → n ≡ o → IfTold (λ s. Does (order_of_call s.words) ends.Memory s) o n
+memory_told o n fresh same = told_at_once (λ s. Does (order_of_call s.words) ends.Memory s) o n fresh same (λ s first. memory_at_once (order_of_call s.words) s first)
 
 -- ---- the line of the end
 
 -- an end has one line, or none
-lined : (end : End) → ((line_of end ≡ []) × (lines_of end ≡ 0)) ⊎ ((line_of end ≢ []) × (lines_of end ≡ 1))
+lined : (end : End) → ((line_of end ≡ []) × (lines_of_end end ≡ 0)) ⊎ ((line_of end ≢ []) × (lines_of_end end ≡ 1))
 lined ends.Done = inl (refl, refl)
 lined ends.Refused = inl (refl, refl)
 lined ends.Usage = inr (λ e. (let no : line_of ends.Usage ≡ [] = e in cc), refl)
@@ -219,10 +219,10 @@ any_err (Ok x) P p = tt
 any_err (Err e) P p = p
 
 -- no line is written
-runs_silent : {T E : Type 0} (end : End) (said : Result T E) (s u : Story) → line_of end ≡ [] → lines_of end ≡ 0 → Does (order_of s.words) end s u
+runs_silent : {T E : Type 0} (end : End) (said : Result T E) (s u : Story) → line_of end ≡ [] → lines_of_end end ≡ 0 → Does (order_of_call s.words) end s u
     → Runs end said s u
 runs_silent end said s u none zero does = record {
-  does = subst (λ (x : Story). Does (order_of s.words) end s x) (unsaid_first u does.kept.said does.kept.says) does;
+  does = subst (λ (x : Story). Does (order_of_call s.words) end s x) (unsaid_first u does.kept.said does.kept.says) does;
   line = any_ok said (u.said ≡ line_of end) (does.kept.said ∙ sym none);
   front = any_err said (Begins (line_of end) u.said) (line_of end, ap (λ l. l ++ line_of end) (sym does.kept.said));
   once = does.kept.says ∙ sym zero;
@@ -243,25 +243,25 @@ says_written : (end : End) (front : List ℕ) (order : Option Order) (s u v : St
 says_written end front order s u v does now = ap (λ (x : Story). x.says) now ∙ ap next_count does.kept.says
 
 -- the line is written, or a front of it
-runs_written : {T E : Type 0} (end : End) (said : Result T E) (s u : Story) (n : Option Story) → lines_of end ≡ 1 → Does (order_of s.words) end s u
-    → OnOk said (Goes (Says (line_of end)) (Some u) n) → OnErr said (Goes (SaysFront (line_of end)) (Some u) n) → IfTold (Runs end said) (Some s) n
+runs_written : {T E : Type 0} (end : End) (said : Result T E) (s u : Story) (n : Option Story) → lines_of_end end ≡ 1 → Does (order_of_call s.words) end s u
+    → OnOk said (Goes (SaysLine (line_of end)) (Some u) n) → OnErr said (Goes (SaysFront (line_of end)) (Some u) n) → IfTold (Runs end said) (Some s) n
 runs_written end (Ok x) s u None one does line front = line
 runs_written end (Err e) s u None one does line front = front
 runs_written end (Ok x) s u (Some v) one does line front = record {
-  does = unsaid_written (order_of s.words) end (line_of end) s u v does line;
-  line = said_written end (line_of end) (order_of s.words) s u v does line;
+  does = unsaid_written (order_of_call s.words) end (line_of end) s u v does line;
+  line = said_written end (line_of end) (order_of_call s.words) s u v does line;
   front = tt;
-  once = says_written end (line_of end) (order_of s.words) s u v does line ∙ sym one;
+  once = says_written end (line_of end) (order_of_call s.words) s u v does line ∙ sym one;
 }
 runs_written end (Err e) s u (Some v) one does line w = record {
-  does = unsaid_written (order_of s.words) end w.front s u v does w.now;
+  does = unsaid_written (order_of_call s.words) end w.front s u v does w.now;
   line = tt;
-  front = (w.rest, w.said ∙ ap (λ l. l ++ w.rest) (sym (said_written end w.front (order_of s.words) s u v does w.now)));
-  once = says_written end w.front (order_of s.words) s u v does w.now ∙ sym one;
+  front = (w.rest, w.said ∙ ap (λ l. l ++ w.rest) (sym (said_written end w.front (order_of_call s.words) s u v does w.now)));
+  once = says_written end w.front (order_of_call s.words) s u v does w.now ∙ sym one;
 }
 
-pub runs_of : {T E : Type 0} (end : End) (said : Result T E) (o m n : Option Story) → IfTold (λ s. Does (order_of s.words) end s) o m
-    → (line_of end ≡ [] → n ≡ m) → (line_of end ≢ [] → OnOk said (Goes (Says (line_of end)) m n)) → OnErr said (Goes (SaysFront (line_of end)) m n)
+pub runs_of : {T E : Type 0} (end : End) (said : Result T E) (o m n : Option Story) → IfTold (λ s. Does (order_of_call s.words) end s) o m
+    → (line_of end ≡ [] → n ≡ m) → (line_of end ≢ [] → OnOk said (Goes (SaysLine (line_of end)) m n)) → OnErr said (Goes (SaysFront (line_of end)) m n)
     → IfTold (Runs end said) o n
 runs_of end said None m n does none line front = tt
 runs_of end said (Some s) None n does none line front = absurd does

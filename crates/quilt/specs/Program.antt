@@ -10,7 +10,7 @@ use Rattle.quilt_top.specs.Words.{Order, asked_for}
 use Rattle.quilt_top.specs.Headline.{KeepsPromises, IsUsage, HasEndCause}
 use Rattle.quilt_top.specs.Stronger.{KeepsMore}
 use Rattle.quilt_host.specs.Story.{Story}
-use Rattle.quilt_host.specs.Worlds.{tale_of, IsKept}
+use Rattle.quilt_host.specs.Worlds.{tale_of, IsFileKept}
 
 -- the line of each end on standard error, without its end; none where the input was read to its end
 abbrev pub line_of : End → List ℕ
@@ -26,22 +26,22 @@ line_of TooMuch = codes "quilt: input too long"
 line_of (Damaged page) = codes "quilt: damaged page " ++ decimal page
 
 -- how many lines an end has
-abbrev pub lines_of : End → ℕ
-lines_of Done = 0
-lines_of Refused = 0
-lines_of Usage = 1
-lines_of Device = 1
-lines_of Memory = 1
-lines_of NotMap = 1
-lines_of Missing = 1
-lines_of Taken = 1
-lines_of TooMuch = 1
-lines_of (Damaged page) = 1
+abbrev pub lines_of_end : End → ℕ
+lines_of_end Done = 0
+lines_of_end Refused = 0
+lines_of_end Usage = 1
+lines_of_end Device = 1
+lines_of_end Memory = 1
+lines_of_end NotMap = 1
+lines_of_end Missing = 1
+lines_of_end Taken = 1
+lines_of_end TooMuch = 1
+lines_of_end (Damaged page) = 1
 
 -- what the words of a call ask for: those behind the program's name, and nothing where a word is no text
-abbrev pub order_of : Option (List (List ℕ)) → Option Order
-order_of None = None
-order_of (Some words) = asked_for (drop 1 words)
+abbrev pub order_of_call : Option (List (List ℕ)) → Option Order
+order_of_call None = None
+order_of_call (Some words) = asked_for (drop 1 words)
 
 -- a system that tells goes on telling, and its story goes on so
 abbrev pub IfTold : (Story → Story → Type 0) → Option Story → Option Story → Type 0
@@ -62,7 +62,7 @@ pub record Does (order : Option Order) (end : End) (before after : Story) : Type
   pub cause : HasEndCause order 0 faults door end
   pub promises : KeepsPromises order (Rose 0 faults) door end (tale_of doors.Shut 0 0 0 before) (tale_of door pages reads writes after)
   pub more : KeepsMore order door end (tale_of doors.Shut 0 0 0 before) (tale_of door pages reads writes after)
-  pub kept : IsKept door after
+  pub kept : IsFileKept door after
 
 -- the story as if nothing had been written to standard error
 abbrev pub unsaid : Story → Story
@@ -70,7 +70,7 @@ unsaid s = record s { said = []; says = 0 }
 
 -- What a run of the program does: what the words of the call ask for, and then the one line of the end, whole or, where it cannot be written, a front of it.
 pub record Runs {T E : Type 0} (end : End) (said : Result T E) (before after : Story) : Type 0 where
-  pub does : Does (order_of before.words) end before (unsaid after)
+  pub does : Does (order_of_call before.words) end before (unsaid after)
   pub line : OnOk said (after.said ≡ line_of end)
   pub front : OnErr said (Begins (line_of end) after.said)
-  pub once : after.says ≡ lines_of end
+  pub once : after.says ≡ lines_of_end end

@@ -1,6 +1,6 @@
 ghost use Rattle.std.specs.Prelude.{◌≡◌, ◌≢◌, [], ◌++◌, OnOk, OnErr, IsOk, codes, decimal};
 ghost use Rattle.quilt_world.specs.Tale.{Goes};
-ghost use Rattle.quilt_host.specs.Calls.{Says, SaysFront};
+ghost use Rattle.quilt_host.specs.Calls.{SaysLine, SaysFront};
 ghost use Rattle.quilt.specs.Program.{line_of};
 
 use arrayvec::ArrayString;
@@ -23,7 +23,7 @@ fn damage_line(page: u32) -> ArrayString<32>
 pub(crate) fn report<S: System>(system: &mut S, end: End) -> Result<(), Failure>
     ensures none { line_of end ≡ [] → S.told system.new ≡ S.told system.old }
     ensures well { line_of end ≡ [] → IsOk result }
-    ensures said { line_of end ≢ [] → OnOk result (Goes (Says (line_of end)) (S.told system.old) (S.told system.new)) }
+    ensures said { line_of end ≢ [] → OnOk result (Goes (SaysLine (line_of end)) (S.told system.old) (S.told system.new)) }
     ensures front { OnErr result (Goes (SaysFront (line_of end)) (S.told system.old) (S.told system.new)) }
 {
     match end {

@@ -1,9 +1,9 @@
 ghost use Rattle.std.specs.Prelude.{◌≡◌, Some, drop, map, string_bytes, IfOk, IfSome};
 ghost use Rattle.std.specs.Process.{exit_status};
-ghost use Rattle.quilt_host.specs.Worlds.{IsFresh};
+ghost use Rattle.quilt_host.specs.Worlds.{IsUnasked};
 ghost use Rattle.quilt_top.specs.Ends.{status_of};
 ghost use Rattle.quilt_top.specs.Words.{asked_for};
-ghost use Rattle.quilt.specs.Program.{Does, Runs, IfTold, order_of};
+ghost use Rattle.quilt.specs.Program.{Does, Runs, IfTold, order_of_call};
 
 use crate::report::report;
 use crate::room::has_room;
@@ -50,7 +50,7 @@ fn run_texts<'a, R: Threads + Sync, S: System>(
     texts: &'a [&'a str],
     system: S,
 ) -> (End, S)
-    requires { IfSome (S.told system) IsFresh }
+    requires { IfSome (S.told system) IsUnasked }
     ensures { IfTold (Does (asked_for (map (λ t. t.now) texts.entry.now)) result.0) (S.told system) (S.told result.1) }
 {
     let (end, world) = run_quilt(rt, alloc, texts, HostWorld::new(system));
@@ -64,7 +64,7 @@ fn run_words<R: Threads + Sync, S: System>(
     words: &[String],
     system: S,
 ) -> (End, S)
-    requires { IfSome (S.told system) IsFresh }
+    requires { IfSome (S.told system) IsUnasked }
     ensures { IfTold (Does (asked_for (drop 1 (map string_bytes words.now))) result.0) (S.told system) (S.told result.1) }
 {
     let Ok(texts) = texts_of(alloc, behind_first(words)) else {
@@ -85,8 +85,8 @@ fn code_of(end: End) -> ExitCode
 
 /// Does what the words of the call ask for.
 fn run_call<R: Threads + Sync, S: System>(rt: &R, alloc: Global, system: S) -> (End, S)
-    requires { IfSome (S.told system) IsFresh }
-    ensures { IfTold (λ before. Does (order_of before.words) result.0 before) (S.told system) (S.told result.1) }
+    requires { IfSome (S.told system) IsUnasked }
+    ensures { IfTold (λ before. Does (order_of_call before.words) result.0 before) (S.told system) (S.told result.1) }
 {
     let mut system = system;
     match system.words(alloc) {
@@ -100,7 +100,7 @@ fn run_call<R: Threads + Sync, S: System>(rt: &R, alloc: Global, system: S) -> (
 /// Does what the words of the call ask for, and writes the line of its end to standard error. The status tells the end even where
 /// its line cannot be written.
 pub(crate) fn run<R: Threads + Sync, S: System>(rt: &R, alloc: Global, system: S) -> Ran<S>
-    requires { IfSome (S.told system) IsFresh }
+    requires { IfSome (S.told system) IsUnasked }
     ensures code { exit_status result.code ≡ status_of result.end }
     ensures runs { IfTold (Runs result.end result.said) (S.told system) (S.told result.system) }
 {

@@ -9,7 +9,7 @@ use Rattle.quilt_loc.specs.Codes.{code_from, code_to}
 use Rattle.quilt_loc.proofs.Members.{Contains-nil, Contains-cons_cases, Contains-map, Contains-map_from}
 use Rattle.quilt_loc.proofs.Intervals.{HasQuarterCodes, code_held, half_codes, square_pos}
 use Rattle.quilt_blocks.specs.Listing.{Follows}
-use Rattle.quilt_blocks.specs.Walk.{size_of}
+use Rattle.quilt_blocks.specs.Walk.{pixel_count}
 use Rattle.quilt_blocks.proofs.Chains.{LiesIn, size_of-nil, size_of-cons, member_pos, Follows-member, member_with}
 use Rattle.quilt_audit.specs.Covers.{AreFour, no_blocks}
 use Rattle.quilt_audit.specs.Points.{plain}
@@ -20,24 +20,24 @@ module _ (n : ℕ) where
   covers_front at [] ys h = tt
   covers_front at (x ∷ xs) ys h = (h.0, h.1, covers_front (at + x.side * x.side) xs ys h.2)
 
-  pub covers_back : (at : ℕ) (xs ys : List Block) → Follows n at (map plain (xs ++ ys)) → Follows n (at + size_of (map plain xs)) (map plain ys)
+  pub covers_back : (at : ℕ) (xs ys : List Block) → Follows n at (map plain (xs ++ ys)) → Follows n (at + pixel_count (map plain xs)) (map plain ys)
   covers_back at [] ys h =
       let z = size_of-nil in
-      let e : at ≡ at + size_of [] = omega arith in
+      let e : at ≡ at + pixel_count [] = omega arith in
       subst (λ (a : ℕ). Follows n a (map plain ys)) e h
   covers_back at (x ∷ xs) ys h =
       let c = size_of-cons (plain x) (map plain xs) in
-      let e : at + x.side * x.side + size_of (map plain xs) ≡ at + size_of (map plain (x ∷ xs)) = omega arith in
+      let e : at + x.side * x.side + pixel_count (map plain xs) ≡ at + pixel_count (map plain (x ∷ xs)) = omega arith in
       subst (λ (a : ℕ). Follows n a (map plain ys)) e (covers_back (at + x.side * x.side) xs ys h.2)
 
-  pub covers_more : (at : ℕ) (xs : List Block) (b : Block) → Follows n at (map plain xs) → IsBlock n b → code_from b ≡ at + size_of (map plain xs)
+  pub covers_more : (at : ℕ) (xs : List Block) (b : Block) → Follows n at (map plain xs) → IsBlock n b → code_from b ≡ at + pixel_count (map plain xs)
       → Follows n at (map plain (xs ++ b ∷ []))
   covers_more at [] b h hb e = let z = size_of-nil in (hb, omega arith, tt)
   covers_more at (x ∷ xs) b h hb e =
       let c = size_of-cons (plain x) (map plain xs) in
       (h.0, h.1, covers_more (at + x.side * x.side) xs b h.2 hb (omega arith))
 
-  pub covered_more : (xs : List Block) (b : Block) → size_of (map plain (xs ++ b ∷ [])) ≡ size_of (map plain xs) + b.side * b.side
+  pub covered_more : (xs : List Block) (b : Block) → pixel_count (map plain (xs ++ b ∷ [])) ≡ pixel_count (map plain xs) + b.side * b.side
   covered_more [] b = let z = size_of-nil in let c = size_of-cons (plain b) [] in omega arith
   covered_more (x ∷ xs) b =
       let c = size_of-cons (plain x) (map plain xs) in
@@ -45,11 +45,11 @@ module _ (n : ℕ) where
       let r = covered_more xs b in
       omega arith
 
-  pub block_lies : (bs : List Block) (b : Block) → Follows n 0 (map plain bs) → Contains bs b → LiesIn n 0 (0 + size_of (map plain bs)) b
+  pub block_lies : (bs : List Block) (b : Block) → Follows n 0 (map plain bs) → Contains bs b → LiesIn n 0 (0 + pixel_count (map plain bs)) b
   block_lies bs b h c = Follows-member n 0 (map plain bs) (plain b) h (Contains-map plain bs b c)
 
   -- the block that has a code
-  pub block_with : (bs : List Block) (k : ℕ) → Follows n 0 (map plain bs) → k < size_of (map plain bs)
+  pub block_with : (bs : List Block) (k : ℕ) → Follows n 0 (map plain bs) → k < pixel_count (map plain bs)
       → (b : Block) × Contains bs b × (code_from b ≤ k) × (k < code_to b)
   block_with bs k h lt =
       let w = member_with n 0 (map plain bs) k h (omega arith) (omega arith) in
@@ -58,7 +58,7 @@ module _ (n : ℕ) where
       (m.0, m.1, subst (λ (z : Block). code_from z ≤ k) (sym e) w.2, subst (λ (z : Block). k < code_to z) (sym e) w.3)
 
   -- the last block begins where those before it end
-  pub last_from : (xs : List Block) (b : Block) → Follows n 0 (map plain (xs ++ b ∷ [])) → IsBlock n b × (code_from b ≡ size_of (map plain xs))
+  pub last_from : (xs : List Block) (b : Block) → Follows n 0 (map plain (xs ++ b ∷ [])) → IsBlock n b × (code_from b ≡ pixel_count (map plain xs))
   last_from xs b h = let k = covers_back 0 xs (b ∷ []) h in (k.0, let e = k.1 in omega arith)
 
   -- and shares no pixel with them
@@ -75,7 +75,7 @@ module _ (n : ℕ) where
       omega arith
 
   -- the block that ends where all end is the last one
-  last_is : (at : ℕ) (bs : List Block) (b : Block) → Follows n at (map plain bs) → Contains bs b → code_to b ≡ at + size_of (map plain bs)
+  last_is : (at : ℕ) (bs : List Block) (b : Block) → Follows n at (map plain bs) → Contains bs b → code_to b ≡ at + pixel_count (map plain bs)
       → (ys : List Block) × (bs ≡ ys ++ b ∷ [])
   last_is at [] b h c e = absurd (Contains-nil b c)
   last_is at (x ∷ []) b h c e = ⊎_elim (λ is. ([], ap (λ (z : Block). z ∷ []) is)) (λ d. absurd (Contains-nil b d)) (Contains-cons_cases x [] b c)
@@ -85,7 +85,7 @@ module _ (n : ℕ) where
       let f = h.1 in
       let py = member_pos n y h.2.0 in
       ⊎_elim
-      (λ is. let e' : code_to x ≡ at + size_of (map plain (x ∷ y ∷ ys)) = ap (λ (z : Block). code_to z) is ∙ e in absurd (omega arith))
+      (λ is. let e' : code_to x ≡ at + pixel_count (map plain (x ∷ y ∷ ys)) = ap (λ (z : Block). code_to z) is ∙ e in absurd (omega arith))
       (λ d.
       let r = last_is (at + x.side * x.side) (y ∷ ys) b h.2 d (omega arith) in
       (x ∷ r.0, ap (λ (l : List Block). x ∷ l) r.1))

@@ -9,7 +9,7 @@ use Rattle.quilt_record.specs.declared.key.Key.{Key}
 use Rattle.quilt_record.specs.declared.record.Record.{Record}
 use Rattle.quilt_record.specs.Records.{key_cmp}
 use Rattle.quilt_record.proofs.Orders.{le_le, lt_lt, lt_to_le}
-use Rattle.quilt_node.specs.Nodes.{keys_of, records_of}
+use Rattle.quilt_node.specs.Nodes.{keys_of, page_records}
 use Rattle.quilt_node.specs.Pages.{leaf_of, is_ascending, short_at}
 use Rattle.quilt_node.specs.Tree.{Bounds, Whole, Damaged, is_above, is_below, are_within, leaf_walk}
 use Rattle.quilt_btree.proofs.subtrees.Walks.{if_true, if_false}
@@ -66,15 +66,15 @@ some_is None t = cc
 some_is (Some x) t = (x, refl)
 
 -- the records of a page that is a leaf are those that stand in its bytes
-pub leaf_stands : (bytes : List ℕ) → is_some (leaf_of bytes) ≡ true → leaf_of bytes ≡ Some (records_of bytes)
+pub leaf_stands : (bytes : List ℕ) → is_some (leaf_of bytes) ≡ true → leaf_of bytes ≡ Some (page_records bytes)
 leaf_stands bytes t = let s = some_is (leaf_of bytes) t in s.1 ∙ ap Some (sym (leaf_records bytes s.0 s.1))
 
 -- the first and the last record of such a page
 pub leaf_ends : (bytes : List ℕ) (low high : Option Key) (n : ℕ) (first last : Record) → is_some (leaf_of bytes) ≡ true → 1 ≤ n
-    → n ≡ length (records_of bytes) → slice_get (records_of bytes) 0 ≡ Some first → slice_get (records_of bytes) (n - 1) ≡ Some last
-    → (is_above low first.key && is_below high last.key) ≡ are_within (from_to low high) (keys_of (records_of bytes))
+    → n ≡ length (page_records bytes) → slice_get (page_records bytes) 0 ≡ Some first → slice_get (page_records bytes) (n - 1) ≡ Some last
+    → (is_above low first.key && is_below high last.key) ≡ are_within (from_to low high) (keys_of (page_records bytes))
 leaf_ends bytes low high n first last is some many f g =
-    let rs = records_of bytes in
+    let rs = page_records bytes in
     let t = told bytes rs (leaf_stands bytes is) in
     let ascends = subst (λ (l : List Key). is_ascending l ≡ true) (keys_read bytes (short_at bytes 2) refl ∙ ap keys_of t.read) t.ascends in
     let long : length (keys_of rs) ≡ length rs = length-map rs (λ (r : Record). r.key) in
@@ -86,14 +86,14 @@ not_both false b f = refl
 
 -- the walk at such a page goes on where it has its minimum and keeps its bounds
 pub leaf_kept : (bytes : List ℕ) (is_root : Bool) (b : Bounds) (page : ℕ) (visited : List ℕ) → is_some (leaf_of bytes) ≡ true
-    → (is_root || nat_le 72 (length (records_of bytes))) ≡ true → are_within b (keys_of (records_of bytes)) ≡ true
-    → leaf_walk is_root b page visited (leaf_of bytes) ≡ Whole (records_of bytes) (page ∷ visited)
+    → (is_root || nat_le 72 (length (page_records bytes))) ≡ true → are_within b (keys_of (page_records bytes)) ≡ true
+    → leaf_walk is_root b page visited (leaf_of bytes) ≡ Whole (page_records bytes) (page ∷ visited)
 leaf_kept bytes is_root b page visited is enough within =
     ap (leaf_walk is_root b page visited) (leaf_stands bytes is) ∙ if_true _ _ _ (and_from _ _ enough within)
 
 -- and stops elsewhere
 pub leaf_left : (bytes : List ℕ) (is_root : Bool) (b : Bounds) (page : ℕ) (visited : List ℕ) → is_some (leaf_of bytes) ≡ true
-    → ((is_root || nat_le 72 (length (records_of bytes))) ≡ true → are_within b (keys_of (records_of bytes)) ≡ false)
+    → ((is_root || nat_le 72 (length (page_records bytes))) ≡ true → are_within b (keys_of (page_records bytes)) ≡ false)
     → leaf_walk is_root b page visited (leaf_of bytes) ≡ Damaged page
 leaf_left bytes is_root b page visited is f =
     ap (leaf_walk is_root b page visited) (leaf_stands bytes is) ∙ if_false _ _ _ (not_both _ _ f)

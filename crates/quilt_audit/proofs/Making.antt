@@ -13,11 +13,11 @@ use Rattle.quilt_loc.proofs.Members.{Contains-nil, Contains-here, Contains-there
 use Rattle.quilt_types.specs.declared.plane.Kind.{Kind}
 use Rattle.quilt_record.specs.declared.record.Record.{Record}
 use Rattle.quilt_record.specs.declared.entry.Entry.{Entry}
-use Rattle.quilt_record.specs.Catalogs.{IsCatalog, AreInOrder, name_cmp}
+use Rattle.quilt_record.specs.Catalogs.{IsCatalog, NamesAscend, name_cmp}
 use Rattle.quilt_record.specs.Records.{Numbering, capacity_of, record_of}
 use Rattle.quilt_record.proofs.Orders.{is_Less}
 use Rattle.quilt_spell.specs.Written.{by_key, number_of, layer_records, IsWritten, IsNumbering}
-use Rattle.quilt_spell.specs.Catalogued.{entry_of, kind_of}
+use Rattle.quilt_spell.specs.Catalogued.{catalog_entry, kind_of}
 use Rattle.quilt_spell.specs.OfLayer.{kind_fact, kind_record}
 use Rattle.quilt_spell.proofs.Maps.{entry_from_get, get_from_entry}
 use Rattle.quilt_spell.proofs.OfLayer.{kind_there, kind_only}
@@ -25,7 +25,7 @@ use Rattle.quilt_spell.proofs.Spelling.{all_from}
 use Rattle.quilt_spell.proofs.Written.{name_same, layer_record, layer_record_from, number_at}
 use Rattle.quilt_audit.specs.declared.run.Run.{Run}
 use Rattle.quilt_line_audit.specs.Layers.{IsLayerOf}
-use Rattle.quilt_audit.specs.Checking.{entry_record, IsSoFar, IsSpelled}
+use Rattle.quilt_audit.specs.Checking.{entry_record, IsSoFar, SpellsSomeMap}
 use Rattle.quilt_audit.proofs.Catalog.{kind_record_is, free_or_kind}
 
 -- ---- lists in the order of names
@@ -43,7 +43,7 @@ below_from k (x ∷ xs) h =
 abbrev numbered : Entry → List ℕ × ℕ
 numbered e = (e.name, e.number)
 
-numbers_sorted : (es : List Entry) → AreInOrder es → T (sorted.is_sorted (slice_cmp nat_cmp) (map numbered es))
+numbers_sorted : (es : List Entry) → NamesAscend es → T (sorted.is_sorted (slice_cmp nat_cmp) (map numbered es))
 numbers_sorted [] h = tt
 numbers_sorted (e ∷ es) h =
     both_true (sorted.below_all (slice_cmp nat_cmp) e.name (map numbered es)) (sorted.is_sorted (slice_cmp nat_cmp) (map numbered es))
@@ -94,7 +94,7 @@ module _ (form n : ℕ) (rs : List Record) where
   made_length [] cover = refl
   made_length (e ∷ es) cover = ap (λ k. suc k) (made_length es (λ d c. cover d (Contains-there e es d c)))
 
-  made_sorted : (es : List Entry) (cover : (e : Entry) → Contains es e → IsLayerOf form n rs e.number e.kind) → AreInOrder es
+  made_sorted : (es : List Entry) (cover : (e : Entry) → Contains es e → IsLayerOf form n rs e.number e.kind) → NamesAscend es
       → T (sorted.is_sorted (slice_cmp nat_cmp) (layers_of es cover))
   unfolding layers_of
   made_sorted [] cover h = tt
@@ -109,7 +109,7 @@ module _ (form n : ℕ) (rs : List Record) where
 
   -- the catalog of these layers
   made_catalog : (numbers : Numbering) (es : List Entry) (cover : (e : Entry) → Contains es e → IsLayerOf form n rs e.number e.kind)
-      → ((e : Entry) → Contains es e → number_of numbers e.name ≡ e.number) → es ≡ map (entry_of numbers) (layers_of es cover)
+      → ((e : Entry) → Contains es e → number_of numbers e.name ≡ e.number) → es ≡ map (catalog_entry numbers) (layers_of es cover)
   unfolding layers_of
   made_catalog numbers [] cover are = refl
   made_catalog numbers (e ∷ es) cover are =
@@ -266,7 +266,7 @@ module _ (form n : ℕ) (rs : List Record) (least : 1 ≤ n) (le : n ≤ 12) (es
       let d = subst (λ (z : Layer). Contains (layer_records n m.entry.name m.entry.number z) r) value b in
       written_there m.entry m.member m.covered r d
 
-  pub is_spelled : IsSpelled form n es rs
+  pub is_spelled : SpellsSomeMap form n es rs
   is_spelled = record {
     numbers = numbers;
     layers = made;
@@ -276,5 +276,5 @@ module _ (form n : ℕ) (rs : List Record) (least : 1 ≤ n) (le : n ≤ 12) (es
       ascending = up;
       written = λ r. (record_written r, written_record r);
     };
-    catalogued = record { each = made_catalog form n rs numbers es cover number_is ∙ ap (map (entry_of numbers)) (sym entries_are) };
+    catalogued = record { each = made_catalog form n rs numbers es cover number_is ∙ ap (map (catalog_entry numbers)) (sym entries_are) };
   }

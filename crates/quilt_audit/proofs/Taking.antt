@@ -16,10 +16,10 @@ use Rattle.quilt_spell.specs.Spelled.{SpellsUnder}
 use Rattle.quilt_spell.specs.Written.{by_key}
 use Rattle.quilt_audit.specs.declared.checker.Checker.{Checker}
 use Rattle.quilt_audit.specs.declared.run.Run.{Run}
-use Rattle.quilt_line_audit.specs.Layers.{Refuses}
+use Rattle.quilt_line_audit.specs.Layers.{RefusesRecord}
 use Rattle.quilt_audit.specs.Runs.{IsRun, IsRunFinished}
 use Rattle.quilt_audit.specs.Surveys.{AreNumbered}
-use Rattle.quilt_audit.specs.Checking.{IsSoFar, HasBegun, Stops, MayList, IsWhole, AreRefused, IsFed, IsSpelled}
+use Rattle.quilt_audit.specs.Checking.{IsSoFar, HasBegun, Stops, MayList, IsComplete, AreRefused, IsFed, SpellsSomeMap}
 use Rattle.quilt_audit.proofs.ahead.Next.{NextEntry, NextLayer, next_entry, next_layer, next_taken, end_covered, end_listed}
 use Rattle.quilt_audit.proofs.Steps.{all_covered}
 use Rattle.quilt_audit.proofs.Making.{is_spelled}
@@ -38,7 +38,7 @@ module _ (form n : ℕ) (least : 1 ≤ n) (le : n ≤ 12) (es : List Entry) (las
 
   -- ---- a record of the layer that comes
   pub record_no : (r : Record) (rs : List Record) → 1 ≤ layer → r.key.layer ≡ layer
-      → ((kind : Kind) → IsRun form n rs layer kind run → Refuses form n rs layer kind r)
+      → ((kind : Kind) → IsRun form n rs layer kind run → RefusesRecord form n rs layer kind r)
       → IsSoFar form n es last layer run rs → Stops form n rs r
   record_no r rs some is refused f rest numbers layers s =
       next_taken form n least le es last layer run rs f top rest numbers layers r s some is (λ e c same h. refused e.kind h)
@@ -70,7 +70,7 @@ next_reached n entries es layer run number next is lt over reached below w =
 
 -- ---- the end
 module _ (c : Checker) (total : ℕ) (rs : List Record) (fed : IsFed total c rs) where
-  pub whole_spelled : IsCatalog c.catalog → IsWhole c → Rises by_key rs → IsSpelled c.format c.level c.catalog rs × (length rs ≡ total)
+  pub whole_spelled : IsCatalog c.catalog → IsComplete c → Rises by_key rs → SpellsSomeMap c.format c.level c.catalog rs × (length rs ≡ total)
   whole_spelled order w up =
       let s = fed.sound w.sound in
       let d = w.none_due in
@@ -80,7 +80,7 @@ module _ (c : Checker) (total : ℕ) (rs : List Record) (fed : IsFed total c rs)
         omega arith,
       )
 
-  pub whole_numbered : IsWhole c → AreNumbered c.format c.catalog
+  pub whole_numbered : IsComplete c → AreNumbered c.format c.catalog
   whole_numbered w =
       let f = (fed.sound w.sound).0 in
       record {
@@ -90,7 +90,7 @@ module _ (c : Checker) (total : ℕ) (rs : List Record) (fed : IsFed total c rs)
         kinds = f.fitting;
       }
 
-  pub not_whole : (IsWhole c → ⊥) → (numbers : Numbering) (layers : Map) → SpellsUnder c.format c.level numbers rs layers → length rs ≡ total → ⊥
+  pub not_whole : (IsComplete c → ⊥) → (numbers : Numbering) (layers : Map) → SpellsUnder c.format c.level numbers rs layers → length rs ≡ total → ⊥
   not_whole none numbers layers s long =
       ⊎_elim
       (λ t.
@@ -110,11 +110,11 @@ module _ (c : Checker) (total : ℕ) (rs : List Record) (fed : IsFed total c rs)
 -- ---- a record is taken or refused behind a turn
 module _ (form n form' n' layer k : ℕ) (same_form : form' ≡ form) (same_level : n' ≡ n) (here : layer ≡ k) (rs : List Record) (r : Record)
     (kind : Kind) (run : Run) where
-  pub no_moved : (IsRun form' n' rs k kind run → Refuses form' n' rs k kind r) → IsRun form n rs layer kind run → Refuses form n rs layer kind r
+  pub no_moved : (IsRun form' n' rs k kind run → RefusesRecord form' n' rs k kind r) → IsRun form n rs layer kind run → RefusesRecord form n rs layer kind r
   no_moved f =
-      subst (λ (z : ℕ). IsRun z n rs layer kind run → Refuses z n rs layer kind r) same_form
-      (subst (λ (z : ℕ). IsRun form' z rs layer kind run → Refuses form' z rs layer kind r) same_level
-      (subst (λ (z : ℕ). IsRun form' n' rs z kind run → Refuses form' n' rs z kind r) (sym here) f))
+      subst (λ (z : ℕ). IsRun z n rs layer kind run → RefusesRecord z n rs layer kind r) same_form
+      (subst (λ (z : ℕ). IsRun form' z rs layer kind run → RefusesRecord form' z rs layer kind r) same_level
+      (subst (λ (z : ℕ). IsRun form' n' rs z kind run → RefusesRecord form' n' rs z kind r) (sym here) f))
 
   pub run_moved : (next : Run) → (IsRun form' n' rs k kind run → IsRun form' n' (rs ++ r ∷ []) k kind next) → IsRun form n rs layer kind run
       → IsRun form n (rs ++ r ∷ []) layer kind next

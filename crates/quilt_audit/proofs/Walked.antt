@@ -20,9 +20,9 @@ use Rattle.quilt_btree.proofs.subtrees.Walks.{if_true, if_false}
 use Rattle.quilt_types.specs.declared.stop.Stop.{Stop}
 use Rattle.quilt_types.specs.declared.stop.Stop.TheVariants.{Device, Memory, Damaged as Says}
 use Rattle.quilt_audit.specs.Surveys.{OnDamaged}
-use Rattle.quilt_audit.specs.Checking.{Takes}
-use Rattle.quilt_audit.specs.declared.surveying.Surveying.{Surveying}
-use Rattle.quilt_audit.specs.Bits.{has_bit, Marks}
+use Rattle.quilt_audit.specs.Checking.{TakesRecords}
+use Rattle.quilt_audit.specs.declared.progress.Surveying.{Surveying}
+use Rattle.quilt_audit.specs.Bits.{has_page_bit, Marks}
 use Rattle.quilt_audit.specs.Walking.{Spent, SpentSome, Added, Found, Reached}
 use Rattle.quilt_spell.proofs.Lists.{Apart-le}
 use Rattle.quilt_spell.proofs.facts.SameFacts.{member_any}
@@ -252,7 +252,7 @@ walk_inner pages (suc (suc h)) is_root at visited few f =
 -- a page that was marked, and the records that it gave
 pub Added-page : (size : ℕ) (visited : List ℕ) (old new : Surveying) (before after : Option ℕ) (page : ℕ) (rs : List Record) → 1 ≤ page → page < size
     → Marks old.used visited → list_any (λ v. v == page) visited ≡ false
-    → ((j : ℕ) → has_bit new.used j ≡ cond (eqb j page) true (has_bit old.used j)) → Takes old.checker rs new.checker
+    → ((j : ℕ) → has_page_bit new.used j ≡ cond (eqb j page) true (has_page_bit old.used j)) → TakesRecords old.checker rs new.checker
     → Goes {A = ℕ} (λ was is. is ≤ was + 1) before after
     → Added size visited old new before after rs (page ∷ visited)
 Added-page size visited old new before after page rs low high m fresh one t reads = record {

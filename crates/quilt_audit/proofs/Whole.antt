@@ -14,10 +14,10 @@ use Rattle.quilt_spell.specs.Spelled.{SpellsUnder}
 use Rattle.quilt_spell.specs.Written.{by_key}
 use Rattle.quilt_spell.proofs.Laws.{members}
 use Rattle.quilt_region.proofs.Trees.{tree_rises}
-use Rattle.quilt_audit.specs.declared.surveying.Surveying.{Surveying}
+use Rattle.quilt_audit.specs.declared.progress.Surveying.{Surveying}
 use Rattle.quilt_audit.specs.Bits.{Marks, AreWithin}
 use Rattle.quilt_audit.specs.Surveys.{first_damaged, IsSurvey, IsDamage}
-use Rattle.quilt_audit.specs.Checking.{IsFed, IsSpelled}
+use Rattle.quilt_audit.specs.Checking.{IsFed, SpellsSomeMap}
 use Rattle.quilt_audit.specs.Walking.{Found, IsWalked}
 use Rattle.quilt_audit.proofs.Bits.{Marks-none, AreWithin-none}
 use Rattle.quilt_audit.proofs.Walked.{from_to, spent_few}
@@ -103,7 +103,7 @@ records_rise pages head rs now w =
 module _ (size : ℕ) (told : Option (List (List ℕ))) (head : Head) (s : Surveying) (before after : Option ℕ)
     (h : IsWalked size told head s before after) (ok : IsHead size head) (pages : List (List ℕ)) (is_told : told ≡ Some pages) where
   pub survey_from : (entries : List Entry)
-      → ((total : ℕ) (rs : List Record) → IsFed total s.checker rs → Rises by_key rs → IsSpelled s.checker.format s.checker.level entries rs
+      → ((total : ℕ) (rs : List Record) → IsFed total s.checker rs → Rises by_key rs → SpellsSomeMap s.checker.format s.checker.level entries rs
       × (length rs ≡ total)) → IsSurvey pages head entries s.used
   survey_from entries spelled =
       let w = spelled head.records h.rs h.fed (records_rise pages head h.rs h.now (h.walks pages is_told)) in

@@ -3,13 +3,13 @@ use Rattle.std.specs.Prelude.{◌≡◌, ℕ, ◌/◌, ◌%◌, ◌^◌, ◌<◌
 use Rattle.std.specs.List.{list_any}
 
 -- the page has its bit
-abbrev pub has_bit : List ℕ → ℕ → Bool
-has_bit bits p = slice_index bits (p / 8) / 2 ^ (p % 8) % 2 == 1
+abbrev pub has_page_bit : List ℕ → ℕ → Bool
+has_page_bit bits p = slice_index bits (p / 8) / 2 ^ (p % 8) % 2 == 1
 
 -- exactly these pages have their bits
 pub record Marks (bits visited : List ℕ) : Type 0 where
-  pub each : (p : ℕ) → has_bit bits p ≡ list_any (λ v. v == p) visited
+  pub each : (p : ℕ) → has_page_bit bits p ≡ list_any (λ v. v == p) visited
 
 -- only pages from 1 on of a store of so many have their bits
 pub record AreWithin (size : ℕ) (bits : List ℕ) : Type 0 where
-  pub each : (p : ℕ) → has_bit bits p ≡ true → (1 ≤ p) × (p < size)
+  pub each : (p : ℕ) → has_page_bit bits p ≡ true → (1 ≤ p) × (p < size)

@@ -5,7 +5,7 @@ use Rattle.quilt_loc.specs.Codes.{Rises}
 use Rattle.quilt_record.specs.declared.record.Record.{Record}
 use Rattle.quilt_record.specs.declared.entry.Entry.{Entry}
 use Rattle.quilt_record.specs.Records.{Numbering, record_of}
-use Rattle.quilt_record.specs.Listing.{KindFits, kind_fact}
+use Rattle.quilt_record.specs.Listing.{KindFits, fact_of_kind}
 use Rattle.quilt_spell.specs.Spelled.{SpellsUnder}
 use Rattle.quilt_spell.specs.Catalogued.{IsCatalogOf}
 use Rattle.quilt_spell.specs.Written.{by_key}
@@ -16,7 +16,7 @@ use Rattle.quilt_audit.specs.Runs.{IsRun, IsRunFinished}
 
 -- the record of the catalog for a layer
 abbrev pub entry_record : ℕ → Entry → Record
-entry_record n e = record_of n 0 e.name e.number (kind_fact e.kind)
+entry_record n e = record_of n 0 e.name e.number (fact_of_kind e.kind)
 
 -- The records so far are those of a catalog, up to the number last, and of its layers: all records of each layer
 -- below this one, and those of this one as far as the run says.
@@ -44,7 +44,7 @@ pub record MayList (c : Checker) (e : Entry) : Type 0 where
   pub fresh : (d : Entry) → Contains c.catalog d → d.name ≡ e.name → ⊥
 
 -- the records that a checker was given may be all
-pub record IsWhole (c : Checker) : Type 0 where
+pub record IsComplete (c : Checker) : Type 0 where
   pub sound : c.sound ≡ true
   pub none_due : c.due ≡ 0
   pub covered : 1 ≤ c.layer → IsRunFinished c.level c.run
@@ -66,13 +66,13 @@ pub record IsFed (total : ℕ) (c : Checker) (rs : List Record) : Type 0 where
   pub unsound : c.sound ≡ false → AreRefused c.format c.level total rs
 
 -- the checker was given these records
-pub record Takes (old : Checker) (rs : List Record) (new : Checker) : Type 0 where
+pub record TakesRecords (old : Checker) (rs : List Record) (new : Checker) : Type 0 where
   pub level : new.level ≡ old.level
   pub format : new.format ≡ old.format
   pub fed : (total : ℕ) (before : List Record) → IsFed total old before → IsFed total new (before ++ rs)
 
 -- The records spell a map, of which this is the catalog.
-pub record IsSpelled (form n : ℕ) (entries : List Entry) (rs : List Record) : Type 0 where
+pub record SpellsSomeMap (form n : ℕ) (entries : List Entry) (rs : List Record) : Type 0 where
   pub numbers : Numbering
   pub layers : Map
   pub spelled : SpellsUnder form n numbers rs layers

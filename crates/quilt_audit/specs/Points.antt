@@ -14,7 +14,7 @@ use Rattle.quilt_record.specs.declared.record.Record.{Record}
 use Rattle.quilt_record.specs.Records.{record_of}
 use Rattle.quilt_record.specs.Listing.{KindFits}
 use Rattle.quilt_blocks.specs.Listing.{Follows}
-use Rattle.quilt_blocks.specs.Walk.{size_of}
+use Rattle.quilt_blocks.specs.Walk.{pixel_count}
 use Rattle.quilt_spell.specs.Written.{by_key}
 use Rattle.quilt_audit.specs.declared.tally.Tally.{Tally}
 use Rattle.quilt_audit.specs.declared.points.PointRun.{PointRun}
@@ -35,7 +35,7 @@ pub record ArePlaced (form n : ℕ) (rs : List Record) (layer capacity end : ℕ
   pub valid : IsPointMap form n capacity points
   pub has : HasFacts rs layer n capacity bs points
   pub follows : Follows n 0 (map plain bs)
-  pub size : size_of (map plain bs) ≡ end
+  pub size : pixel_count (map plain bs) ≡ end
   pub held : (e : Pixel × ℕ) → Contains (finmap.entries points) e → (b : Block) × Contains bs b × (in_block b e.0 ≡ true)
   pub few : (b : Block) → Contains bs b → points_in points b ≤ capacity
 
@@ -85,7 +85,7 @@ abbrev pub no_tally : Tally
 no_tally = record { block = no_block; count = 0 }
 
 -- the run has no record
-pub record IsStart (capacity : ℕ) (run : PointRun) : Type 0 where
+pub record IsPointStart (capacity : ℕ) (run : PointRun) : Type 0 where
   pub bucket : run.bucket ≡ capacity
   pub end : run.end ≡ 0
   pub recent : run.recent ≡ no_tally ∷ no_tally ∷ no_tally ∷ []
@@ -95,7 +95,7 @@ pub record IsStart (capacity : ℕ) (run : PointRun) : Type 0 where
 -- no record of the layer has come
 pub record IsBefore (form : ℕ) (rs : List Record) (layer capacity : ℕ) (run : PointRun) : Type 0 where
   pub fits : KindFits form (kinds.Points capacity)
-  pub start : IsStart capacity run
+  pub start : IsPointStart capacity run
   pub none : (r : Record) → Contains rs r → r.key.layer ≡ layer → ⊥
 
 -- how far the records of the layer with this number have come, where they rise
@@ -114,7 +114,7 @@ recent_after [] t = t ∷ []
 recent_after (a ∷ rest) t = rest ++ t ∷ []
 
 -- a run after the first record of the next block
-pub record IsOpened (n : ℕ) (run : PointRun) (b : Block) (count : ℕ) (next : PointRun) : Type 0 where
+pub record IsBlockBegun (n : ℕ) (run : PointRun) (b : Block) (count : ℕ) (next : PointRun) : Type 0 where
   pub bucket : next.bucket ≡ run.bucket
   pub end : next.end ≡ code_to b
   pub recent : length run.recent ≡ 3 → next.recent ≡ recent_after run.recent run.last

@@ -5,8 +5,8 @@ use Rattle.quilt_types.specs.Plane.{IsBlock, quarters_of}
 use Rattle.quilt_types.specs.Layers.{colours}
 use Rattle.quilt_record.specs.declared.record.Record.{Record}
 use Rattle.quilt_blocks.specs.declared.leaf.Leaf.{Leaf}
-use Rattle.quilt_blocks.specs.Listing.{Follows, IsUnmerged, pairs_of}
-use Rattle.quilt_blocks.specs.Walk.{size_of}
+use Rattle.quilt_blocks.specs.Listing.{Follows, IsUnmerged, leaf_pairs}
+use Rattle.quilt_blocks.specs.Walk.{pixel_count}
 use Rattle.quilt_spell.specs.OfLayer.{leaf_record}
 use Rattle.quilt_audit.specs.Covers.{no_block}
 
@@ -19,7 +19,7 @@ pub record HasBlocks (rs : List Record) (layer n : ℕ) (bs : List (Block × ℕ
 pub record AreLaid (form n end : ℕ) (bs : List (Block × ℕ)) : Type 0 where
   pub colours_fit : (e : Block × ℕ) → Contains bs e → e.1 < colours form
   pub follows : Follows n 0 bs
-  pub size : size_of bs ≡ end
+  pub size : pixel_count bs ≡ end
   pub unmerged : IsUnmerged n bs
 
 -- no leaf, which stands for one before the first
@@ -34,7 +34,7 @@ no_leaves = nothing ∷ nothing ∷ nothing ∷ []
 pub record EndsIn (bs : List (Block × ℕ)) (recent : List Leaf) : Type 0 where
   pub three : length recent ≡ 3
   pub front : List (Block × ℕ)
-  pub split : pairs_of no_leaves ++ bs ≡ front ++ pairs_of recent
+  pub split : leaf_pairs no_leaves ++ bs ≡ front ++ leaf_pairs recent
 
 -- the layer with this number has blocks up to a code, the last of which are these
 pub record IsGoing (form n : ℕ) (rs : List Record) (layer end : ℕ) (recent : List Leaf) : Type 0 where
@@ -47,4 +47,4 @@ pub record IsGoing (form n : ℕ) (rs : List Record) (layer end : ℕ) (recent :
 pub record AreSiblings (n : ℕ) (four : List Leaf) (whole : Block × ℕ) : Type 0 where
   pub block : IsBlock n whole.0
   pub wide : 1 < whole.0.side
-  pub quarters : pairs_of four ≡ map (λ q. (q, whole.1)) (quarters_of whole.0)
+  pub quarters : leaf_pairs four ≡ map (λ q. (q, whole.1)) (quarters_of whole.0)

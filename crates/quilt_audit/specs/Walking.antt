@@ -5,9 +5,9 @@ use Rattle.quilt_node.specs.Tree.{Walk, Whole, walk_of}
 use Rattle.quilt_node.specs.declared.head.Head.{Head}
 use Rattle.quilt_world.specs.Tale.{Goes}
 use Rattle.quilt_spell.specs.Apart.{Apart}
-use Rattle.quilt_audit.specs.declared.surveying.Surveying.{Surveying}
+use Rattle.quilt_audit.specs.declared.progress.Surveying.{Surveying}
 use Rattle.quilt_audit.specs.Bits.{Marks, AreWithin}
-use Rattle.quilt_audit.specs.Checking.{Takes, IsFed}
+use Rattle.quilt_audit.specs.Checking.{TakesRecords, IsFed}
 
 -- Each page that was read is another one of the store, and none of those that were visited before.
 pub record Spent (size : ℕ) (visited now : List ℕ) (before after : Option ℕ) : Type 0 where
@@ -22,7 +22,7 @@ pub record SpentSome (size : ℕ) (visited : List ℕ) (before after : Option �
 
 -- these records were handed on, and these pages are marked now
 pub record Added (size : ℕ) (visited : List ℕ) (old new : Surveying) (before after : Option ℕ) (rs : List Record) (now : List ℕ) : Type 0 where
-  pub takes : Takes old.checker rs new.checker
+  pub takes : TakesRecords old.checker rs new.checker
   pub marks : Marks new.used now
   pub within : AreWithin size old.used → AreWithin size new.used
   pub spent : Spent size visited now before after

@@ -45,7 +45,7 @@ impl Checker {
     ghost use Rattle.quilt_record.specs.declared.record.Record.{Record as AnyRecord};
     ghost use Rattle.quilt_audit.specs.Surveys.{AreNumbered};
     ghost use Rattle.quilt_audit.specs.Runs.{IsRunFinished};
-    ghost use Rattle.quilt_audit.specs.Checking.{IsSoFar, HasBegun, Stops, AreRefused, IsFed, Takes, IsSpelled, MayList, IsWhole};
+    ghost use Rattle.quilt_audit.specs.Checking.{IsSoFar, HasBegun, Stops, AreRefused, IsFed, TakesRecords, SpellsSomeMap, MayList, IsComplete};
 
     /// No records yet, of a map as a file's head says.
     pub fn new(alloc: Global, head: &Head) -> Checker
@@ -69,7 +69,7 @@ impl Checker {
 
     /// Takes the next record. Where no memory is left the checker is only given up.
     pub fn push(&mut self, r: &Record) -> Result<(), AllocError>
-        ensures { OnOk result (Takes self.old (r.now ∷ []) self.new) }
+        ensures { OnOk result (TakesRecords self.old (r.now ∷ []) self.new) }
     {
         if !self.sound {
             return Ok(());
@@ -209,7 +209,7 @@ impl Checker {
     /// The catalog, where the records were those of a map.
     pub fn finish(self) -> Result<Option<Catalog>, AllocError>
         ensures some { IfOk result (λ o. IfSome o (λ entries. (total : ℕ) (rs : List AnyRecord) → IsFed total self rs → Rises by_key rs
-            → IsSpelled self.format self.level entries rs × (length rs ≡ total))) }
+            → SpellsSomeMap self.format self.level entries rs × (length rs ≡ total))) }
         ensures none { IfOk result (λ o. IfNone o ((total : ℕ) (rs : List AnyRecord) → IsFed total self rs → (numbers : Numbering) (layers : Map)
             → SpellsUnder self.format self.level numbers rs layers → length rs ≡ total → ⊥)) }
         ensures numbered { IfOk result (λ o. IfSome o (λ entries. (total : ℕ) (rs : List AnyRecord) → IsFed total self rs → AreNumbered self.format entries)) }
@@ -223,8 +223,8 @@ impl Checker {
 
     /// Whether the records may be all.
     fn is_whole(&self) -> Result<bool, AllocError>
-        ensures yes { IfOk result (λ ok. OnTrue ok (IsWhole self.now)) }
-        ensures no { IfOk result (λ ok. OnFalse ok (IsWhole self.now → ⊥)) }
+        ensures yes { IfOk result (λ ok. OnTrue ok (IsComplete self.now)) }
+        ensures no { IfOk result (λ ok. OnFalse ok (IsComplete self.now → ⊥)) }
         ensures catalog { IsCatalog self.now.catalog }
     {
         let entries = self.catalog.entries();

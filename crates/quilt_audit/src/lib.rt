@@ -4,14 +4,14 @@
 mod checker;
 mod codes;
 mod marks;
+mod node;
 mod points;
-mod reading;
+mod progress;
 mod regions;
 mod run;
 mod siblings;
 mod survey;
-mod surveying;
 mod tally;
-mod walking;
+mod walk;
 
 pub use survey::{Survey, audit};

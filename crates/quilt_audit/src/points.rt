@@ -6,9 +6,9 @@ ghost use Rattle.quilt_loc.specs.Codes.{code_from};
 ghost use Rattle.quilt_record.specs.declared.record.Record.{Record as AnyRecord};
 ghost use Rattle.quilt_record.specs.Records.{record_of};
 ghost use Rattle.quilt_record.specs.Canonical.{FactFits, point_fact};
-ghost use Rattle.quilt_line_audit.specs.Layers.{Refuses};
+ghost use Rattle.quilt_line_audit.specs.Layers.{RefusesRecord};
 ghost use Rattle.quilt_audit.specs.Covers.{AreFour};
-ghost use Rattle.quilt_audit.specs.Points.{IsStart, IsPointRun, IsOpened, IsLeast, IsFinished, IsHeldIn, count_of as count_of_held};
+ghost use Rattle.quilt_audit.specs.Points.{IsPointStart, IsPointRun, IsBlockBegun, IsLeast, IsFinished, IsHeldIn, count_of as count_of_held};
 
 use crate::codes::end_from;
 use crate::siblings::are_siblings;
@@ -44,7 +44,7 @@ pub struct PointRun {
 impl PointRun {
     /// No record yet.
     pub fn new(bucket: u8) -> PointRun
-        ensures { IsStart bucket result }
+        ensures { IsPointStart bucket result }
     {
         PointRun {
             bucket,
@@ -66,7 +66,7 @@ impl PointRun {
             → IsPointRun form level rs layer self.now.bucket self.now
             → IsPointRun form level (rs ++ record_of level self.now.bucket [] layer (point_fact block held) ∷ []) layer self.now.bucket next) }
         ensures none { IfNone result ((form layer : ℕ) (rs : List AnyRecord) → 1 ≤ layer → IsPointRun form level rs layer self.now.bucket self.now
-            → Refuses form level rs layer (kinds.Points self.now.bucket) (record_of level self.now.bucket [] layer (point_fact block held))) }
+            → RefusesRecord form level rs layer (kinds.Points self.now.bucket) (record_of level self.now.bucket [] layer (point_fact block held))) }
     {
         if !is_in(block, held) {
             return None;
@@ -104,7 +104,7 @@ impl PointRun {
         requires level { (1 ≤ level) × (level ≤ 12) }
         requires block { IsBlock level block }
         requires code { code ≡ code_from block }
-        ensures { IsOpened level self.now block count result }
+        ensures { IsBlockBegun level self.now block count result }
     {
         let [_, a, b] = self.recent;
         PointRun {

@@ -3,10 +3,10 @@ ghost use Rattle.quilt_types.specs.declared.plane.Kind.TheVariants as kinds;
 ghost use Rattle.quilt_types.specs.Plane.{IsBlock};
 ghost use Rattle.quilt_types.specs.Layers.{colours};
 ghost use Rattle.quilt_loc.specs.Codes.{code_from};
-ghost use Rattle.quilt_blocks.specs.Cutting.{pair_of};
+ghost use Rattle.quilt_blocks.specs.Cutting.{leaf_pair};
 ghost use Rattle.quilt_record.specs.declared.record.Record.{Record as AnyRecord};
 ghost use Rattle.quilt_spell.specs.OfLayer.{leaf_record};
-ghost use Rattle.quilt_line_audit.specs.Layers.{Refuses};
+ghost use Rattle.quilt_line_audit.specs.Layers.{RefusesRecord};
 ghost use Rattle.quilt_audit.specs.Regions.{IsGoing, no_leaves};
 
 use crate::codes::end_from;
@@ -53,9 +53,9 @@ impl RegionRun {
         requires code { code ≡ code_from leaf.block }
         ensures some { IfSome result (λ next. (form layer : ℕ) (rs : List AnyRecord) → 1 ≤ layer → leaf.colour.0 < colours form
             → IsGoing form level rs layer self.now.end self.now.recent
-            → IsGoing form level (rs ++ leaf_record level layer (pair_of leaf) ∷ []) layer next.end next.recent) }
+            → IsGoing form level (rs ++ leaf_record level layer (leaf_pair leaf) ∷ []) layer next.end next.recent) }
         ensures none { IfNone result ((form layer : ℕ) (rs : List AnyRecord) → 1 ≤ layer → IsGoing form level rs layer self.now.end self.now.recent
-            → Refuses form level rs layer kinds.Region (leaf_record level layer (pair_of leaf))) }
+            → RefusesRecord form level rs layer kinds.Region (leaf_record level layer (leaf_pair leaf))) }
     {
         if code != self.end {
             return None;

@@ -3,7 +3,7 @@ ghost use Rattle.std.specs.Bool.{OnTrue, OnFalse};
 ghost use Rattle.quilt_types.specs.declared.plane.Kind.{Kind as AnyKind};
 ghost use Rattle.quilt_record.specs.declared.record.Record.{Record as AnyRecord};
 ghost use Rattle.quilt_audit.specs.declared.run.Run.TheVariants as runs;
-ghost use Rattle.quilt_line_audit.specs.Layers.{Refuses};
+ghost use Rattle.quilt_line_audit.specs.Layers.{RefusesRecord};
 ghost use Rattle.quilt_audit.specs.Runs.{IsRun, IsRunFinished, Starts};
 
 use crate::points::PointRun;
@@ -41,7 +41,7 @@ impl Run {
         ensures taken { IfOk result (λ ok. (rs : List AnyRecord) (kind : AnyKind) → IsRun format level rs r.now.key.layer kind self.old
             → OnTrue ok (IsRun format level (rs ++ r.now ∷ []) r.now.key.layer kind self.new)) }
         ensures refused { IfOk result (λ ok. (rs : List AnyRecord) (kind : AnyKind) → IsRun format level rs r.now.key.layer kind self.old
-            → OnFalse ok (Refuses format level rs r.now.key.layer kind r.now)) }
+            → OnFalse ok (RefusesRecord format level rs r.now.key.layer kind r.now)) }
     {
         match self {
             Run::Region(run) => Ok(take_leaf(run, r, level, format)),
@@ -71,7 +71,7 @@ fn take_leaf(run: &mut RegionRun, r: &Record, level: u8, format: u8) -> bool
     ensures yes { OnTrue result ((rs : List AnyRecord) (kind : AnyKind) → IsRun format level rs r.now.key.layer kind (runs.Region run.old)
         → IsRun format level (rs ++ r.now ∷ []) r.now.key.layer kind (runs.Region run.new)) }
     ensures no { OnFalse result ((rs : List AnyRecord) (kind : AnyKind) → IsRun format level rs r.now.key.layer kind (runs.Region run.old)
-        → Refuses format level rs r.now.key.layer kind r.now) }
+        → RefusesRecord format level rs r.now.key.layer kind r.now) }
 {
     let Some((block, colour)) = read_region(r, level, format) else {
         return false;
@@ -91,7 +91,7 @@ fn take_point(run: &mut PointRun, r: &Record, level: u8) -> bool
         → IsRun format level rs r.now.key.layer kind (runs.Points run.old)
         → IsRun format level (rs ++ r.now ∷ []) r.now.key.layer kind (runs.Points run.new)) }
     ensures no { OnFalse result ((format : ℕ) (rs : List AnyRecord) (kind : AnyKind)
-        → IsRun format level rs r.now.key.layer kind (runs.Points run.old) → Refuses format level rs r.now.key.layer kind r.now) }
+        → IsRun format level rs r.now.key.layer kind (runs.Points run.old) → RefusesRecord format level rs r.now.key.layer kind r.now) }
 {
     let Some((block, held)) = read_point(r, level, run.bucket) else {
         return false;

@@ -1,7 +1,7 @@
 ghost use Rattle.std.specs.Prelude.{◌≡◌, ℕ, ◌≤◌, [], ◌∷◌, true, false};
 ghost use Rattle.quilt_types.specs.declared.plane.Block.{Block as BlockValue};
 ghost use Rattle.quilt_types.specs.Plane.{IsBlock};
-ghost use Rattle.quilt_blocks.specs.Cutting.{pair_of};
+ghost use Rattle.quilt_blocks.specs.Cutting.{leaf_pair};
 ghost use Rattle.quilt_audit.specs.Regions.{AreSiblings};
 
 use quilt_blocks::Leaf;
@@ -10,16 +10,16 @@ use quilt_types::{Block, Colour};
 
 /// Whether the leaf is this block with this colour.
 fn is(leaf: Leaf, block: Block, colour: Colour) -> bool
-    ensures yes { result ≡ true → pair_of leaf ≡ (block, colour.0) }
-    ensures no { pair_of leaf ≡ (block, colour.0) → result ≡ true }
+    ensures yes { result ≡ true → leaf_pair leaf ≡ (block, colour.0) }
+    ensures no { leaf_pair leaf ≡ (block, colour.0) → result ≡ true }
 {
     leaf.block == block && leaf.colour == colour
 }
 
 /// Whether the two leaves are these blocks with this colour.
 fn are(a: Leaf, first: Block, b: Leaf, second: Block, colour: Colour) -> bool
-    ensures yes { result ≡ true → (pair_of a ≡ (first, colour.0)) × (pair_of b ≡ (second, colour.0)) }
-    ensures no { pair_of a ≡ (first, colour.0) → pair_of b ≡ (second, colour.0) → result ≡ true }
+    ensures yes { result ≡ true → (leaf_pair a ≡ (first, colour.0)) × (leaf_pair b ≡ (second, colour.0)) }
+    ensures no { leaf_pair a ≡ (first, colour.0) → leaf_pair b ≡ (second, colour.0) → result ≡ true }
 {
     is(a, first, colour) && is(b, second, colour)
 }

@@ -11,8 +11,8 @@ ghost use Rattle.quilt_audit.specs.Walking.{IsWalked};
 ghost use Rattle.quilt_audit.specs.Checking.{IsFed};
 
 use crate::checker::Checker;
-use crate::surveying::Surveying;
-use crate::walking::survey_page;
+use crate::progress::Surveying;
+use crate::walk::survey_page;
 use quilt_node::Head;
 use quilt_record::Catalog;
 use quilt_store::PageStore;

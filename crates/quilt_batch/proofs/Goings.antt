@@ -13,15 +13,15 @@ use Rattle.quilt_node.specs.Nodes.{keys_of}
 use Rattle.quilt_node.proofs.Ascending.{and_both, and_parts, all_follow, is_over, is_under, ascending_all, ascending_join, ascending_back, ascending_front}
 use Rattle.quilt_btree.specs.declared.edit.Edit.{Edit}
 use Rattle.quilt_btree.specs.declared.edit.Edit.TheVariants as edit
-use Rattle.quilt_btree.specs.Batches.{edit_keys, key_of, removed, added, more, fewer}
+use Rattle.quilt_btree.specs.Batches.{edit_keys, key_of, removed, records_put, more, fewer}
 use Rattle.quilt_btree.specs.Runs.{without_all, has_each, has_any}
-use Rattle.quilt_batch.specs.Merges.{IsFirst, IsMerge, goes_of, comes_of}
+use Rattle.quilt_batch.specs.Merges.{IsFirstEdit, IsMerge, goes_of, comes_of}
 use Rattle.quilt_batch.proofs.Due.{due_in_turn}
 
 -- the merge of two lists has come so far: these edits are made, and these records are left of each list
 pub record HasMerged (old_goes old_comes : List Record) (run : List Edit) (goes comes : List Record) : Type 0 where
   pub removed_so : removed run ++ keys_of goes ≡ keys_of old_goes
-  pub added_so : added run ++ comes ≡ old_comes
+  pub added_so : records_put run ++ comes ≡ old_comes
   pub order : is_ascending (keys_of old_goes) ≡ true → is_ascending (keys_of old_comes) ≡ true
       → (is_ascending (edit_keys run ++ keys_of goes) ≡ true) × (is_ascending (edit_keys run ++ keys_of comes) ≡ true)
 
@@ -34,7 +34,7 @@ removed_last (edit.Remove k ∷ run) e = ap (λ ks. k ∷ ks) (removed_last run 
 removed_last (edit.Put r ∷ run) e = removed_last run e
 removed_last (edit.Replace r ∷ run) e = ap (λ ks. r.key ∷ ks) (removed_last run e)
 
-added_last : (run : List Edit) (e : Edit) → added (run ++ e ∷ []) ≡ added run ++ added (e ∷ [])
+added_last : (run : List Edit) (e : Edit) → records_put (run ++ e ∷ []) ≡ records_put run ++ records_put (e ∷ [])
 added_last [] e = refl
 added_last (edit.Remove k ∷ run) e = added_last run e
 added_last (edit.Put r ∷ run) e = ap (λ rs. r ∷ rs) (added_last run e)
@@ -79,7 +79,7 @@ remove_more : (og oc : List Record) (run : List Edit) (r : Record) (goes comes :
     → HasMerged og oc (run ++ edit.Remove r.key ∷ []) goes comes
 remove_more og oc run r goes comes m before = record {
   removed_so = ap (λ ks. ks ++ keys_of goes) (removed_last run (edit.Remove r.key)) ∙ append_snoc (removed run) r.key (keys_of goes) ∙ m.removed_so;
-  added_so = ap (λ rs. rs ++ comes) (added_last run (edit.Remove r.key) ∙ append-nil (added run)) ∙ m.added_so;
+  added_so = ap (λ rs. rs ++ comes) (added_last run (edit.Remove r.key) ∙ append-nil (records_put run)) ∙ m.added_so;
   order = λ g c.
       let o = m.order g c in (
         snoc_asc run (edit.Remove r.key) (keys_of goes) o.0,
@@ -94,7 +94,7 @@ put_more : (og oc : List Record) (run : List Edit) (a : Record) (goes comes : Li
     → HasMerged og oc (run ++ edit.Put a ∷ []) goes comes
 put_more og oc run a goes comes m before = record {
   removed_so = ap (λ ks. ks ++ keys_of goes) (removed_last run (edit.Put a) ∙ append-nil (removed run)) ∙ m.removed_so;
-  added_so = ap (λ rs. rs ++ comes) (added_last run (edit.Put a)) ∙ append_snoc (added run) a comes ∙ m.added_so;
+  added_so = ap (λ rs. rs ++ comes) (added_last run (edit.Put a)) ∙ append_snoc (records_put run) a comes ∙ m.added_so;
   order = λ g c.
       let o = m.order g c in (
         snoc_asc run (edit.Put a) (keys_of goes) (before (under_next (edit_keys run) a.key (keys_of comes) o.1) o.0),
@@ -108,7 +108,7 @@ replace_more : (og oc : List Record) (run : List Edit) (r a : Record) (goes come
 replace_more og oc run r a goes comes same m = record {
   removed_so = ap (λ ks. ks ++ keys_of goes) (removed_last run (edit.Replace a)) ∙ append_snoc (removed run) a.key (keys_of goes)
       ∙ ap (λ k. removed run ++ k ∷ keys_of goes) (sym same) ∙ m.removed_so;
-  added_so = ap (λ rs. rs ++ comes) (added_last run (edit.Replace a)) ∙ append_snoc (added run) a comes ∙ m.added_so;
+  added_so = ap (λ rs. rs ++ comes) (added_last run (edit.Replace a)) ∙ append_snoc (records_put run) a comes ∙ m.added_so;
   order = λ g c.
       let o = m.order g c in (
         snoc_asc run (edit.Replace a) (keys_of goes) (subst (λ k. is_ascending (edit_keys run ++ k ∷ keys_of goes) ≡ true) same o.0),
@@ -117,7 +117,7 @@ replace_more og oc run r a goes comes same m = record {
 }
 
 -- one edit more
-pub merged_more : (og oc : List Record) (run : List Edit) (goes comes : List Record) (e : Edit) → HasMerged og oc run goes comes → IsFirst e goes comes
+pub merged_more : (og oc : List Record) (run : List Edit) (goes comes : List Record) (e : Edit) → HasMerged og oc run goes comes → IsFirstEdit e goes comes
     → HasMerged og oc (run ++ e ∷ []) (drop (goes_of e) goes) (drop (comes_of e) comes)
 merged_more og oc run (r ∷ goes) [] (edit.Remove k) m f =
     subst (λ l. HasMerged og oc (run ++ edit.Remove l ∷ []) goes []) (sym f)
@@ -139,14 +139,14 @@ merged_more og oc run [] comes (edit.Replace p) m f = absurd f
 merged_more og oc run (r ∷ goes) [] (edit.Replace p) m f = absurd f
 
 -- where both lists are in the order of their keys, the next edit stands above the others
-pub next_ascends : (og oc : List Record) (run : List Edit) (goes comes : List Record) (e : Edit) → HasMerged og oc run goes comes → IsFirst e goes comes
+pub next_ascends : (og oc : List Record) (run : List Edit) (goes comes : List Record) (e : Edit) → HasMerged og oc run goes comes → IsFirstEdit e goes comes
     → is_ascending (keys_of og) ≡ true → is_ascending (keys_of oc) ≡ true → is_ascending (edit_keys run ++ key_of e ∷ []) ≡ true
 next_ascends og oc run goes comes e m f a b =
     let n = merged_more og oc run goes comes e m f in
     subst (λ l. is_ascending l ≡ true) (keys_last run e)
     (ascending_front (edit_keys (run ++ e ∷ [])) (keys_of (drop (goes_of e) goes)) (n.order a b).0)
 
-counted : (run : List Edit) → more run + length (removed run) ≡ fewer run + length (added run)
+counted : (run : List Edit) → more run + length (removed run) ≡ fewer run + length (records_put run)
 counted [] = refl
 counted (edit.Remove k ∷ run) = let h = counted run in omega arith
 counted (edit.Put r ∷ run) = let h = counted run in omega arith
@@ -159,7 +159,7 @@ merged_all og oc run (r ∷ goes) comes m none = cc
 merged_all og oc run [] (a ∷ comes) m none = cc
 merged_all og oc run [] [] m none =
     let gone : removed run ≡ keys_of og = sym (append-nil (removed run)) ∙ m.removed_so in
-    let come : added run ≡ oc = sym (append-nil (added run)) ∙ m.added_so in
+    let come : records_put run ≡ oc = sym (append-nil (records_put run)) ∙ m.added_so in
     let n = counted run in
     let g = ap length gone ∙ length-map og (λ (r : Record). r.key) in
     let c = ap length come in

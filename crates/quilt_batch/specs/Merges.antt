@@ -7,7 +7,7 @@ use Rattle.quilt_node.specs.Pages.{is_ascending}
 use Rattle.quilt_node.specs.Nodes.{keys_of}
 use Rattle.quilt_btree.specs.declared.edit.Edit.{Edit}
 use Rattle.quilt_btree.specs.declared.edit.Edit.TheVariants as edit
-use Rattle.quilt_btree.specs.Batches.{are_due, removed, added, more, fewer}
+use Rattle.quilt_btree.specs.Batches.{are_due, removed, records_put, more, fewer}
 use Rattle.quilt_btree.specs.Runs.{without_all, has_each, has_any}
 
 -- how many of the records that go, and of those that come, an edit is about
@@ -22,22 +22,22 @@ comes_of (edit.Put r) = 1
 comes_of (edit.Replace r) = 1
 
 -- the edit is about the least key of the records that go and of those that come, whose lists are these
-abbrev pub IsFirst : Edit → List Record → List Record → Type 0
-IsFirst (edit.Remove k) (r ∷ goes) [] = k ≡ r.key
-IsFirst (edit.Remove k) (r ∷ goes) (a ∷ comes) = (k ≡ r.key) × (is_lt (key_cmp r.key a.key) ≡ true)
-IsFirst (edit.Remove k) [] comes = ⊥
-IsFirst (edit.Put p) [] (a ∷ comes) = p ≡ a
-IsFirst (edit.Put p) (r ∷ goes) (a ∷ comes) = (p ≡ a) × (is_lt (key_cmp a.key r.key) ≡ true)
-IsFirst (edit.Put p) goes [] = ⊥
-IsFirst (edit.Replace p) (r ∷ goes) (a ∷ comes) = (p ≡ a) × (r.key ≡ a.key)
-IsFirst (edit.Replace p) [] comes = ⊥
-IsFirst (edit.Replace p) (r ∷ goes) [] = ⊥
+abbrev pub IsFirstEdit : Edit → List Record → List Record → Type 0
+IsFirstEdit (edit.Remove k) (r ∷ goes) [] = k ≡ r.key
+IsFirstEdit (edit.Remove k) (r ∷ goes) (a ∷ comes) = (k ≡ r.key) × (is_lt (key_cmp r.key a.key) ≡ true)
+IsFirstEdit (edit.Remove k) [] comes = ⊥
+IsFirstEdit (edit.Put p) [] (a ∷ comes) = p ≡ a
+IsFirstEdit (edit.Put p) (r ∷ goes) (a ∷ comes) = (p ≡ a) × (is_lt (key_cmp a.key r.key) ≡ true)
+IsFirstEdit (edit.Put p) goes [] = ⊥
+IsFirstEdit (edit.Replace p) (r ∷ goes) (a ∷ comes) = (p ≡ a) × (r.key ≡ a.key)
+IsFirstEdit (edit.Replace p) [] comes = ⊥
+IsFirstEdit (edit.Replace p) (r ∷ goes) [] = ⊥
 
 -- The edits take out the records of the first list and put in those of the second. Where both lists are in the order of their keys, each edit is due
 -- where the records that go are there, and none that comes is there without them.
 pub record IsMerge (old new : List Record) (run : List Edit) : Type 0 where
   pub goes : removed run ≡ keys_of old
-  pub comes : added run ≡ new
+  pub comes : records_put run ≡ new
   pub due : (rs : List Record) → is_ascending (keys_of old) ≡ true → is_ascending (keys_of new) ≡ true → is_ascending (keys_of rs) ≡ true
       → has_each (keys_of old) rs ≡ true → has_any new (without_all (keys_of old) rs) ≡ false → are_due run rs ≡ true
   pub counts : more run + length old ≡ fewer run + length new

@@ -1,6 +1,6 @@
 //! Batches of edits of a tree: records that go and records that come, merged in the order of their keys.
 #![tactic(auto)]
 
-mod merging;
+mod merge;
 
-pub use merging::merged;
+pub use merge::merged;

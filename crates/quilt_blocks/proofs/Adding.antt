@@ -13,14 +13,14 @@ use Rattle.quilt_loc.proofs.Blocks.{side_most}
 use Rattle.quilt_loc.proofs.Intervals.{held_code, half_codes, origin_code}
 use Rattle.quilt_blocks.specs.Painting.{Painted, grid_by_code}
 use Rattle.quilt_blocks.proofs.Painting.{Paints-all}
-use Rattle.quilt_blocks.specs.Adding.{Adds}
+use Rattle.quilt_blocks.specs.Adding.{AddsColours}
 use Rattle.quilt_blocks.proofs.Squares.{code_to-whole}
 
-pub Adds-none : (n : ℕ) (f : Pixel → ℕ) (m : Painted) → Adds n f (length m.colours) m m
+pub Adds-none : (n : ℕ) (f : Pixel → ℕ) (m : Painted) → AddsColours n f (length m.colours) m m
 Adds-none n f m = record { level = refl; long = refl; kept = λ k lt. refl; each = λ p hx hy low high. absurd (omega arith) }
 
-pub Adds-then : (n : ℕ) (f : Pixel → ℕ) (mid end : ℕ) (old m new : Painted) → length old.colours ≤ mid → Adds n f mid old m
-    → Adds n f end m new → Adds n f end old new
+pub Adds-then : (n : ℕ) (f : Pixel → ℕ) (mid end : ℕ) (old m new : Painted) → length old.colours ≤ mid → AddsColours n f mid old m
+    → AddsColours n f end m new → AddsColours n f end old new
 Adds-then n f mid end old m new le a b =
     let l = a.long in
     record {
@@ -35,14 +35,14 @@ Adds-then n f mid end old m new le a b =
 
 -- another function that has the same colours there
 pub Adds-change : (n : ℕ) (f g : Pixel → ℕ) (end : ℕ) (old new : Painted)
-    → ((p : Pixel) → p.x < side n → p.y < side n → length old.colours ≤ code_at p → code_at p < end → f p ≡ g p) → Adds n f end old new → Adds n g end old new
+    → ((p : Pixel) → p.x < side n → p.y < side n → length old.colours ≤ code_at p → code_at p < end → f p ≡ g p) → AddsColours n f end old new → AddsColours n g end old new
 Adds-change n f g end old new same a =
     record { level = a.level; long = a.long; kept = a.kept; each = λ p hx hy low high. a.each p hx hy low high ∙ same p hx hy low high }
 
 -- a block, each pixel of which has this colour
 pub Adds-push : (n : ℕ) (f : Pixel → ℕ) (old new : Painted) (b : Block) (c : ℕ) → n ≤ 12 → IsBlock n b → code_from b ≡ length old.colours
     → ((p : Pixel) → Holds b p → f p ≡ c) → new ≡ record { level = old.level; colours = old.colours ++ replicate (b.side * b.side) c }
-    → Adds n f (code_to b) old new
+    → AddsColours n f (code_to b) old new
 Adds-push n f old new b c le h at same is =
     let more = replicate (b.side * b.side) c in
     let long : length more ≡ b.side * b.side = length-replicate (b.side * b.side) c in
@@ -72,14 +72,14 @@ whole_next n b m is start = ap code_from is ∙ origin_code ∙ sym (ap (λ (z :
 
 -- the whole square, from nothing
 pub Adds-whole : (n k : ℕ) (f : Pixel → ℕ) (b : Block) (old new : Painted) → k ≡ n → b ≡ whole k → old ≡ record { level = k; colours = [] }
-    → Adds n f (code_to b) old new → Adds n f (4 ^ n) (record { level = n; colours = [] }) new
+    → AddsColours n f (code_to b) old new → AddsColours n f (4 ^ n) (record { level = n; colours = [] }) new
 Adds-whole n k f b old new level is start a =
     let empty : old ≡ record { level = n; colours = [] } = start ∙ ap (λ (j : ℕ). let m : Painted = record { level = j; colours = [] } in m) level in
     let end : code_to b ≡ 4 ^ n = ap code_to (is ∙ ap whole level) ∙ code_to-whole n in
-    subst (λ (m : Painted). Adds n f (4 ^ n) m new) empty (subst (λ (j : ℕ). Adds n f j old new) end a)
+    subst (λ (m : Painted). AddsColours n f (4 ^ n) m new) empty (subst (λ (j : ℕ). AddsColours n f j old new) end a)
 
 -- once all is there, the grid is that of f
-pub Adds-all : (n : ℕ) (f : Pixel → ℕ) (m : Painted) → n ≤ 12 → Adds n f (4 ^ n) (record { level = n; colours = [] }) m → grid_by_code n m.colours ≡ grid_of n f
+pub Adds-all : (n : ℕ) (f : Pixel → ℕ) (m : Painted) → n ≤ 12 → AddsColours n f (4 ^ n) (record { level = n; colours = [] }) m → grid_by_code n m.colours ≡ grid_of n f
 Adds-all n f m le a =
     let long = a.long in
     Paints-all n f m.colours le long (record { each = λ p hx hy lt. a.each p hx hy (omega arith) (omega arith) })

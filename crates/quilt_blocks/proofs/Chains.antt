@@ -15,36 +15,36 @@ use Rattle.quilt_loc.proofs.Intervals.{code_held, held_code, square_pos}
 use Rattle.quilt_loc.proofs.Rising.{nat_less}
 use Rattle.quilt_blocks.specs.Cutting.{leaf_cmp}
 use Rattle.quilt_blocks.specs.Painting.{colours_of}
-use Rattle.quilt_blocks.specs.Walk.{size_of}
+use Rattle.quilt_blocks.specs.Walk.{pixel_count}
 use Rattle.quilt_blocks.specs.Listing.{Follows}
 
 -- how many pixels the block has
 abbrev pub pixels_in : Block × ℕ → ℕ
 pixels_in e = e.0.side * e.0.side
 
-pub size_of-cons : (e : Block × ℕ) (es : List (Block × ℕ)) → size_of (e ∷ es) ≡ pixels_in e + size_of es
-unfolding size_of
+pub size_of-cons : (e : Block × ℕ) (es : List (Block × ℕ)) → pixel_count (e ∷ es) ≡ pixels_in e + pixel_count es
+unfolding pixel_count
 size_of-cons e es = sum_by-cons pixels_in e es
 
-pub size_of-append : (xs ys : List (Block × ℕ)) → size_of (xs ++ ys) ≡ size_of xs + size_of ys
-unfolding size_of
+pub size_of-append : (xs ys : List (Block × ℕ)) → pixel_count (xs ++ ys) ≡ pixel_count xs + pixel_count ys
+unfolding pixel_count
 size_of-append xs ys = sum_by-append pixels_in xs ys
 
 pub size_of-take_more : (es : List (Block × ℕ)) (i : ℕ) (d : Block × ℕ) → i < length es
-    → size_of (take (i + 1) es) ≡ size_of (take i es) + pixels_in (get_or es i d)
-unfolding size_of
+    → pixel_count (take (i + 1) es) ≡ pixel_count (take i es) + pixels_in (get_or es i d)
+unfolding pixel_count
 size_of-take_more es i d lt = sum_by_more pixels_in es i d lt
 
-pub size_of-nil : size_of [] ≡ 0
-unfolding size_of
+pub size_of-nil : pixel_count [] ≡ 0
+unfolding pixel_count
 size_of-nil = refl
 
 pub colours_of-cons : (e : Block × ℕ) (es : List (Block × ℕ)) → colours_of (e ∷ es) ≡ replicate (pixels_in e) e.1 ++ colours_of es
 unfolding colours_of
 colours_of-cons e es = refl
 
-pub length-colours_of : (es : List (Block × ℕ)) → length (colours_of es) ≡ size_of es
-unfolding colours_of size_of
+pub length-colours_of : (es : List (Block × ℕ)) → length (colours_of es) ≡ pixel_count es
+unfolding colours_of pixel_count
 length-colours_of [] = refl
 length-colours_of (e ∷ es) =
     length-append (replicate (pixels_in e) e.1) (colours_of es)
@@ -57,28 +57,28 @@ colours_of-append (x ∷ xs) ys =
     ap (λ l. replicate (pixels_in x) x.1 ++ l) (colours_of-append xs ys) ∙ sym (append_assoc (replicate (pixels_in x) x.1) (colours_of xs) (colours_of ys))
 
 module _ (n : ℕ) where
-  pub Follows-append : (at : ℕ) (xs ys : List (Block × ℕ)) → Follows n at xs → Follows n (at + size_of xs) ys → Follows n at (xs ++ ys)
+  pub Follows-append : (at : ℕ) (xs ys : List (Block × ℕ)) → Follows n at xs → Follows n (at + pixel_count xs) ys → Follows n at (xs ++ ys)
   Follows-append at [] ys h k =
       let z = size_of-nil in
-      let e : at + size_of [] ≡ at = omega arith in
+      let e : at + pixel_count [] ≡ at = omega arith in
       subst (λ (a : ℕ). Follows n a ys) e k
   Follows-append at (x ∷ xs) ys h k =
       let c = size_of-cons x xs in
-      let e : at + size_of (x ∷ xs) ≡ at + pixels_in x + size_of xs = omega arith in
+      let e : at + pixel_count (x ∷ xs) ≡ at + pixels_in x + pixel_count xs = omega arith in
       (h.0, h.1, Follows-append (at + pixels_in x) xs ys h.2 (subst (λ (a : ℕ). Follows n a ys) e k))
 
   pub Follows-front : (at : ℕ) (xs ys : List (Block × ℕ)) → Follows n at (xs ++ ys) → Follows n at xs
   Follows-front at [] ys h = tt
   Follows-front at (x ∷ xs) ys h = (h.0, h.1, Follows-front (at + pixels_in x) xs ys h.2)
 
-  pub Follows-back : (at : ℕ) (xs ys : List (Block × ℕ)) → Follows n at (xs ++ ys) → Follows n (at + size_of xs) ys
+  pub Follows-back : (at : ℕ) (xs ys : List (Block × ℕ)) → Follows n at (xs ++ ys) → Follows n (at + pixel_count xs) ys
   Follows-back at [] ys h =
       let z = size_of-nil in
-      let e : at ≡ at + size_of [] = omega arith in
+      let e : at ≡ at + pixel_count [] = omega arith in
       subst (λ (a : ℕ). Follows n a ys) e h
   Follows-back at (x ∷ xs) ys h =
       let c = size_of-cons x xs in
-      let e : at + pixels_in x + size_of xs ≡ at + size_of (x ∷ xs) = omega arith in
+      let e : at + pixels_in x + pixel_count xs ≡ at + pixel_count (x ∷ xs) = omega arith in
       subst (λ (a : ℕ). Follows n a ys) e (Follows-back (at + pixels_in x) xs ys h.2)
 
   -- a member lies between the first and the last code
@@ -90,12 +90,12 @@ module _ (n : ℕ) where
   LiesIn-here : (e : Block × ℕ) (at to : ℕ) (d : Block × ℕ) → e ≡ d → IsBlock n e.0 → at ≤ code_from e.0 → code_to e.0 ≤ to → LiesIn at to d.0
   LiesIn-here e at to d is b low high = subst (λ (z : Block × ℕ). LiesIn at to z.0) is (record { block = b; from = low; to = high })
 
-  pub Follows-member : (at : ℕ) (es : List (Block × ℕ)) (e : Block × ℕ) → Follows n at es → Contains es e → LiesIn at (at + size_of es) e.0
+  pub Follows-member : (at : ℕ) (es : List (Block × ℕ)) (e : Block × ℕ) → Follows n at es → Contains es e → LiesIn at (at + pixel_count es) e.0
   Follows-member at [] e h c = absurd (Contains-nil e c)
   Follows-member at (x ∷ xs) e h c =
       let s = size_of-cons x xs in
       let f = h.1 in
-      ⊎_elim (λ is. LiesIn-here x at (at + size_of (x ∷ xs)) e is h.0 (omega arith) (omega arith))
+      ⊎_elim (λ is. LiesIn-here x at (at + pixel_count (x ∷ xs)) e is h.0 (omega arith) (omega arith))
       (λ d.
       let r = Follows-member (at + pixels_in x) xs e h.2 d in
       let l = r.from in
@@ -124,7 +124,7 @@ module _ (n : ℕ) where
 
   -- the last one ends where all end
   pub Follows-last : (at : ℕ) (es : List (Block × ℕ)) (i : ℕ) (d : Block × ℕ) → Follows n at es → i + 1 ≡ length es
-      → code_to (get_or es i d).0 ≡ at + size_of es
+      → code_to (get_or es i d).0 ≡ at + pixel_count es
   Follows-last at [] i d h e = absurd (omega arith)
   Follows-last at (x ∷ []) zero d h e = let s = size_of-cons x [] in let z = size_of-nil in let a = h.1 in omega arith
   Follows-last at (x ∷ []) (suc i) d h e = absurd (omega arith)
@@ -136,7 +136,7 @@ module _ (n : ℕ) where
 
   -- the member at a place begins after those before it
   pub Follows-place : (at : ℕ) (es : List (Block × ℕ)) (i : ℕ) (d : Block × ℕ) → Follows n at es → i < length es
-      → code_from (get_or es i d).0 ≡ at + size_of (take i es)
+      → code_from (get_or es i d).0 ≡ at + pixel_count (take i es)
   Follows-place at [] i d h lt = absurd (omega arith)
   Follows-place at (x ∷ xs) zero d h lt = let a = h.1 in let z = size_of-nil in omega arith
   Follows-place at (x ∷ xs) (suc i) d h lt =
@@ -145,7 +145,7 @@ module _ (n : ℕ) where
       omega arith
 
   -- the member that has a code
-  pub member_with : (at : ℕ) (es : List (Block × ℕ)) (k : ℕ) → Follows n at es → at ≤ k → k < at + size_of es
+  pub member_with : (at : ℕ) (es : List (Block × ℕ)) (k : ℕ) → Follows n at es → at ≤ k → k < at + pixel_count es
       → (e : Block × ℕ) × Contains es e × (code_from e.0 ≤ k) × (k < code_to e.0)
   member_with at [] k h low high = let z = size_of-nil in absurd (omega arith)
   member_with at (x ∷ xs) k h low high =
@@ -204,7 +204,7 @@ module _ (n : ℕ) where
         let f = h.1 in
         count_more false x xs (misses x.0 h.0 (λ low high. omega arith)) ∙ (let r = count_behind (at + pixels_in x) xs h.2 (omega arith) in omega arith)
 
-    pub one_holds : (at : ℕ) (es : List (Block × ℕ)) → Follows n at es → at ≤ code_at p → code_at p < at + size_of es → count_by (λ e. in_block e.0 p) es ≡ 1
+    pub one_holds : (at : ℕ) (es : List (Block × ℕ)) → Follows n at es → at ≤ code_at p → code_at p < at + pixel_count es → count_by (λ e. in_block e.0 p) es ≡ 1
     one_holds at [] h low high = let z = size_of-nil in absurd (omega arith)
     one_holds at (x ∷ xs) h low high =
         let s = size_of-cons x xs in

@@ -15,7 +15,7 @@ use Rattle.quilt_loc.proofs.Intervals.{side_squared, quarter_codes, origin_code}
 use Rattle.quilt_loc.proofs.Rising.{same_rising}
 use Rattle.quilt_blocks.specs.Cutting.{cut, leaves_by_code, leaf_cmp}
 use Rattle.quilt_blocks.specs.Mosaic.{HasColour}
-use Rattle.quilt_blocks.specs.Walk.{size_of}
+use Rattle.quilt_blocks.specs.Walk.{pixel_count}
 use Rattle.quilt_blocks.specs.Listing.{Follows}
 use Rattle.quilt_blocks.proofs.Colours.{HasColour-from_uniform}
 use Rattle.quilt_blocks.proofs.Maximal.{IsMaximal, IsMaximal-from}
@@ -25,7 +25,7 @@ use Rattle.quilt_blocks.proofs.Chains.{size_of-nil, size_of-cons, size_of-append
 -- coloured blocks from one code up to another
 pub record Runs (n : ℕ) (first end : ℕ) (es : List (Block × ℕ)) : Type 0 where
   pub follows : Follows n first es
-  pub size : first + size_of es ≡ end
+  pub size : first + pixel_count es ≡ end
 
 pub Runs-append : (n a b c : ℕ) (xs ys : List (Block × ℕ)) → Runs n a b xs → Runs n b c ys → Runs n a c (xs ++ ys)
 Runs-append n a b c xs ys h k =

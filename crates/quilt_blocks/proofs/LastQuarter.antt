@@ -17,8 +17,8 @@ use Rattle.quilt_loc.proofs.Intervals.{half_codes}
 use Rattle.quilt_loc.proofs.Nesting.{IsBlock-parent_of, side_pos}
 use Rattle.quilt_loc.proofs.Quartered.{halved}
 use Rattle.quilt_blocks.specs.declared.leaf.Leaf.{Leaf}
-use Rattle.quilt_blocks.specs.Cutting.{pair_of}
-use Rattle.quilt_blocks.specs.Listing.{Follows, EndsInQuarters, pairs_of}
+use Rattle.quilt_blocks.specs.Cutting.{leaf_pair}
+use Rattle.quilt_blocks.specs.Listing.{Follows, EndsInQuarters, leaf_pairs}
 use Rattle.quilt_blocks.proofs.Chains.{Follows-member, Follows-next}
 use Rattle.quilt_blocks.proofs.Places.{pair_at}
 use Rattle.quilt_blocks.proofs.Merging.{siblings, at_the_end, last_four_are, four_same}
@@ -223,12 +223,12 @@ module _ (items : List Leaf) (d : Leaf) where
       × ((get_or items (length items - 1) d).block.y % (2 * (get_or items (length items - 1) d).block.side) ≡ (get_or items (length items - 1) d).block.side)
 
   module _ (long : 4 ≤ length items) where
-    pub place : (j i : ℕ) → i < 4 → j + i ≡ 4 → get_or (pairs_of items) (length items - 4 + i) (pair_of d) ≡ pair_of (get_or items (length items - j) d)
+    pub place : (j i : ℕ) → i < 4 → j + i ≡ 4 → get_or (leaf_pairs items) (length items - 4 + i) (leaf_pair d) ≡ leaf_pair (get_or items (length items - j) d)
     place j i lt e =
         let same : length items - 4 + i ≡ length items - j = omega arith in
-        ap (λ z. get_or (pairs_of items) z (pair_of d)) same ∙ pair_at items (length items - j) d (omega arith)
+        ap (λ z. get_or (leaf_pairs items) z (leaf_pair d)) same ∙ pair_at items (length items - j) d (omega arith)
 
-    pub alike_from : IsLast → HasSame 2 → HasSame 3 → HasSame 4 → IsAlike (pairs_of items) (pair_of d) (length items - 4)
+    pub alike_from : IsLast → HasSame 2 → HasSame 3 → HasSame 4 → IsAlike (leaf_pairs items) (leaf_pair d) (length items - 4)
     alike_from l a b c =
         let p0 = place 4 0 (omega arith) refl in
         let p1 = place 3 1 (omega arith) refl in
@@ -241,35 +241,35 @@ module _ (items : List Leaf) (d : Leaf) where
           colours = colours p0 p1 p2 p3;
         }
       where
-        sides : get_or (pairs_of items) (length items - 4 + 0) (pair_of d) ≡ pair_of (get_or items (length items - 4) d)
-            → get_or (pairs_of items) (length items - 4 + 1) (pair_of d) ≡ pair_of (get_or items (length items - 3) d)
-            → get_or (pairs_of items) (length items - 4 + 2) (pair_of d) ≡ pair_of (get_or items (length items - 2) d)
-            → get_or (pairs_of items) (length items - 4 + 3) (pair_of d) ≡ pair_of (get_or items (length items - 1) d)
-            → (j : ℕ) → j < 3 → (get_or (pairs_of items) (length items - 4 + j) (pair_of d)).0.side
-            ≡ (get_or (pairs_of items) (length items - 4 + 3) (pair_of d)).0.side
+        sides : get_or (leaf_pairs items) (length items - 4 + 0) (leaf_pair d) ≡ leaf_pair (get_or items (length items - 4) d)
+            → get_or (leaf_pairs items) (length items - 4 + 1) (leaf_pair d) ≡ leaf_pair (get_or items (length items - 3) d)
+            → get_or (leaf_pairs items) (length items - 4 + 2) (leaf_pair d) ≡ leaf_pair (get_or items (length items - 2) d)
+            → get_or (leaf_pairs items) (length items - 4 + 3) (leaf_pair d) ≡ leaf_pair (get_or items (length items - 1) d)
+            → (j : ℕ) → j < 3 → (get_or (leaf_pairs items) (length items - 4 + j) (leaf_pair d)).0.side
+            ≡ (get_or (leaf_pairs items) (length items - 4 + 3) (leaf_pair d)).0.side
         sides p0 p1 p2 p3 zero lt = ap (λ (z : Block × ℕ). z.0.side) p0 ∙ c.0 ∙ sym (ap (λ (z : Block × ℕ). z.0.side) p3)
         sides p0 p1 p2 p3 (suc zero) lt = ap (λ (z : Block × ℕ). z.0.side) p1 ∙ b.0 ∙ sym (ap (λ (z : Block × ℕ). z.0.side) p3)
         sides p0 p1 p2 p3 (suc (suc zero)) lt = ap (λ (z : Block × ℕ). z.0.side) p2 ∙ a.0 ∙ sym (ap (λ (z : Block × ℕ). z.0.side) p3)
         sides p0 p1 p2 p3 (suc (suc (suc j))) lt = absurd (omega arith)
 
-        colours : get_or (pairs_of items) (length items - 4 + 0) (pair_of d) ≡ pair_of (get_or items (length items - 4) d)
-            → get_or (pairs_of items) (length items - 4 + 1) (pair_of d) ≡ pair_of (get_or items (length items - 3) d)
-            → get_or (pairs_of items) (length items - 4 + 2) (pair_of d) ≡ pair_of (get_or items (length items - 2) d)
-            → get_or (pairs_of items) (length items - 4 + 3) (pair_of d) ≡ pair_of (get_or items (length items - 1) d)
-            → (j : ℕ) → j < 3 → (get_or (pairs_of items) (length items - 4 + j) (pair_of d)).1 ≡ (get_or (pairs_of items) (length items - 4 + 3) (pair_of d)).1
+        colours : get_or (leaf_pairs items) (length items - 4 + 0) (leaf_pair d) ≡ leaf_pair (get_or items (length items - 4) d)
+            → get_or (leaf_pairs items) (length items - 4 + 1) (leaf_pair d) ≡ leaf_pair (get_or items (length items - 3) d)
+            → get_or (leaf_pairs items) (length items - 4 + 2) (leaf_pair d) ≡ leaf_pair (get_or items (length items - 2) d)
+            → get_or (leaf_pairs items) (length items - 4 + 3) (leaf_pair d) ≡ leaf_pair (get_or items (length items - 1) d)
+            → (j : ℕ) → j < 3 → (get_or (leaf_pairs items) (length items - 4 + j) (leaf_pair d)).1 ≡ (get_or (leaf_pairs items) (length items - 4 + 3) (leaf_pair d)).1
         colours p0 p1 p2 p3 zero lt = ap (λ (z : Block × ℕ). z.1) p0 ∙ c.1 ∙ sym (ap (λ (z : Block × ℕ). z.1) p3)
         colours p0 p1 p2 p3 (suc zero) lt = ap (λ (z : Block × ℕ). z.1) p1 ∙ b.1 ∙ sym (ap (λ (z : Block × ℕ). z.1) p3)
         colours p0 p1 p2 p3 (suc (suc zero)) lt = ap (λ (z : Block × ℕ). z.1) p2 ∙ a.1 ∙ sym (ap (λ (z : Block × ℕ). z.1) p3)
         colours p0 p1 p2 p3 (suc (suc (suc j))) lt = absurd (omega arith)
 
-    pub last_from : IsAlike (pairs_of items) (pair_of d) (length items - 4) → IsLast
+    pub last_from : IsAlike (leaf_pairs items) (leaf_pair d) (length items - 4) → IsLast
     last_from a =
         let p3 = place 1 3 (omega arith) refl in (
           subst (λ (z : Block × ℕ). z.0.x % (2 * z.0.side) ≡ z.0.side) p3 a.x,
           subst (λ (z : Block × ℕ). z.0.y % (2 * z.0.side) ≡ z.0.side) p3 a.y,
         )
 
-    pub same_from : (j i : ℕ) → i < 3 → j + i ≡ 4 → IsAlike (pairs_of items) (pair_of d) (length items - 4) → HasSame j
+    pub same_from : (j i : ℕ) → i < 3 → j + i ≡ 4 → IsAlike (leaf_pairs items) (leaf_pair d) (length items - 4) → HasSame j
     same_from j i lt e a =
         let p = place j i (omega arith) e in
         let p3 = place 1 3 (omega arith) refl in (

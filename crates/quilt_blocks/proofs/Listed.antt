@@ -15,11 +15,11 @@ use Rattle.quilt_loc.proofs.Nesting.{Within-holds}
 use Rattle.quilt_loc.proofs.Quartered.{Within-whole}
 use Rattle.quilt_loc.proofs.Intervals.{code_held, side_squared, square_pos}
 use Rattle.quilt_blocks.specs.declared.leaf.Leaf.{Leaf}
-use Rattle.quilt_blocks.specs.Cutting.{pair_of}
+use Rattle.quilt_blocks.specs.Cutting.{leaf_pair}
 use Rattle.quilt_blocks.specs.Mosaic.{IsMosaic}
 use Rattle.quilt_blocks.specs.Painting.{colours_of, grid_by_code}
 use Rattle.quilt_blocks.specs.Raster.{Raster, IsRaster}
-use Rattle.quilt_blocks.specs.Listing.{IsListed, IsMaking, Follows, grid_from, pairs_of}
+use Rattle.quilt_blocks.specs.Listing.{IsListed, IsMaking, Follows, grid_from, leaf_pairs}
 use Rattle.quilt_blocks.proofs.Chains.{size_of-nil, length-colours_of, Follows-member, member_with, colour_in, one_holds}
 use Rattle.quilt_blocks.proofs.Cuts.{Runs, IsLeaf, leaf_is, leaves_run, leaves_members, leaves_are_by_code}
 use Rattle.quilt_blocks.proofs.Leaves.{leaves_are}
@@ -111,8 +111,8 @@ module _ (n : ℕ) (es : List (Block × ℕ)) (h : IsListed n es) where
       }
 
 -- a leaf of the list, as the definitions have it
-pub pair_member : (items : List Leaf) (i : ℕ) (d : Leaf) → i < length items → get_or items i d ≡ d → Contains (pairs_of items) (pair_of d)
-pair_member items i d lt e = (i, (let l = length-map items pair_of in omega arith), get_or-map pair_of items i d (pair_of d) lt ∙ ap pair_of e)
+pub pair_member : (items : List Leaf) (i : ℕ) (d : Leaf) → i < length items → get_or items i d ≡ d → Contains (leaf_pairs items) (leaf_pair d)
+pair_member items i d lt e = (i, (let l = length-map items leaf_pair in omega arith), get_or-map leaf_pair items i d (leaf_pair d) lt ∙ ap leaf_pair e)
 
 pub some_leaf : (n : ℕ) (es : List (Block × ℕ)) → Runs n 0 (4 ^ n) es → 1 ≤ length es
 some_leaf n [] r = let z = size_of-nil in let s = r.size in let p = four_pos n in absurd (omega arith)

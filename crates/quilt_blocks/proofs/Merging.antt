@@ -13,7 +13,7 @@ use Rattle.quilt_loc.proofs.Quartered.{halved}
 use Rattle.quilt_loc.proofs.Intervals.{HasQuarterCodes, half_codes, square_pos}
 use Rattle.quilt_loc.proofs.Nesting.{side_pos}
 use Rattle.quilt_blocks.specs.Painting.{colours_of}
-use Rattle.quilt_blocks.specs.Walk.{size_of}
+use Rattle.quilt_blocks.specs.Walk.{pixel_count}
 use Rattle.quilt_blocks.specs.Listing.{Follows, IsUnmerged, IsMaking, IsGrowing, EndsInQuarters}
 use Rattle.quilt_blocks.proofs.Chains.{pixels_in, size_of-cons, colours_of-append, member_pos, Follows-append, Follows-front, Follows-back, Follows-member}
 
@@ -48,10 +48,10 @@ IsMaking-none n least most = record {
 }
 
 -- one more block
-pub IsGrowing-push : (n : ℕ) (es : List (Block × ℕ)) (e : Block × ℕ) → IsMaking n es → IsBlock n e.0 → code_from e.0 ≡ size_of es → e.1 < 65536
+pub IsGrowing-push : (n : ℕ) (es : List (Block × ℕ)) (e : Block × ℕ) → IsMaking n es → IsBlock n e.0 → code_from e.0 ≡ pixel_count es → e.1 < 65536
     → IsGrowing n (es ++ e ∷ [])
 IsGrowing-push n es e m h at small =
-    let z : code_from e.0 ≡ 0 + size_of es = omega arith in
+    let z : code_from e.0 ≡ 0 + pixel_count es = omega arith in
     record {
       colours = All-append (λ (d : Block × ℕ). d.1 < 65536) es (e ∷ []) m.colours (All-from_recursion (λ (d : Block × ℕ). d.1 < 65536) (e ∷ []) (small, tt));
       follows = Follows-append n 0 es (e ∷ []) m.follows (subst (λ (a : ℕ). Follows n a (e ∷ [])) z (Follows-one n e h));
@@ -129,7 +129,7 @@ IsGrowing-merge n es w g q =
     }
 
 -- the last member is the one that ends where all end
-last_is : (n at : ℕ) (es : List (Block × ℕ)) (e : Block × ℕ) → Follows n at es → Contains es e → code_to e.0 ≡ at + size_of es
+last_is : (n at : ℕ) (es : List (Block × ℕ)) (e : Block × ℕ) → Follows n at es → Contains es e → code_to e.0 ≡ at + pixel_count es
     → (ys : List (Block × ℕ)) × (es ≡ ys ++ e ∷ [])
 last_is n at [] e h c end = absurd (Contains-nil e c)
 last_is n at (x ∷ []) e h c end =
@@ -140,7 +140,7 @@ last_is n at (x ∷ y ∷ ys) e h c end =
     let f = h.1 in
     let py = member_pos n y.0 h.2.0 in
     ⊎_elim
-    (λ is. let e' : code_to x.0 ≡ at + size_of (x ∷ y ∷ ys) = ap (λ (z : Block × ℕ). code_to z.0) is ∙ end in absurd (omega arith))
+    (λ is. let e' : code_to x.0 ≡ at + pixel_count (x ∷ y ∷ ys) = ap (λ (z : Block × ℕ). code_to z.0) is ∙ end in absurd (omega arith))
     (λ d.
     let r = last_is n (at + pixels_in x) (y ∷ ys) e h.2 d (omega arith) in
     let e' = r.1 in

@@ -6,7 +6,7 @@ use Rattle.quilt_loc.specs.Codes.{code_at}
 use Rattle.quilt_blocks.specs.Painting.{Painted}
 
 -- behind the old colours come those of the pixels with the codes up to this one, each as the function has it
-pub record Adds (n : ℕ) (colour : Pixel → ℕ) (end : ℕ) (old new : Painted) : Type 0 where
+pub record AddsColours (n : ℕ) (colour : Pixel → ℕ) (end : ℕ) (old new : Painted) : Type 0 where
   pub level : new.level ≡ old.level
   pub long : length new.colours ≡ end
   pub kept : (k : ℕ) → k < length old.colours → slice_index new.colours k ≡ slice_index old.colours k

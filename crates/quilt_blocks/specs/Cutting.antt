@@ -18,8 +18,8 @@ unfoldable pub leaves_by_code : ℕ → Grid → List (Block × ℕ)
 leaves_by_code n g = map (coloured n g) (cut (is_uniform n g) n (whole n))
 
 -- a leaf as the definitions have it: its block and its colour
-abbrev pub pair_of : Leaf → Block × ℕ
-pair_of l = (l.block, l.colour.0)
+abbrev pub leaf_pair : Leaf → Block × ℕ
+leaf_pair l = (l.block, l.colour.0)
 
 -- leaves by the codes of their blocks
 abbrev pub leaf_cmp : Block × ℕ → Block × ℕ → Ordering

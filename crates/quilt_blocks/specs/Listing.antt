@@ -5,12 +5,12 @@ use Rattle.quilt_types.specs.Plane.{quarters_of, IsBlock}
 use Rattle.quilt_types.specs.Layers.{Grid}
 use Rattle.quilt_loc.specs.Codes.{code_from}
 use Rattle.quilt_blocks.specs.declared.leaf.Leaf.{Leaf}
-use Rattle.quilt_blocks.specs.Cutting.{leaves_by_code, pair_of}
+use Rattle.quilt_blocks.specs.Cutting.{leaves_by_code, leaf_pair}
 use Rattle.quilt_blocks.specs.Painting.{colours_of, grid_by_code}
 
 -- the leaves as the definitions have them
-abbrev pub pairs_of : List Leaf → List (Block × ℕ)
-pairs_of leaves = map pair_of leaves
+abbrev pub leaf_pairs : List Leaf → List (Block × ℕ)
+leaf_pairs leaves = map leaf_pair leaves
 
 -- the grid that the blocks paint
 abbrev pub grid_from : ℕ → List (Block × ℕ) → Grid

@@ -8,7 +8,7 @@ use Rattle.quilt_loc.specs.Codes.{code_from}
 use Rattle.quilt_blocks.specs.Mosaic.{HasColour}
 
 -- the leaves that are still to come, and the code at which the first of them begins
-pub record Walk : Type 0 where
+pub record LeafWalk : Type 0 where
   pub level : ℕ
   pub grid : Grid
   pub at : ℕ
@@ -22,5 +22,5 @@ pub record IsLeafAt (n : ℕ) (g : Grid) (at : ℕ) (e : Block × ℕ) : Type 0 
   pub colour : HasColour n g e.0 e.1
 
 -- how many pixels the blocks have
-unfoldable pub size_of : List (Block × ℕ) → ℕ
-size_of es = sum_by (λ e. e.0.side * e.0.side) es
+unfoldable pub pixel_count : List (Block × ℕ) → ℕ
+pixel_count es = sum_by (λ e. e.0.side * e.0.side) es

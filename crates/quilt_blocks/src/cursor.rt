@@ -1,5 +1,5 @@
 ghost use Rattle.std.specs.Prelude.{◌≡◌, ℕ, ◌+◌, ◌*◌, ◌^◌, ◌↔◌, [], ◌∷◌, IsNone, IfSome};
-ghost use Rattle.quilt_blocks.specs.Cutting.{leaves_by_code, pair_of};
+ghost use Rattle.quilt_blocks.specs.Cutting.{leaves_by_code, leaf_pair};
 ghost use Rattle.quilt_blocks.specs.Walk.{IsLeafAt};
 
 use crate::{Leaf, LeafList};
@@ -13,19 +13,19 @@ pub struct Cursor<'a> {
 }
 
 impl<'a> Model for Cursor<'a> {
-    ghost use Rattle.quilt_blocks.specs.Walk.{Walk};
+    ghost use Rattle.quilt_blocks.specs.Walk.{LeafWalk};
 
-    ghost Value = { Walk };
+    ghost Value = { LeafWalk };
 
     ghost use Rattle.std.specs.Prelude.{◌≤◌, ℕ, length, take, drop};
     ghost use Rattle.quilt_blocks.specs.Raster.{IsRaster};
     ghost use Rattle.quilt_blocks.specs.Cutting.{leaves_by_code};
-    ghost use Rattle.quilt_blocks.specs.Walk.{size_of};
+    ghost use Rattle.quilt_blocks.specs.Walk.{pixel_count};
 
     ghost view = { λ c. record {
       level = c.list.now.level;
       grid = c.list.now.grid;
-      at = size_of (take c.place (leaves_by_code c.list.now.level c.list.now.grid));
+      at = pixel_count (take c.place (leaves_by_code c.list.now.level c.list.now.grid));
       rest = drop c.place (leaves_by_code c.list.now.level c.list.now.grid);
     } };
 
@@ -48,8 +48,8 @@ impl<'a> Cursor<'a> {
         ensures end { IsNone result ↔ (self.old.rest ≡ []) }
         ensures whole { IsNone result ↔ (self.old.at ≡ 4 ^ self.old.level) }
         ensures stays { IsNone result → self.new ≡ self.old }
-        ensures first { IfSome result (λ l. self.old.rest ≡ pair_of l ∷ self.new.rest) }
-        ensures leaf { IfSome result (λ l. IsLeafAt self.old.level self.old.grid self.old.at (pair_of l)) }
+        ensures first { IfSome result (λ l. self.old.rest ≡ leaf_pair l ∷ self.new.rest) }
+        ensures leaf { IfSome result (λ l. IsLeafAt self.old.level self.old.grid self.old.at (leaf_pair l)) }
         ensures at { IfSome result (λ l. self.new.at ≡ self.old.at + l.block.side * l.block.side) }
         ensures level { self.new.level ≡ self.old.level }
         ensures grid { self.new.grid ≡ self.old.grid }

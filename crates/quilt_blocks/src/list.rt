@@ -5,7 +5,7 @@ ghost use Rattle.quilt_types.specs.Layers.{colour_at};
 ghost use Rattle.quilt_types.specs.Quadtrees.{is_uniform, leaves};
 ghost use Rattle.quilt_loc.specs.Codes.{Rises};
 ghost use Rattle.quilt_blocks.specs.Raster.{IsRaster};
-ghost use Rattle.quilt_blocks.specs.Cutting.{leaves_by_code, leaf_cmp, pair_of};
+ghost use Rattle.quilt_blocks.specs.Cutting.{leaves_by_code, leaf_cmp, leaf_pair};
 ghost use Rattle.quilt_blocks.specs.Mosaic.{HasColour};
 
 use crate::Leaf;
@@ -25,20 +25,20 @@ impl Model for LeafList {
 
     ghost Value = { Raster };
 
-    ghost use Rattle.quilt_blocks.specs.Listing.{IsListed, grid_from, pairs_of};
+    ghost use Rattle.quilt_blocks.specs.Listing.{IsListed, grid_from, leaf_pairs};
 
-    ghost view = { λ l. record { level = l.level; grid = grid_from l.level (pairs_of l.leaves.items) } };
+    ghost view = { λ l. record { level = l.level; grid = grid_from l.level (leaf_pairs l.leaves.items) } };
 
-    ghost invariant = { λ l. IsListed l.level (pairs_of l.leaves.items) };
+    ghost invariant = { λ l. IsListed l.level (leaf_pairs l.leaves.items) };
 }
 
 impl LeafList {
-    ghost use Rattle.quilt_blocks.specs.Listing.{IsListed, grid_from, pairs_of};
+    ghost use Rattle.quilt_blocks.specs.Listing.{IsListed, grid_from, leaf_pairs};
 
     /// The list of these leaves, which are the maximal blocks of one grid in the order of their codes.
     pub(crate) fn of(level: u8, leaves: Vec<Leaf>) -> LeafList
-        requires { IsListed level (pairs_of leaves.items) }
-        ensures { result ≡ record { level = level; grid = grid_from level (pairs_of leaves.items) } }
+        requires { IsListed level (leaf_pairs leaves.items) }
+        ensures { result ≡ record { level = level; grid = grid_from level (leaf_pairs leaves.items) } }
     {
         LeafList { level, leaves }
     }
@@ -65,7 +65,7 @@ impl LeafList {
     /// The leaf at a place in the order of the codes.
     pub fn leaf(&self, i: usize) -> Leaf
         requires { i < length (leaves_by_code self.now.level self.now.grid) }
-        ensures value { pair_of result ≡ slice_index_or (leaves_by_code self.now.level self.now.grid) i (pair_of result) }
+        ensures value { leaf_pair result ≡ slice_index_or (leaves_by_code self.now.level self.now.grid) i (leaf_pair result) }
         ensures block { IsBlock self.now.level result.block }
         ensures colour { HasColour self.now.level self.now.grid result.block result.colour.0 }
     {
@@ -76,7 +76,7 @@ impl LeafList {
     pub fn leaf_around(&self, p: Pixel) -> Leaf
         requires in_x { p.x < side self.now.level }
         requires in_y { p.y < side self.now.level }
-        ensures member { Contains (leaves_by_code self.now.level self.now.grid) (pair_of result) }
+        ensures member { Contains (leaves_by_code self.now.level self.now.grid) (leaf_pair result) }
         ensures block { IsBlock self.now.level result.block }
         ensures held { Holds result.block p }
         ensures colour { HasColour self.now.level self.now.grid result.block result.colour.0 }
@@ -129,7 +129,7 @@ impl LeafList {
     fn search(&self, p: Pixel, near: usize, first_step: usize) -> Leaf
         requires in_x { p.x < side self.now.level }
         requires in_y { p.y < side self.now.level }
-        ensures member { Contains (leaves_by_code self.now.level self.now.grid) (pair_of result) }
+        ensures member { Contains (leaves_by_code self.now.level self.now.grid) (leaf_pair result) }
         ensures block { IsBlock self.now.level result.block }
         ensures held { Holds result.block p }
         ensures colour { HasColour self.now.level self.now.grid result.block result.colour.0 }

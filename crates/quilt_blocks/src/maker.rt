@@ -6,8 +6,8 @@ ghost use Rattle.quilt_types.specs.Quadtrees.{leaves};
 ghost use Rattle.quilt_loc.specs.Codes.{code_from, code_to};
 ghost use Rattle.quilt_blocks.specs.Painting.{colours_of, grid_by_code};
 ghost use Rattle.quilt_blocks.specs.Mosaic.{IsMosaic};
-ghost use Rattle.quilt_blocks.specs.Listing.{Follows, IsGrowing, IsMaking, EndsInQuarters, pairs_of};
-ghost use Rattle.quilt_blocks.specs.Cutting.{pair_of};
+ghost use Rattle.quilt_blocks.specs.Listing.{Follows, IsGrowing, IsMaking, EndsInQuarters, leaf_pairs};
+ghost use Rattle.quilt_blocks.specs.Cutting.{leaf_pair};
 
 use crate::{Leaf, LeafList};
 use quilt_types::{Block, Colour};
@@ -28,11 +28,11 @@ impl Model for Maker {
     ghost Value = { Painted };
 
     ghost use Rattle.quilt_blocks.specs.Painting.{colours_of};
-    ghost use Rattle.quilt_blocks.specs.Listing.{IsMaking, pairs_of};
+    ghost use Rattle.quilt_blocks.specs.Listing.{IsMaking, leaf_pairs};
 
-    ghost view = { λ m. record { level = m.level; colours = colours_of (pairs_of m.leaves.items) } };
+    ghost view = { λ m. record { level = m.level; colours = colours_of (leaf_pairs m.leaves.items) } };
 
-    ghost invariant = { λ m. IsMaking m.level (pairs_of m.leaves.items) };
+    ghost invariant = { λ m. IsMaking m.level (leaf_pairs m.leaves.items) };
 }
 
 impl Maker {
@@ -82,9 +82,9 @@ impl Maker {
 fn merge_last(leaves: &mut Vec<Leaf>, level: u8)
     requires least { 1 ≤ level }
     requires most { level ≤ 12 }
-    requires growing { IsGrowing level (pairs_of leaves.old.items) }
-    ensures making { IsMaking level (pairs_of leaves.new.items) }
-    ensures colours { colours_of (pairs_of leaves.new.items) ≡ colours_of (pairs_of leaves.old.items) }
+    requires growing { IsGrowing level (leaf_pairs leaves.old.items) }
+    ensures making { IsMaking level (leaf_pairs leaves.new.items) }
+    ensures colours { colours_of (leaf_pairs leaves.new.items) ≡ colours_of (leaf_pairs leaves.old.items) }
 {
     while let Some(whole) = whole_of_last(leaves, level) {
         let first = leaves.len() - 4;
@@ -98,9 +98,9 @@ fn merge_last(leaves: &mut Vec<Leaf>, level: u8)
 fn whole_of_last(leaves: &[Leaf], level: u8) -> Option<Leaf>
     requires least { 1 ≤ level }
     requires most { level ≤ 12 }
-    requires follows { Follows level 0 (pairs_of leaves.now) }
-    ensures some { IfSome result (λ l. EndsInQuarters level (pairs_of leaves.now) (pair_of l)) }
-    ensures none { IsNone result → (e : BlockValue × ℕ) → EndsInQuarters level (pairs_of leaves.now) e → ⊥ }
+    requires follows { Follows level 0 (leaf_pairs leaves.now) }
+    ensures some { IfSome result (λ l. EndsInQuarters level (leaf_pairs leaves.now) (leaf_pair l)) }
+    ensures none { IsNone result → (e : BlockValue × ℕ) → EndsInQuarters level (leaf_pairs leaves.now) e → ⊥ }
 {
     let n = leaves.len();
     if n < 4 {

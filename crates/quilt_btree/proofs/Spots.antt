@@ -7,19 +7,19 @@ use Rattle.quilt_record.specs.declared.key.Key.{Key}
 use Rattle.quilt_record.specs.declared.record.Record.{Record}
 use Rattle.quilt_record.specs.Records.{key_cmp}
 use Rattle.quilt_record.proofs.Orders.{lt_le, le_le, lt_to_le}
-use Rattle.quilt_node.specs.Nodes.{keys_of, records_of}
+use Rattle.quilt_node.specs.Nodes.{keys_of, page_records}
 use Rattle.quilt_node.specs.Pages.{leaf_of, is_ascending}
 use Rattle.quilt_node.specs.Tree.{is_below}
 use Rattle.quilt_types.specs.declared.stop.Stop.{Stop}
-use Rattle.quilt_store.specs.Stops.{IsSound}
+use Rattle.quilt_store.specs.Stops.{IsNotDamage}
 use Rattle.quilt_btree.specs.declared.tree.Tree.{Tree}
 use Rattle.quilt_btree.specs.Arrivals.{Arrives}
-use Rattle.quilt_btree.specs.Lists.{value_of, floor_of, range_of, is_from_to}
+use Rattle.quilt_btree.specs.Lists.{value_at_key, floor_of, range_of, is_from_to}
 use Rattle.quilt_btree.specs.Looks.{AddsFrom}
 use Rattle.quilt_btree.specs.Searches.{AreOf}
-use Rattle.quilt_btree.specs.Spots.{HoldsKeys, IsLeafFrom, IsAt}
+use Rattle.quilt_btree.specs.Spots.{HoldsKeys, IsLeafFrom, IsAtSpot}
 use Rattle.quilt_btree.specs.declared.spot.Spot.{Spot}
-use Rattle.quilt_btree.specs.Trees.{IsTree, LeadsTo, Before, is_past}
+use Rattle.quilt_btree.specs.Trees.{IsTree, LeadsToLeaf, Before, is_past}
 use Rattle.quilt_btree.proofs.cursors.Fingers.{floor_is_near}
 use Rattle.quilt_btree.proofs.lists.Lists.{gt_not_le}
 use Rattle.quilt_btree.proofs.lists.Rising.{all_follow, all_map}
@@ -47,7 +47,7 @@ leads_from told t k page high some f = λ rs is.
     let a = f bytes (are_pages told is.pages page is.is_told) in
     let l = a.leads rs s.0 s.1 in
     record {
-      own = records_of bytes;
+      own = page_records bytes;
       is_leaf = λ other are. ap leaf_of (are is.pages is.is_told) ∙ a.leaf rs s.0;
       before = l.before;
       behind = l.behind;
@@ -65,7 +65,7 @@ under_past (Some h) k m below past = lt_le k h m below past
 
 -- the leaf is the one to which each of its keys leads
 pub led_from : (told : Option (List (List ℕ))) (t : Tree) (page : ℕ) (low : Key) (high : Option Key) (rs : List Record) (k : Key)
-    (s : HoldsKeys told t page low high rs) → is_le (key_cmp low k) ≡ true → is_below high k ≡ true → LeadsTo k rs s.own None high
+    (s : HoldsKeys told t page low high rs) → is_le (key_cmp low k) ≡ true → is_below high k ≡ true → LeadsToLeaf k rs s.own None high
 led_from told t page low high rs k s le below = record {
   before = s.before;
   behind = s.behind;
@@ -84,7 +84,7 @@ led_from told t page low high rs k s le below = record {
 -- so the record with such a key is in the leaf
 pub value_from : (told : Option (List (List ℕ))) (t : Tree) (page : ℕ) (low : Key) (high : Option Key) (bytes : List ℕ) (k : Key)
     (v : Option (List ℕ)) → IsLeafFrom told t page low high → is_le (key_cmp low k) ≡ true → is_below high k ≡ true → AreOf told page bytes
-    → ((here : List Record) → leaf_of bytes ≡ Some here → v ≡ value_of k here) → (rs : List Record) → IsTree told t rs → v ≡ value_of k rs
+    → ((here : List Record) → leaf_of bytes ≡ Some here → v ≡ value_at_key k here) → (rs : List Record) → IsTree told t rs → v ≡ value_at_key k rs
 value_from told t page low high bytes k v f le below are found rs is =
     let s = f rs is in
     let l = led_from told t page low high rs k s le below in
@@ -152,7 +152,7 @@ module _ (told now : Option (List (List ℕ))) (t : Tree) (page : ℕ) (from : K
     (old new : List Record) (f : IsLeafFrom told t page from up) (le : is_le (key_cmp from low) ≡ true) (below : is_below up low ≡ true)
     (same : now ≡ told) (a : AddsFrom now page low high most old new) (none : old ≡ []) where
   so_far : (rs : List Record) → IsTree told t rs
-      → (own : List Record) × (l : LeadsTo low rs own None up) × (new ≡ range_of low high most (l.before ++ own))
+      → (own : List Record) × (l : LeadsToLeaf low rs own None up) × (new ≡ range_of low high most (l.before ++ own))
   so_far rs is =
       let s = f rs is in
       let l = led_from told t page from up rs low s le below in
@@ -167,7 +167,7 @@ module _ (told now : Option (List (List ℕ))) (t : Tree) (page : ℕ) (from : K
   goes_on : (next : Key) → up ≡ Some next → (rs : List Record) → IsTree told t rs → Before told t low high most next rs new
   goes_on next e rs is =
       let s = so_far rs is in
-      let on = subst (λ o. (l : LeadsTo low rs s.0 None o) × (new ≡ range_of low high most (l.before ++ s.0))) e (s.1, s.2) in (
+      let on = subst (λ o. (l : LeadsToLeaf low rs s.0 None o) × (new ≡ range_of low high most (l.before ++ s.0))) e (s.1, s.2) in (
         is.pages,
         is.is_told,
         next_divides is.pages t.height t.root up next e ((f rs is).bound is.pages is.is_told),
@@ -184,10 +184,10 @@ module _ (told now : Option (List (List ℕ))) (t : Tree) (page : ℕ) (from : K
   spot_fills full rs is = let s = so_far rs is in range_fills low low high most rs s.0 new None up s.1 full s.2
 
   pub spot_sound : (later : Option (List (List ℕ))) (next : Key) (e : Stop) → later ≡ told → up ≡ Some next
-      → ((l : Key) (rs : List Record) → IsTree later t rs → Before later t l high most next rs new → IsSound e) → (rs : List Record) → IsTree told t rs
-      → IsSound e
+      → ((l : Key) (rs : List Record) → IsTree later t rs → Before later t l high most next rs new → IsNotDamage e) → (rs : List Record) → IsTree told t rs
+      → IsNotDamage e
   spot_sound later next e along up_is g rs is =
-      subst (λ o. (l : Key) (rs : List Record) → IsTree o t rs → Before o t l high most next rs new → IsSound e) along g low rs is (goes_on next up_is rs is)
+      subst (λ o. (l : Key) (rs : List Record) → IsTree o t rs → Before o t l high most next rs new → IsNotDamage e) along g low rs is (goes_on next up_is rs is)
 
   pub spot_rest : (later : Option (List (List ℕ))) (next : Key) (last : List Record) → later ≡ told → up ≡ Some next
       → ((l : Key) (rs : List Record) → IsTree later t rs → Before later t l high most next rs new → last ≡ range_of l high most rs)
@@ -201,10 +201,10 @@ pub under_next : (k next : Key) (high : Option Key) → is_below high k ≡ true
 under_next k next high below is = subst (λ o. is_below o k ≡ true) is below
 
 -- a range of keys of a spot does not go on behind its leaf
-pub never_on : (size : ℕ) (o : Option Spot) (s : Spot) (high next : Key) → o ≡ Some s → IsAt size o high → s.high ≡ Some next
+pub never_on : (size : ℕ) (o : Option Spot) (s : Spot) (high next : Key) → o ≡ Some s → IsAtSpot size o high → s.high ≡ Some next
     → is_le (key_cmp next high) ≡ true → ⊥
 never_on size o s high next is at up le =
-    let here = subst (λ z. IsAt size z high) is at in
+    let here = subst (λ z. IsAtSpot size z high) is at in
     let below = subst (λ z. is_below z high ≡ true) up here.3 in
     let no = gt_not_le high next below in
     differ (is_le (key_cmp next high)) le no
@@ -215,7 +215,7 @@ never_on size o s high next is at up le =
 
 -- a key of a leaf is a key of the spot that is put there
 pub placed_at : (size : ℕ) (s wide : Spot) (k : Key) → (1 ≤ s.page) × (s.page < size) → (is_le (key_cmp s.low k) ≡ true) × (is_below s.high k ≡ true)
-    → (wide.page ≡ s.page) × (wide.high ≡ s.high) × (is_le (key_cmp wide.low s.low) ≡ true) → IsAt size (Some wide) k
+    → (wide.page ≡ s.page) × (wide.high ≡ s.high) × (is_le (key_cmp wide.low s.low) ≡ true) → IsAtSpot size (Some wide) k
 placed_at size s wide k page key same = (
   subst (λ (p : ℕ). 1 ≤ p) (sym same.0) page.0,
   subst (λ (p : ℕ). p < size) (sym same.0) page.1,

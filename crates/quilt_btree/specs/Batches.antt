@@ -134,11 +134,11 @@ removed (edit.Put r ∷ run) = removed run
 removed (edit.Replace r ∷ run) = r.key ∷ removed run
 
 -- the records that come
-abbrev pub added : List Edit → List Record
-added [] = []
-added (edit.Remove k ∷ run) = added run
-added (edit.Put r ∷ run) = r ∷ added run
-added (edit.Replace r ∷ run) = r ∷ added run
+abbrev pub records_put : List Edit → List Record
+records_put [] = []
+records_put (edit.Remove k ∷ run) = records_put run
+records_put (edit.Put r ∷ run) = r ∷ records_put run
+records_put (edit.Replace r ∷ run) = r ∷ records_put run
 
 -- the answer is how many of the first edits of a run were made, and where it is none nothing was written
 pub record TakesFirst {S : Type 0} (g : Ghosts S) (run : List Edit) (old new : S) (result : Result ℕ Stop) : Type 0 where

@@ -5,7 +5,7 @@ use Rattle.std.specs.Ordering.{is_le, is_lt}
 use Rattle.quilt_record.specs.declared.key.Key.{Key}
 use Rattle.quilt_record.specs.declared.record.Record.{Record}
 use Rattle.quilt_record.specs.Records.{key_cmp}
-use Rattle.quilt_node.specs.Nodes.{records_of}
+use Rattle.quilt_node.specs.Nodes.{page_records}
 use Rattle.quilt_btree.specs.declared.tree.Tree.{Tree}
 use Rattle.quilt_btree.specs.declared.cursor.Cursor.{Cursor}
 use Rattle.quilt_btree.specs.Trees.{Divides}
@@ -22,11 +22,11 @@ pub record IsParted (told : Option (List (List ℕ))) (t : Tree) (k : Key) (befo
 pub record StandsAt (told : Option (List (List ℕ))) (t : Tree) (bytes : List ℕ) (place : ℕ) (high : Option Key) (before after : List Record) : Type 0 where
   pub first : List Record
   pub last : List Record
-  pub some : 1 ≤ length (records_of bytes)
-  pub in_range : place ≤ length (records_of bytes)
-  pub is_before : before ≡ first ++ take place (records_of bytes)
-  pub is_after : after ≡ drop place (records_of bytes) ++ last
-  pub further : MatchOption high (last ≡ []) (λ k. IsParted told t k (first ++ records_of bytes) last)
+  pub some : 1 ≤ length (page_records bytes)
+  pub in_range : place ≤ length (page_records bytes)
+  pub is_before : before ≡ first ++ take place (page_records bytes)
+  pub is_after : after ≡ drop place (page_records bytes) ++ last
+  pub further : MatchOption high (last ≡ []) (λ k. IsParted told t k (first ++ page_records bytes) last)
 
 -- the cursor stands between these records of the tree: in its leaf, behind as many records as its place says
 abbrev pub StandsIn : Option (List (List ℕ)) → Tree → Cursor → List Record → List Record → Type 0

@@ -18,16 +18,16 @@ use Rattle.quilt_types.specs.declared.stop.Stop.{Stop}
 use Rattle.quilt_store.specs.declared.store.PageStore.{Ghosts}
 
 -- how often a page stands in a list
-abbrev pub times : ℕ → List ℕ → ℕ
-times p [] = 0
-times p (q ∷ qs) = cond (q == p) 1 0 + times p qs
+abbrev pub multiplicity : ℕ → List ℕ → ℕ
+multiplicity p [] = 0
+multiplicity p (q ∷ qs) = cond (q == p) 1 0 + multiplicity p qs
 
 -- how often a page is spoken for: once where it is free, and as often as the list has it
 abbrev pub account : (ℕ → Bool) → List ℕ → ℕ → ℕ
-account free used p = cond (free p) 1 0 + times p used
+account free used p = cond (free p) 1 0 + multiplicity p used
 
 -- From these used pages to those: only pages that were used or free have other bytes, and each page is spoken for as often as before.
-pub record Moves (pages news : List (List ℕ)) (free now : ℕ → Bool) (used uses : List ℕ) : Type 0 where
+pub record KeepsAccount (pages news : List (List ℕ)) (free now : ℕ → Bool) (used uses : List ℕ) : Type 0 where
   pub size : length news ≡ length pages
   pub others : (p : ℕ) → account free used p ≡ 0 → slice_index_or news p [] ≡ slice_index_or pages p []
   pub balance : (p : ℕ) → account now uses p ≡ account free used p
@@ -37,7 +37,7 @@ pub record Becomes (pages news : List (List ℕ)) (free now : ℕ → Bool) (pag
     (all : List Record) : Type 0 where
   pub uses : List ℕ
   pub subtree : Subtree news height is_root (page, b) all uses
-  pub moves : Moves pages news free now used uses
+  pub moves : KeepsAccount pages news free now used uses
 
 -- two subtrees spell it now, separated at a key
 pub record Separated (pages news : List (List ℕ)) (free now : ℕ → Bool) (page height : ℕ) (b : Bounds) (used : List ℕ) (all : List Record)
@@ -51,7 +51,7 @@ pub record Separated (pages news : List (List ℕ)) (free now : ℕ → Bool) (p
   pub records : all ≡ first ++ rest
   pub low : is_above b.low key ≡ true
   pub high : is_below b.high key ≡ true
-  pub moves : Moves pages news free now used (rest_uses ++ first_uses)
+  pub moves : KeepsAccount pages news free now used (rest_uses ++ first_uses)
 
 -- what became of the subtree at a page when a record was put in
 abbrev pub HasInserted : Record → (pages news : List (List ℕ)) (free now : ℕ → Bool) → ℕ → ℕ → Bool → Bounds → List Record → List ℕ → Inserted → Type 0
@@ -99,7 +99,7 @@ pub record OnlyChild (pages news : List (List ℕ)) (free now : ℕ → Bool) (p
   pub is_height : height ≡ suc below
   pub uses : List ℕ
   pub subtree : Subtree news below false (child, b) all uses
-  pub moves : Moves pages news free now used (uses ++ page ∷ [])
+  pub moves : KeepsAccount pages news free now used (uses ++ page ∷ [])
 
 -- the leaf at the root had one record, which is still written there
 pub record IsEmptied (pages news : List (List ℕ)) (free now : ℕ → Bool) (page height : ℕ) (is_root : Bool) (used : List ℕ) (all : List Record) : Type 0 where

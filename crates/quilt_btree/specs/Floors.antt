@@ -12,7 +12,7 @@ use Rattle.quilt_store.specs.Store.{Touches, first_eight}
 use Rattle.quilt_world.specs.Tale.{Goes}
 use Rattle.quilt_types.specs.declared.stop.Stop.{Stop}
 use Rattle.quilt_btree.specs.Lists.{floor_of}
-use Rattle.quilt_btree.specs.Trees.{Spells}
+use Rattle.quilt_btree.specs.Trees.{SpellsSubtree}
 
 -- the pages below an inner page that lead to its last record
 abbrev pub last_below : (ℕ → List ℕ) → Option Inner → List ℕ
@@ -27,8 +27,8 @@ last_pages pages (suc (suc h)) page =
     page ∷ last_below (last_pages pages (suc h)) (inner_of (length pages) (slice_index_or pages page []))
 
 -- the place of the child to which a key leads
-abbrev pub place_of : Key → Inner → ℕ
-place_of k inner = count_by (λ l. is_le (key_cmp l k)) inner.keys
+abbrev pub child_place : Key → Inner → ℕ
+child_place k inner = count_by (λ l. is_le (key_cmp l k)) inner.keys
 
 -- a leaf has a record whose key is at most this one
 abbrev pub finds_in_leaf : Key → Option (List Record) → Bool
@@ -38,7 +38,7 @@ finds_in_leaf k (Some rs) = is_some (floor_of k rs)
 -- a child stands before the one to which the key leads, or that one has the record
 abbrev pub finds_below : (ℕ → Bool) → Key → Option Inner → Bool
 finds_below under k None = false
-finds_below under k (Some inner) = nat_lt 0 (place_of k inner) || under (slice_index inner.children (place_of k inner))
+finds_below under k (Some inner) = nat_lt 0 (child_place k inner) || under (slice_index inner.children (child_place k inner))
 
 -- a search under a page at a height comes to a record whose key is at most this one
 abbrev pub finds_floor : List (List ℕ) → Key → (height : ℕ) → (page : ℕ) → Bool
@@ -56,7 +56,7 @@ before_child finds last inner place =
 abbrev pub floor_below : (ℕ → List ℕ) → (ℕ → Bool) → (ℕ → List ℕ) → Key → Option Inner → List ℕ
 floor_below under finds last k None = []
 floor_below under finds last k (Some inner) =
-    under (slice_index inner.children (place_of k inner)) ++ before_child finds last inner (place_of k inner)
+    under (slice_index inner.children (child_place k inner)) ++ before_child finds last inner (child_place k inner)
 
 -- the pages that a floor reads from a page at a height on, in order
 abbrev pub floor_pages : List (List ℕ) → Key → (height : ℕ) → (page : ℕ) → List ℕ
@@ -93,8 +93,8 @@ ReadsNone reads told held old new =
 
 -- the floor in a subtree was found, where there is one
 pub record FindsFloor (told : Option (List (List ℕ))) (page height : ℕ) (k : Key) (result : Result (Option Record) Stop) : Type 0 where
-  pub floor : IfOk result (λ r. (rs : List Record) → Spells told page height rs → r ≡ floor_of k rs)
-  pub found : IfOk result (λ r. (rs : List Record) → Spells told page height rs → (pages : List (List ℕ)) → told ≡ Some pages
+  pub floor : IfOk result (λ r. (rs : List Record) → SpellsSubtree told page height rs → r ≡ floor_of k rs)
+  pub found : IfOk result (λ r. (rs : List Record) → SpellsSubtree told page height rs → (pages : List (List ℕ)) → told ≡ Some pages
       → finds_floor pages k height page ≡ is_some r)
 
 -- how many pages a floor under a page reads: two at each height but the lowest, and one at each where there is none

@@ -13,8 +13,8 @@ value_in None = None
 value_in (Some r) = Some r.value
 
 -- the value of the record with this key
-unfoldable pub value_of : Key → List Record → Option (List ℕ)
-value_of k rs = value_in (find (has_key k) rs)
+unfoldable pub value_at_key : Key → List Record → Option (List ℕ)
+value_at_key k rs = value_in (find (has_key k) rs)
 
 -- the record's key is at most this one
 abbrev pub is_at_most : Key → Record → Bool

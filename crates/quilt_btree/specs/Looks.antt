@@ -11,7 +11,7 @@ use Rattle.quilt_world.specs.Tale.{Goes}
 use Rattle.quilt_store.specs.declared.store.PageStore.{Ghosts}
 use Rattle.quilt_btree.specs.Damage.{HasChild}
 use Rattle.quilt_btree.specs.Lists.{floor_of, is_from_to, IsLower}
-use Rattle.quilt_btree.specs.Searches.{AreOf, IsFork, IsStep}
+use Rattle.quilt_btree.specs.Searches.{AreOf, IsFork, IsStepDown}
 
 -- what a call leaves that looks at one page: at most one page is read from the device, and none where the page is held
 pub record LooksAt {S T : Type 0} (g : Ghosts S) (page : ℕ) (old new : S) (result : Result T Stop) : Type 0 where
@@ -34,7 +34,7 @@ pub record ShowsStep (told : Option (List (List ℕ))) (page size : ℕ) (k : Ke
   pub bytes : List ℕ
   pub are : AreOf told page bytes
   pub stands : HasChild size bytes child
-  pub step : (inner : Inner) → inner_of size bytes ≡ Some inner → IsStep k inner high child next
+  pub step : (inner : Inner) → inner_of size bytes ≡ Some inner → IsStepDown k inner high child next
 
 -- the page has some bytes, which have this last child
 pub record ShowsLast (told : Option (List (List ℕ))) (page size child : ℕ) : Type 0 where

@@ -74,20 +74,20 @@ pub record HasUnderfull (told : Option (List (List ℕ))) (free : ℕ → Bool) 
   pub apart : (p : ℕ) → account free used p ≤ 1
 
 -- the store has this inner page at a page now, and else what it had
-pub record IsWritten (page : ℕ) (inner : Inner) (pages : List (List ℕ)) (now_told : Option (List (List ℕ))) : Type 0 where
+pub record IsInnerWritten (page : ℕ) (inner : Inner) (pages : List (List ℕ)) (now_told : Option (List (List ℕ))) : Type 0 where
   pub bytes : List ℕ
   pub is : now_told ≡ Some (slice_set pages page bytes)
   pub inner_is : inner_of (length pages) bytes ≡ Some inner
 
 -- a store that tells its pages has this inner page at the page afterwards, and all other pages as before
-abbrev pub Writes : ℕ → Inner → Option (List (List ℕ)) → Option (List (List ℕ)) → Type 0
-Writes page inner told now_told = (pages : List (List ℕ)) → told ≡ Some pages → IsWritten page inner pages now_told
+abbrev pub WritesInner : ℕ → Inner → Option (List (List ℕ)) → Option (List (List ℕ)) → Type 0
+WritesInner page inner told now_told = (pages : List (List ℕ)) → told ≡ Some pages → IsInnerWritten page inner pages now_told
 
 -- what became of an inner page without key j and the child behind it
 abbrev pub HasDropped : ℕ → Inner → ℕ → Option (List (List ℕ)) → Option (List (List ℕ)) → Removed → Type 0
 HasDropped page inner j told now_told removed.Missing = ⊥
-HasDropped page inner j told now_told removed.Done = (128 ≤ length inner.children) × Writes page (without_child inner j) told now_told
-HasDropped page inner j told now_told removed.Underfull = (length inner.children ≤ 127) × Writes page (without_child inner j) told now_told
+HasDropped page inner j told now_told removed.Done = (128 ≤ length inner.children) × WritesInner page (without_child inner j) told now_told
+HasDropped page inner j told now_told removed.Underfull = (length inner.children ≤ 127) × WritesInner page (without_child inner j) told now_told
 HasDropped page inner j told now_told removed.Emptied = ⊥
 HasDropped page inner j told now_told (removed.Only child) =
     (length inner.children ≡ 2) × (child ≡ slice_index inner.children 0) × (now_told ≡ told)

@@ -42,6 +42,6 @@ abbrev pub IsAtKey : ℕ → Key → Spot → Type 0
 IsAtKey size k s = (1 ≤ s.page) × (s.page < size) × (is_le (key_cmp s.low k) ≡ true) × (is_below s.high k ≡ true)
 
 -- there is a spot, and the key is one of its keys
-abbrev pub IsAt : ℕ → Option Spot → Key → Type 0
-IsAt size None k = ⊥
-IsAt size (Some s) k = IsAtKey size k s
+abbrev pub IsAtSpot : ℕ → Option Spot → Key → Type 0
+IsAtSpot size None k = ⊥
+IsAtSpot size (Some s) k = IsAtKey size k s

@@ -10,7 +10,7 @@ abbrev pub Reading : Type 1
 Reading = ℕ × Bounds → List Record → List ℕ → Type 0
 
 -- the page is a leaf with these records
-pub record IsLeaf (pages : List (List ℕ)) (is_root : Bool) (at : ℕ × Bounds) (rs : List Record) (used : List ℕ) : Type 0 where
+pub record IsLeafPlace (pages : List (List ℕ)) (is_root : Bool) (at : ℕ × Bounds) (rs : List Record) (used : List ℕ) : Type 0 where
   pub page : leaf_of (slice_index_or pages at.0 []) ≡ Some rs
   pub enough : (is_root || nat_le 72 (length rs)) ≡ true
   pub within : are_within at.1 (map (λ r. r.key) rs) ≡ true
@@ -33,7 +33,7 @@ Row S [] rs used = (rs ≡ []) × (used ≡ [])
 Row S (c ∷ cs) rs used = InTurn (S c) (Row S cs) rs used
 
 -- the page is an inner page of this height, and its children spell these records
-pub record IsInner (S : Reading) (pages : List (List ℕ)) (height : ℕ) (is_root : Bool) (at : ℕ × Bounds) (rs : List Record) (used : List ℕ) : Type 0 where
+pub record IsInnerPlace (S : Reading) (pages : List (List ℕ)) (height : ℕ) (is_root : Bool) (at : ℕ × Bounds) (rs : List Record) (used : List ℕ) : Type 0 where
   pub inner : Inner
   pub page : inner_of (length pages) (slice_index_or pages at.0 []) ≡ Some inner
   pub is_height : inner.height ≡ height
@@ -46,11 +46,11 @@ pub record IsInner (S : Reading) (pages : List (List ℕ)) (height : ℕ) (is_ro
 -- the subtree at a place
 abbrev pub Subtree : List (List ℕ) → ℕ → Bool → ℕ × Bounds → List Record → List ℕ → Type 0
 Subtree pages zero is_root at rs used = ⊥
-Subtree pages (suc zero) is_root at rs used = IsLeaf pages is_root at rs used
+Subtree pages (suc zero) is_root at rs used = IsLeafPlace pages is_root at rs used
 Subtree pages (suc (suc h)) is_root at rs used =
-    IsInner (Subtree pages (suc h) false) pages (suc (suc h)) is_root at rs used
+    IsInnerPlace (Subtree pages (suc h) false) pages (suc (suc h)) is_root at rs used
 
 -- no page of the first list stands in it twice or in the second
-abbrev pub IsFresh : List ℕ → List ℕ → Type 0
-IsFresh [] visited = Unit {0}
-IsFresh (p ∷ used) visited = (list_any (λ v. v == p) (used ++ visited) ≡ false) × IsFresh used visited
+abbrev pub AreFreshPages : List ℕ → List ℕ → Type 0
+AreFreshPages [] visited = Unit {0}
+AreFreshPages (p ∷ used) visited = (list_any (λ v. v == p) (used ++ visited) ≡ false) × AreFreshPages used visited

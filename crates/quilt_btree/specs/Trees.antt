@@ -29,7 +29,7 @@ pub record IsTree (told : Option (List (List ℕ))) (t : Tree) (rs : List Record
   pub walk : walk_of pages t.root t.height ≡ Whole rs visited
 
 -- the subtree at the page, in the pages that are told, spells these records
-pub record Spells (told : Option (List (List ℕ))) (page height : ℕ) (rs : List Record) : Type 0 where
+pub record SpellsSubtree (told : Option (List (List ℕ))) (page height : ℕ) (rs : List Record) : Type 0 where
   pub pages : List (List ℕ)
   pub is_told : told ≡ Some pages
   pub is_root : Bool
@@ -52,7 +52,7 @@ is_past (Some high) k = is_le (key_cmp high k)
 
 -- The leaf to which a key leads: the records before it are below the key, and those behind it above the key and from the leaf's upper bound on.
 -- That bound is at most the one at the start.
-pub record LeadsTo (k : Key) (rs here : List Record) (start high : Option Key) : Type 0 where
+pub record LeadsToLeaf (k : Key) (rs here : List Record) (start high : Option Key) : Type 0 where
   pub before : List Record
   pub behind : List Record
   pub records : rs ≡ before ++ (here ++ behind)
@@ -83,9 +83,9 @@ IsBound pages height page start high = (high ≡ start) ⊎ ((k : Key) × (high 
 
 -- what a leaf is that a search came to: from the key on where that parts two children, and up to another such
 pub record IsCut (told : Option (List (List ℕ))) (page height : ℕ) (k : Key) (start : Option Key) (leaf : List Record) (high : Option Key) : Type 0 where
-  pub starts : (pages : List (List ℕ)) (rs : List Record) → told ≡ Some pages → (s : Spells told page height rs) → s.bounds.high ≡ start
+  pub starts : (pages : List (List ℕ)) (rs : List Record) → told ≡ Some pages → (s : SpellsSubtree told page height rs) → s.bounds.high ≡ start
       → Divides pages height page k → list_all (λ r. is_le (key_cmp k r.key)) leaf ≡ true
-  pub ends : (pages : List (List ℕ)) (rs : List Record) (s : Spells told page height rs) → told ≡ Some pages → s.bounds.high ≡ start
+  pub ends : (pages : List (List ℕ)) (rs : List Record) (s : SpellsSubtree told page height rs) → told ≡ Some pages → s.bounds.high ≡ start
       → is_below start k ≡ true → IsBound pages height page start high
 
 -- these are the records of a range with keys below one, in a list that goes on with the others

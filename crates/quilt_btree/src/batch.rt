@@ -2,8 +2,8 @@ ghost use Rattle.std.specs.Prelude.{◌≡◌, ◌≤◌, [], ◌∷◌, ◌++�
 ghost use Rattle.quilt_node.specs.Pages.{is_ascending};
 ghost use Rattle.quilt_btree.specs.Batches.{key_of, edit_keys, more};
 
+use crate::balance::precedes;
 use crate::edit::Edit;
-use crate::rebalancing::precedes;
 use crate::tree_apply::count_added;
 use quilt_record::Key;
 use std::alloc::{AllocError, Global};

@@ -1,16 +1,16 @@
 ghost use Rattle.std.specs.Prelude.{◌≡◌, ◌≢◌, ℕ, ◌+◌, ◌<◌, ◌≤◌, ◌++◌, IfOk, IfErr, OnOk, MatchOption, List, [], Option, None, length};
 ghost use Rattle.quilt_record.specs.declared.record.Record.{Record};
 ghost use Rattle.quilt_types.specs.declared.stop.Stop.TheVariants.{Damaged};
-ghost use Rattle.quilt_node.specs.Nodes.{records_of};
+ghost use Rattle.quilt_node.specs.Nodes.{page_records};
 ghost use Rattle.quilt_store.specs.Calls.{OnlyReads};
 ghost use Rattle.quilt_world.specs.Tale.{Goes};
-ghost use Rattle.quilt_store.specs.Stops.{IsSound};
+ghost use Rattle.quilt_store.specs.Stops.{IsNotDamage};
 ghost use Rattle.quilt_btree.specs.Damage.{NamesBad};
 ghost use Rattle.quilt_btree.specs.Stops.{NamesPage};
 
 use crate::lower::{lower_under, place_from};
 use crate::pages::stop_of;
-use crate::reading::leaf_for;
+use crate::step::leaf_for;
 use crate::tree::Tree;
 use quilt_node::{rec_in, records_in};
 use quilt_record::{Key, Record};
@@ -25,7 +25,7 @@ pub struct Cursor {
     place: usize,
     count: usize,
     high: Option<Key>,
-    ghost counted: { count ≡ length (records_of bytes) },
+    ghost counted: { count ≡ length (page_records bytes) },
     ghost most: { count ≤ 144 },
 }
 
@@ -38,7 +38,7 @@ impl Tree {
         requires rooted { IsRooted (S.size store.old) self.now }
         requires some { 1 ≤ self.now.height }
         ensures sought { IfOk result (λ c. (rs : List Record) → IsTree (S.told store.old) self.now rs → IsSought (S.told store.old) self.now c k.now rs) }
-        ensures sound { IfErr result (λ e. (rs : List Record) → IsTree (S.told store.old) self.now rs → IsSound e) }
+        ensures sound { IfErr result (λ e. (rs : List Record) → IsTree (S.told store.old) self.now rs → IsNotDamage e) }
         ensures names { IfErr result (NamesPage (S.size store.old)) }
         ensures bad { IfErr result (NamesBad (S.told store.old) self.now.height self.now.root) }
         ensures left { OnlyReads S.PageStore store.old store.new result }
@@ -64,9 +64,9 @@ impl Tree {
         requires some { 1 ≤ self.now.height }
         ensures stands { OnOk result ((before after : List Record) → IsTree (S.told store.old) self.now (before ++ after)
             → IsParted (S.told store.old) self.now k.now before after → StandsIn (S.told store.old) self.now c.new before after) }
-        ensures least { OnOk result ((rs : List Record) → IsTree (S.told store.old) self.now rs → 1 ≤ length (records_of c.new.bytes)) }
+        ensures least { OnOk result ((rs : List Record) → IsTree (S.told store.old) self.now rs → 1 ≤ length (page_records c.new.bytes)) }
         ensures begins { OnOk result (c.new.place ≡ 0) }
-        ensures sound { IfErr result (λ e. (rs : List Record) → IsTree (S.told store.old) self.now rs → IsSound e) }
+        ensures sound { IfErr result (λ e. (rs : List Record) → IsTree (S.told store.old) self.now rs → IsNotDamage e) }
         ensures names { IfErr result (NamesPage (S.size store.old)) }
         ensures bad { IfErr result (NamesBad (S.told store.old) self.now.height self.now.root) }
         ensures left { OnlyReads S.PageStore store.old store.new result }
@@ -97,12 +97,12 @@ impl Tree {
             → StandsIn (S.told store.old) self.now c.old before after
             → MatchOption r (after ≡ []) (λ r. GoesOver (S.told store.old) self.now r c.new before after)) }
         ensures sound { IfErr result (λ e. (before after : List Record) → IsTree (S.told store.old) self.now (before ++ after)
-            → StandsIn (S.told store.old) self.now c.old before after → IsSound e) }
+            → StandsIn (S.told store.old) self.now c.old before after → IsNotDamage e) }
         ensures names { IfErr result (NamesPage (S.size store.old)) }
         ensures bad { IfErr result (λ e. e ≢ Damaged 0 → NamesBad (S.told store.old) self.now.height self.now.root e) }
         ensures left { OnlyReads S.PageStore store.old store.new result }
         ensures reads { Goes (λ old new. new ≤ old + 3) (S.reads store.old) (S.reads store.new) }
-        ensures here { c.old.place < length (records_of c.old.bytes) → Goes (λ old new. new ≤ old) (S.reads store.old) (S.reads store.new) }
+        ensures here { c.old.place < length (page_records c.old.bytes) → Goes (λ old new. new ≤ old) (S.reads store.old) (S.reads store.new) }
     {
         if c.place < c.count {
             return Ok(Some(c.over()));
@@ -136,12 +136,12 @@ impl Tree {
             → StandsIn (S.told store.old) self.now c.old before after
             → MatchOption r (before ≡ []) (λ r. GoesBack (S.told store.old) self.now r c.new before after)) }
         ensures stays { IfOk result (λ r. r ≡ None → c.new ≡ c.old) }
-        ensures sound { IfErr result (λ e. (rs : List Record) → IsTree (S.told store.old) self.now rs → IsSound e) }
+        ensures sound { IfErr result (λ e. (rs : List Record) → IsTree (S.told store.old) self.now rs → IsNotDamage e) }
         ensures names { IfErr result (NamesPage (S.size store.old)) }
         ensures bad { IfErr result (NamesBad (S.told store.old) self.now.height self.now.root) }
         ensures left { OnlyReads S.PageStore store.old store.new result }
         ensures reads { Goes (λ old new. new ≤ old + 8) (S.reads store.old) (S.reads store.new) }
-        ensures here { 0 < c.old.place → c.old.place ≤ length (records_of c.old.bytes)
+        ensures here { 0 < c.old.place → c.old.place ≤ length (page_records c.old.bytes)
             → Goes (λ old new. new ≤ old) (S.reads store.old) (S.reads store.new) }
     {
         if 0 < c.place && c.place <= records_in(&c.bytes) {
@@ -167,7 +167,7 @@ impl Cursor {
 
     /// The record behind the cursor's place, which goes over it.
     fn over(&mut self) -> Record
-        requires here { self.old.place < length (records_of self.old.bytes) }
+        requires here { self.old.place < length (page_records self.old.bytes) }
         requires place { self.old.place < 144 }
         ensures { (told : Option (List (List ℕ))) (t : Tree) (before after : List Record) → StandsIn told t self.old before after
             → GoesOver told t result self.new before after }
@@ -180,7 +180,7 @@ impl Cursor {
     /// The record before the cursor's place, which goes back over it.
     fn back(&mut self) -> Record
         requires here { 0 < self.old.place }
-        requires place { (self.old.place ≤ 144) × (self.old.place ≤ length (records_of self.old.bytes)) }
+        requires place { (self.old.place ≤ 144) × (self.old.place ≤ length (page_records self.old.bytes)) }
         ensures { (told : Option (List (List ℕ))) (t : Tree) (before after : List Record) → StandsIn told t self.old before after
             → GoesBack told t result self.new before after }
     {

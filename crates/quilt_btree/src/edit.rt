@@ -1,7 +1,7 @@
 ghost use Rattle.std.specs.Prelude.{◌≡◌, ◌≤◌, if◌then◌else◌, true, false, IfSome, List, Some, None, take, length};
 ghost use Rattle.std.specs.List.{list_all};
 ghost use Rattle.quilt_record.specs.declared.record.Record.{Record};
-ghost use Rattle.quilt_node.specs.Nodes.{records_of};
+ghost use Rattle.quilt_node.specs.Nodes.{page_records};
 ghost use Rattle.quilt_node.specs.Pages.{leaf_of};
 ghost use Rattle.quilt_node.specs.Tree.{is_below};
 ghost use Rattle.quilt_btree.specs.Batches.{key_of, edit_keys, is_due, edited, edit_all, are_due, size_behind, size_after, HasRoom, HasRoomFor, EditsLeaf, Fails};
@@ -93,7 +93,7 @@ fn planned(n: usize, least: usize, high: &Option<Key>, run: &[Edit]) -> usize
 
 /// Makes an edit in a page that is a leaf: false where it is not due. Of any bytes it makes some others.
 fn make(bytes: &mut [u8; 4096], e: &Edit) -> bool
-    requires { HasRoom e.now (length (records_of bytes.old)) }
+    requires { HasRoom e.now (length (page_records bytes.old)) }
     ensures due { (rs : List Record) → leaf_of bytes.old ≡ Some rs → result ≡ is_due e.now rs }
     ensures made { (rs : List Record) → leaf_of bytes.old ≡ Some rs → result ≡ true → leaf_of bytes.new ≡ Some (edited e.now rs) }
 {

@@ -3,7 +3,7 @@ ghost use Rattle.quilt_record.specs.declared.record.Record.{Record};
 ghost use Rattle.quilt_node.specs.Tree.{is_below};
 ghost use Rattle.quilt_store.specs.Calls.{OnlyReads};
 ghost use Rattle.quilt_world.specs.Tale.{Goes};
-ghost use Rattle.quilt_store.specs.Stops.{IsSound};
+ghost use Rattle.quilt_store.specs.Stops.{IsNotDamage};
 ghost use Rattle.quilt_btree.specs.Damage.{NamesBad};
 ghost use Rattle.quilt_btree.specs.Lists.{floor_of};
 ghost use Rattle.quilt_btree.specs.Fingers.{IsFinger};
@@ -11,8 +11,8 @@ ghost use Rattle.quilt_btree.specs.Stops.{NamesPage};
 ghost use Rattle.quilt_btree.specs.Trees.{IsRooted, IsTree};
 
 use crate::pages::stop_of;
-use crate::reading::leaf_for;
-use crate::searching::floor_in;
+use crate::search::floor_in;
+use crate::step::leaf_for;
 use crate::tree::Tree;
 use quilt_record::{Key, Record};
 use quilt_store::PageStore;
@@ -40,7 +40,7 @@ impl Tree {
         requires finger { IsFinger (S.told store.old) self.now finger.old }
         ensures floor { IfOk result (λ r. (rs : List Record) → IsTree (S.told store.old) self.now rs → r ≡ floor_of k.now rs) }
         ensures finger { OnOk result (IsFinger (S.told store.old) self.now finger.new) }
-        ensures sound { IfErr result (λ e. (rs : List Record) → IsTree (S.told store.old) self.now rs → IsSound e) }
+        ensures sound { IfErr result (λ e. (rs : List Record) → IsTree (S.told store.old) self.now rs → IsNotDamage e) }
         ensures names { IfErr result (NamesPage (S.size store.old)) }
         ensures bad { IfErr result (NamesBad (S.told store.old) self.now.height self.now.root) }
         ensures left { OnlyReads S.PageStore store.old store.new result }
@@ -73,7 +73,7 @@ impl Tree {
         requires rooted { IsRooted (S.size store.old) self.now }
         requires some { 1 ≤ self.now.height }
         ensures finger { OnOk result (IsFinger (S.told store.old) self.now finger.new) }
-        ensures sound { IfErr result (λ e. (rs : List Record) → IsTree (S.told store.old) self.now rs → IsSound e) }
+        ensures sound { IfErr result (λ e. (rs : List Record) → IsTree (S.told store.old) self.now rs → IsNotDamage e) }
         ensures names { IfErr result (NamesPage (S.size store.old)) }
         ensures bad { IfErr result (NamesBad (S.told store.old) self.now.height self.now.root) }
         ensures left { OnlyReads S.PageStore store.old store.new result }

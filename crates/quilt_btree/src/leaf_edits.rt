@@ -11,7 +11,7 @@ ghost use Rattle.quilt_btree.specs.Costs.{EditsWithinOnOk};
 ghost use Rattle.quilt_btree.specs.Stops.{NamesPage};
 
 use crate::edit::{Edit, edit_some, least_records};
-use crate::looking::step_at;
+use crate::lent::step_at;
 use crate::pages::stop_of;
 use quilt_node::is_leaf;
 use quilt_record::Key;

@@ -10,9 +10,9 @@ ghost use Rattle.quilt_world.specs.Tale.{Goes};
 ghost use Rattle.quilt_btree.specs.Damage.{NamesBad};
 ghost use Rattle.quilt_btree.specs.Looks.{LooksAt};
 ghost use Rattle.quilt_btree.specs.Searches.{IsHigh};
-ghost use Rattle.quilt_store.specs.Stops.{IsSound};
+ghost use Rattle.quilt_store.specs.Stops.{IsNotDamage};
 ghost use Rattle.quilt_btree.specs.Stops.{store_stop, unnamed, NamesPage};
-ghost use Rattle.quilt_btree.specs.Trees.{ReadsLeaf, ReadsInner, Spells};
+ghost use Rattle.quilt_btree.specs.Trees.{ReadsLeaf, ReadsInner, SpellsSubtree};
 
 use quilt_node::{InnerPage, LeafPage, is_inner, is_leaf};
 use quilt_store::{PageStore, StoreErr};
@@ -46,7 +46,7 @@ pub fn read_leaf<S: PageStore>(store: &mut S, page: u32, named: u32) -> Result<L
     requires page { (1 ≤ page) × (page < S.size store.old) }
     requires named { named ≤ page }
     ensures leaf { IfOk result (λ leaf. ReadsLeaf (S.told store.old) page leaf) }
-    ensures sound { IfErr result (λ e. (height : ℕ) (rs : List Record) → height ≡ 1 → Spells (S.told store.old) page height rs → IsSound e) }
+    ensures sound { IfErr result (λ e. (height : ℕ) (rs : List Record) → height ≡ 1 → SpellsSubtree (S.told store.old) page height rs → IsNotDamage e) }
     ensures names { IfErr result (NamesPage (named + 1)) }
     ensures bad { IfErr result (λ e. named ≡ page → NamesBad (S.told store.old) 1 page e) }
     ensures left { OnlyReads S.PageStore store.old store.new result }
@@ -99,7 +99,7 @@ pub fn read_inner<S: PageStore>(store: &mut S, page: u32, height: u8) -> Result<
     ensures inner { IfOk result (λ inner. ReadsInner (S.told store.old) page inner) }
     ensures height { IfOk result (λ inner. inner.height ≡ height) }
     ensures children { IfOk result (λ inner. are_pages (S.size store.old) inner.children ≡ true) }
-    ensures sound { IfErr result (λ e. (rs : List Record) → Spells (S.told store.old) page height rs → IsSound e) }
+    ensures sound { IfErr result (λ e. (rs : List Record) → SpellsSubtree (S.told store.old) page height rs → IsNotDamage e) }
     ensures names { IfErr result (NamesPage 1) }
     ensures looks { LooksAt S.PageStore page store.old store.new result }
 {

@@ -5,22 +5,22 @@ ghost use Rattle.quilt_record.specs.declared.record.Record.{Record};
 ghost use Rattle.quilt_record.specs.Records.{key_cmp};
 ghost use Rattle.quilt_node.specs.Tree.{is_below};
 ghost use Rattle.quilt_store.specs.Calls.{OnlyReads};
-ghost use Rattle.quilt_store.specs.Stops.{IsSound};
+ghost use Rattle.quilt_store.specs.Stops.{IsNotDamage};
 ghost use Rattle.quilt_world.specs.Tale.{Goes};
 ghost use Rattle.quilt_types.specs.declared.stop.Stop.TheVariants.{Damaged};
 ghost use Rattle.quilt_btree.specs.Damage.{NamesBad};
-ghost use Rattle.quilt_btree.specs.Lists.{value_of, floor_of, range_of, is_from_to};
+ghost use Rattle.quilt_btree.specs.Lists.{value_at_key, floor_of, range_of, is_from_to};
 ghost use Rattle.quilt_btree.specs.Looks.{LooksAt, AddsFrom};
 ghost use Rattle.quilt_btree.specs.Searches.{AreOf};
-ghost use Rattle.quilt_btree.specs.Spots.{IsSpot, IsSpotIf, IsAt, IsAtKey};
+ghost use Rattle.quilt_btree.specs.Spots.{IsSpot, IsSpotIf, IsAtSpot, IsAtKey};
 ghost use Rattle.quilt_btree.specs.Stops.{NamesPage};
 ghost use Rattle.quilt_btree.specs.Trees.{IsRooted, IsTree};
 ghost use Rattle.quilt_btree.specs.declared.tree.Tree.{Tree as AnyTree};
 
 use crate::pages::stop_of;
-use crate::ranging::{add_leaf, key_up_to};
-use crate::reading::leaf_at;
-use crate::searching::{floor_in, value_in};
+use crate::search::{floor_in, value_in};
+use crate::span::{add_leaf, key_up_to};
+use crate::step::leaf_at;
 use crate::tree::Tree;
 use quilt_node::rec_in;
 use quilt_record::{Key, Record};
@@ -67,15 +67,15 @@ impl Tree {
     ) -> Result<Option<[u8; 16]>, Stop>
         requires rooted { IsRooted (S.size store.old) self.now }
         requires spot { IsSpotIf (S.told store.old) self.now spot.old }
-        ensures value { IfOk result (λ v. (rs : List Record) → IsTree (S.told store.old) self.now rs → v ≡ value_of k.now rs) }
+        ensures value { IfOk result (λ v. (rs : List Record) → IsTree (S.told store.old) self.now rs → v ≡ value_at_key k.now rs) }
         ensures spot { OnOk result (IsSpotIf (S.told store.old) self.now spot.new) }
-        ensures sound { IfErr result (λ e. (rs : List Record) → IsTree (S.told store.old) self.now rs → IsSound e) }
+        ensures sound { IfErr result (λ e. (rs : List Record) → IsTree (S.told store.old) self.now rs → IsNotDamage e) }
         ensures names { IfErr result (NamesPage (S.size store.old)) }
         ensures bad { IfErr result (NamesBad (S.told store.old) self.now.height self.now.root) }
         ensures left { OnlyReads S.PageStore store.old store.new result }
         ensures reads { Goes (λ old new. new ≤ old + 3) (S.reads store.old) (S.reads store.new) }
-        ensures here { IsAt (S.size store.old) spot.old k.now → Goes (λ old new. new ≤ old + 1) (S.reads store.old) (S.reads store.new) }
-        ensures placed { OnOk result (1 ≤ self.now.height → IsAt (S.size store.old) spot.new k.now) }
+        ensures here { IsAtSpot (S.size store.old) spot.old k.now → Goes (λ old new. new ≤ old + 1) (S.reads store.old) (S.reads store.new) }
+        ensures placed { OnOk result (1 ≤ self.now.height → IsAtSpot (S.size store.old) spot.new k.now) }
     {
         if self.height == 0 {
             return Ok(None);
@@ -105,7 +105,7 @@ impl Tree {
         requires spot { IsSpotIf (S.told store.old) self.now spot.old }
         ensures floor { IfOk result (λ r. (rs : List Record) → IsTree (S.told store.old) self.now rs → r ≡ floor_of k.now rs) }
         ensures spot { OnOk result (IsSpotIf (S.told store.old) self.now spot.new) }
-        ensures sound { IfErr result (λ e. (rs : List Record) → IsTree (S.told store.old) self.now rs → IsSound e) }
+        ensures sound { IfErr result (λ e. (rs : List Record) → IsTree (S.told store.old) self.now rs → IsNotDamage e) }
         ensures names { IfErr result (NamesPage (S.size store.old)) }
         ensures bad { IfErr result (NamesBad (S.told store.old) self.now.height self.now.root) }
         ensures left { OnlyReads S.PageStore store.old store.new result }
@@ -136,7 +136,7 @@ impl Tree {
         requires spot { IsSpotIf (S.told store.old) self.now spot.old }
         ensures floor { IfOk result (λ o. IfSome o (λ r. (rs : List Record) → IsTree (S.told store.old) self.now rs → Some r ≡ floor_of k.now rs)) }
         ensures spot { OnOk result (IsSpotIf (S.told store.old) self.now spot.new) }
-        ensures sound { IfErr result (λ e. (rs : List Record) → IsTree (S.told store.old) self.now rs → IsSound e) }
+        ensures sound { IfErr result (λ e. (rs : List Record) → IsTree (S.told store.old) self.now rs → IsNotDamage e) }
         ensures names { IfErr result (NamesPage (S.size store.old)) }
         ensures bad { IfErr result (NamesBad (S.told store.old) self.now.height self.now.root) }
         ensures left { OnlyReads S.PageStore store.old store.new result }
@@ -171,16 +171,16 @@ impl Tree {
         ensures range { IfOk result (λ records. (rs : List Record) → IsTree (S.told store.old) self.now rs
             → records.items ≡ range_of low.now high.now most rs) }
         ensures spot { OnOk result (IsSpotIf (S.told store.old) self.now spot.new) }
-        ensures sound { IfErr result (λ e. (rs : List Record) → IsTree (S.told store.old) self.now rs → IsSound e) }
+        ensures sound { IfErr result (λ e. (rs : List Record) → IsTree (S.told store.old) self.now rs → IsNotDamage e) }
         ensures names { IfErr result (NamesPage (S.size store.old)) }
         ensures bad { IfErr result (λ e. e ≢ Damaged 0 → NamesBad (S.told store.old) self.now.height self.now.root e) }
         ensures left { OnlyReads S.PageStore store.old store.new result }
         ensures number { IfOk result (λ records. vec_len records ≤ most) }
         ensures within { IfOk result (λ records. list_all (is_from_to low.now high.now) records.items ≡ true) }
         ensures reads { IfOk result (λ records. Goes (λ old new. new ≤ old + 6 + 3 * vec_len records) (S.reads store.old) (S.reads store.new)) }
-        ensures here { IsAt (S.size store.old) spot.old low.now → IsAt (S.size store.old) spot.old high.now
+        ensures here { IsAtSpot (S.size store.old) spot.old low.now → IsAtSpot (S.size store.old) spot.old high.now
             → Goes (λ old new. new ≤ old + 1) (S.reads store.old) (S.reads store.new) }
-        ensures placed { OnOk result (1 ≤ self.now.height → IsAt (S.size store.old) spot.new low.now) }
+        ensures placed { OnOk result (1 ≤ self.now.height → IsAtSpot (S.size store.old) spot.new low.now) }
     {
         let mut records = Vec::new(alloc);
         if self.height == 0 {
@@ -220,9 +220,9 @@ impl Tree {
         ensures page { IfOk result (λ s. (1 ≤ s.page) × (s.page < S.size store.old)) }
         ensures spot { IfOk result (IsSpot (S.told store.old) self.now) }
         ensures keys { IfOk result (λ s. (is_le (key_cmp s.low k.now) ≡ true) × (is_below s.high k.now ≡ true)) }
-        ensures here { IsAt (S.size store.old) spot.now k.now → IfOk result (λ s. spot.now ≡ Some s)
+        ensures here { IsAtSpot (S.size store.old) spot.now k.now → IfOk result (λ s. spot.now ≡ Some s)
             × Goes (λ old new. new ≤ old) (S.reads store.old) (S.reads store.new) }
-        ensures sound { IfErr result (λ e. (rs : List Record) → IsTree (S.told store.old) self.now rs → IsSound e) }
+        ensures sound { IfErr result (λ e. (rs : List Record) → IsTree (S.told store.old) self.now rs → IsNotDamage e) }
         ensures names { IfErr result (NamesPage (S.size store.old)) }
         ensures bad { IfErr result (NamesBad (S.told store.old) self.now.height self.now.root) }
         ensures left { OnlyReads S.PageStore store.old store.new result }
@@ -246,7 +246,7 @@ impl Tree {
 /// The spot where the key is one of its keys, and its page one of a store of so many.
 fn at_spot(spot: &Option<Spot>, pages: u32, k: &Key) -> Option<Spot>
     ensures here { IfSome result (λ s. (spot.now ≡ Some s) × IsAtKey pages k.now s) }
-    ensures none { result ≡ None → IsAt pages spot.now k.now → ⊥ }
+    ensures none { result ≡ None → IsAtSpot pages spot.now k.now → ⊥ }
 {
     match spot {
         None => None,
@@ -285,7 +285,7 @@ fn add_in<S: PageStore>(
     ensures adds { OnOk result (AddsFrom (S.told store.old) spot.now.page low.now high.now most records.old.items records.new.items) }
     ensures wide { IfOk result (λ s. (t : AnyTree) → 1 ≤ t.height → IsSpot (S.told store.old) t spot.now → IsSpot (S.told store.old) t s) }
     ensures same { IfOk result (λ s. (s.page ≡ spot.now.page) × (s.high ≡ spot.now.high) × (is_le (key_cmp s.low spot.now.low) ≡ true)) }
-    ensures sound { IfErr result (λ e. IsSound e) }
+    ensures sound { IfErr result (λ e. IsNotDamage e) }
     ensures looks { LooksAt S.PageStore spot.now.page store.old store.new result }
 {
     match store.page(spot.page) {

@@ -3,7 +3,7 @@ ghost use Rattle.quilt_record.specs.declared.record.Record.{Record};
 ghost use Rattle.quilt_types.specs.Facts.{quota};
 ghost use Rattle.quilt_types.specs.declared.stop.Stop.TheVariants.{Damaged};
 ghost use Rattle.quilt_node.specs.Pages.{is_ascending};
-ghost use Rattle.quilt_btree.specs.Batches.{edit_keys, is_due, edited, are_due, edit_all, more_of, fewer_of, cost_of, looks_of, more, fewer, removed, added, CountsFirst, EditsFirst};
+ghost use Rattle.quilt_btree.specs.Batches.{edit_keys, is_due, edited, are_due, edit_all, more_of, fewer_of, cost_of, looks_of, more, fewer, removed, records_put, CountsFirst, EditsFirst};
 ghost use Rattle.quilt_btree.specs.Runs.{put_all, without_all};
 ghost use Rattle.quilt_btree.specs.Damage.{NamesBad};
 ghost use Rattle.quilt_btree.specs.Costs.{EditsWithinOnOk};
@@ -33,14 +33,14 @@ impl Tree {
         ensures edited { OnOk result ((rs : List Record) → IsWhole (S.told store.old) (S.free store.old) (S.size store.old) self.old rs
             → (are_due batch.now rs ≡ true) × IsWhole (S.told store.new) (S.free store.new) (S.size store.old) self.new (edit_all batch.now rs)) }
         ensures list { (rs : List Record) → IsWhole (S.told store.old) (S.free store.old) (S.size store.old) self.old rs → are_due batch.now rs ≡ true
-            → edit_all batch.now rs ≡ put_all (added batch.now) (without_all (removed batch.now) rs) }
+            → edit_all batch.now rs ≡ put_all (records_put batch.now) (without_all (removed batch.now) rs) }
         ensures count { OnOk result (self.new.records + fewer batch.now ≡ self.old.records + more batch.now) }
         ensures fails { IfErr result (λ e. (rs : List Record) → IsWhole (S.told store.old) (S.free store.old) (S.size store.old) self.old rs
             → (page : ℕ) → e ≡ Damaged page → (page ≡ 0) × (are_due batch.now rs ≡ false)) }
         ensures names { IfErr result (NamesPage (S.size store.old)) }
         ensures bad { IfErr result (λ e. e ≢ Damaged 0 → NamesBad (S.told store.old) self.old.height self.old.root e) }
-        ensures left { EditsWithinOnOk S.PageStore (7 * length (removed batch.now) + 6 * length (added batch.now))
-            (10 * length (removed batch.now) + 6 * length (added batch.now)) store.old store.new result }
+        ensures left { EditsWithinOnOk S.PageStore (7 * length (removed batch.now) + 6 * length (records_put batch.now))
+            (10 * length (removed batch.now) + 6 * length (records_put batch.now)) store.old store.new result }
     {
         let run = batch.edits();
         let mut done = 0;

@@ -6,13 +6,13 @@ ghost use Rattle.quilt_store.specs.Store.{count_free};
 ghost use Rattle.quilt_record.specs.Lists.{has_key, put};
 ghost use Rattle.quilt_types.specs.declared.stop.Stop.TheVariants.{Damaged};
 ghost use Rattle.quilt_btree.specs.Damage.{NamesBad};
-ghost use Rattle.quilt_store.specs.Stops.{IsSound};
+ghost use Rattle.quilt_store.specs.Stops.{IsNotDamage};
 ghost use Rattle.quilt_btree.specs.Costs.{EditsWithin, IsUntouched};
 ghost use Rattle.quilt_btree.specs.Stops.{NamesPage};
 
-use crate::inserting::insert_under;
+use crate::insertion::insert_under;
 use crate::outcomes::Inserted;
-use crate::splitting::write_new;
+use crate::split::write_new;
 use crate::tree::Tree;
 use quilt_node::{InnerPage, LeafPage};
 use quilt_record::Record;
@@ -34,9 +34,9 @@ impl Tree {
         ensures rooted { OnOk result (IsRooted (S.size store.old) self.new) }
         ensures inserts { InsertsInto S.PageStore r.now self.old self.new store.old store.new result }
         ensures same { IfOk result (λ is_new. is_new ≡ false → (self.new ≡ self.old) × IsUntouched S.PageStore store.old store.new) }
-        ensures sound { IfErr result (λ e. (rs : List Record) → IsWhole (S.told store.old) (S.free store.old) (S.size store.old) self.old rs → IsSound e) }
+        ensures sound { IfErr result (λ e. (rs : List Record) → IsWhole (S.told store.old) (S.free store.old) (S.size store.old) self.old rs → IsNotDamage e) }
         ensures goes { IfErr result (λ e. (rs : List Record) → HasItsPages (S.told store.old) (S.free store.old) self.old rs
-            → length rs ≡ self.old.records → self.old.height < count_free (S.free store.old) (S.size store.old) → IsSound e) }
+            → length rs ≡ self.old.records → self.old.height < count_free (S.free store.old) (S.size store.old) → IsNotDamage e) }
         ensures names { IfErr result (NamesPage (S.size store.old)) }
         ensures bad { IfErr result (λ e. e ≢ Damaged 0 → NamesBad (S.told store.old) self.old.height self.old.root e) }
         ensures left { EditsWithin S.PageStore 5 3 store.old store.new result }

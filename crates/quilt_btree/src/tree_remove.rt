@@ -4,14 +4,14 @@ ghost use Rattle.quilt_record.specs.declared.record.Record.{Record};
 ghost use Rattle.quilt_types.specs.declared.stop.Stop.TheVariants.{Device, Damaged};
 ghost use Rattle.quilt_record.specs.Lists.{has_key, without};
 ghost use Rattle.quilt_btree.specs.Damage.{NamesBad};
-ghost use Rattle.quilt_store.specs.Stops.{IsSound};
+ghost use Rattle.quilt_store.specs.Stops.{IsNotDamage};
 ghost use Rattle.quilt_btree.specs.Costs.{EditsWithin, IsUntouched};
 ghost use Rattle.quilt_btree.specs.Stops.{NamesPage};
 
 use crate::outcomes::Removed;
-use crate::removing::remove_under;
+use crate::removal::remove_under;
 use crate::tree::Tree;
-use crate::writing::give_back;
+use crate::writes::give_back;
 use quilt_record::Key;
 use quilt_store::PageStore;
 use quilt_types::Stop;
@@ -32,9 +32,9 @@ impl Tree {
         ensures removes { RemovesFrom S.PageStore k.now self.old self.new store.old store.new result }
         ensures same { IfOk result (λ is_out. is_out ≡ false → (self.new ≡ self.old) × IsUntouched S.PageStore store.old store.new) }
         ensures count { IfOk result (λ is_out. is_out ≡ true → self.new.records + 1 ≡ self.old.records) }
-        ensures sound { IfErr result (λ e. (rs : List Record) → IsWhole (S.told store.old) (S.free store.old) (S.size store.old) self.old rs → IsSound e) }
+        ensures sound { IfErr result (λ e. (rs : List Record) → IsWhole (S.told store.old) (S.free store.old) (S.size store.old) self.old rs → IsNotDamage e) }
         ensures goes { IfErr result (λ e. (rs : List Record) → HasItsPages (S.told store.old) (S.free store.old) self.old rs
-            → length rs ≡ self.old.records → IsSound e) }
+            → length rs ≡ self.old.records → IsNotDamage e) }
         ensures names { IfErr result (NamesPage (S.size store.old)) }
         ensures bad { IfErr result (λ e. e ≢ Damaged 0 → NamesBad (S.told store.old) self.old.height self.old.root e) }
         ensures left { EditsWithin S.PageStore 6 7 store.old store.new result }
@@ -68,7 +68,7 @@ impl Tree {
         ensures some { OnOk result (1 ≤ height → 2 ≤ self.old.records) }
         ensures cause { IsErrOf result Device → ⊥ }
         ensures names { (size : ℕ) → 0 < size → IfErr result (NamesPage size) }
-        ensures sound { IfErr result (λ e. (height ≡ 0 → (root ≡ 0) × (self.old.records ≡ 1)) → (1 ≤ height → 2 ≤ self.old.records) → IsSound e) }
+        ensures sound { IfErr result (λ e. (height ≡ 0 → (root ≡ 0) × (self.old.records ≡ 1)) → (1 ≤ height → 2 ≤ self.old.records) → IsNotDamage e) }
     {
         let records = self.records - 1;
         if height == 0 && (root != 0 || records != 0) {

@@ -18,7 +18,7 @@ use Rattle.quilt_blocks.specs.Cutting.{leaves_by_code}
 use Rattle.quilt_blocks.proofs.Cuts.{leaves_members, leaf_is}
 use Rattle.quilt_blocks.proofs.Listed.{held_in}
 use Rattle.quilt_blocks.proofs.PixelLeaves.{leaf_at}
-use Rattle.quilt_buffer.specs.Reach.{reaches, within_reach, is_coloured, blocks_with_colour}
+use Rattle.quilt_buffer.specs.Reach.{reaches, within_reach, is_foreground, blocks_with_colour}
 use Rattle.quilt_blocks.proofs.Squares.{grid_of-same}
 use Rattle.quilt_buffer.proofs.Reaching.{any_member, any_from, InReach, InReach-from, reaches-true}
 
@@ -67,8 +67,8 @@ module _ (n : ℕ) (g : Grid) (r : ℕ) (le : n ≤ 12) (p : Pixel) where
   to_pixel : list_any (reaches r p) (blocks_with_colour (leaves_by_code n g)) ≡ true → list_any (is_near n g r p) (pixels n) ≡ true
   to_pixel e =
       let m = any_member (reaches r p) (blocks_with_colour (leaves_by_code n g)) e in
-      let f = Contains-map_from (λ (z : Block × ℕ). z.0) (filter is_coloured (leaves_by_code n g)) m.0 m.1 in
-      let k = Contains-filter_from is_coloured (leaves_by_code n g) f.0 f.1 in
+      let f = Contains-map_from (λ (z : Block × ℕ). z.0) (filter is_foreground (leaves_by_code n g)) m.0 m.1 in
+      let k = Contains-filter_from is_foreground (leaves_by_code n g) f.0 f.1 in
       let b = f.0.0 in
       let leaf = leaf_is n g f.0 ((leaves_members n g f.0).0 k.0) in
       let some = side_pos n b leaf.maximal.block in
@@ -89,9 +89,9 @@ module _ (n : ℕ) (g : Grid) (r : ℕ) (le : n ≤ 12) (p : Pixel) where
       let h = w.1 in
       let b = w.0.0 in
       let held = h.holds in
-      let coloured : is_coloured w.0 ≡ true = ap (λ c. not (eqb c 0)) (sym (h.leaf.colour.each q held)) ∙ t.0 in
-      let member = Contains-map (λ (z : Block × ℕ). z.0) (filter is_coloured (leaves_by_code n g)) w.0
-      (Contains-filter is_coloured (leaves_by_code n g) w.0 ((leaves_members n g w.0).1 h.member) coloured) in
+      let coloured : is_foreground w.0 ≡ true = ap (λ c. not (eqb c 0)) (sym (h.leaf.colour.each q held)) ∙ t.0 in
+      let member = Contains-map (λ (z : Block × ℕ). z.0) (filter is_foreground (leaves_by_code n g)) w.0
+      (Contains-filter is_foreground (leaves_by_code n g) w.0 ((leaves_members n g w.0).1 h.member) coloured) in
       any_from (reaches r p) (blocks_with_colour (leaves_by_code n g)) b member (reaches-true r p b (held_near r b p q held (leb-true _ _ t.1)))
 
   pub near_leaves : within_reach r (blocks_with_colour (leaves_by_code n g)) p ≡ cond (list_any (is_near n g r p) (pixels n)) 1 0

@@ -7,7 +7,7 @@ use Rattle.quilt_loc.specs.Codes.{code_from, code_to}
 use Rattle.quilt_loc.proofs.Blocks.{side_most}
 use Rattle.quilt_loc.proofs.Intervals.{held_code}
 use Rattle.quilt_blocks.specs.Painting.{Painted}
-use Rattle.quilt_blocks.specs.Adding.{Adds}
+use Rattle.quilt_blocks.specs.Adding.{AddsColours}
 use Rattle.quilt_buffer.specs.Reach.{within_reach, reaches_some}
 use Rattle.quilt_blocks.proofs.Adding.{Adds-change}
 use Rattle.quilt_buffer.proofs.Reaching.{near_close}
@@ -17,8 +17,8 @@ positive zero e = absurd (true≢false e)
 positive (suc k) e = omega arith
 
 pub filled_by_all : (n r : ℕ) (square : Block) (blocks close : List Block) (old new : Painted) → n ≤ 12 → IsBlock n square
-    → code_from square ≡ length old.colours → close ≡ filter (reaches_some r square) blocks → Adds n (within_reach r close) (code_to square) old new
-    → Adds n (within_reach r blocks) (code_to square) old new
+    → code_from square ≡ length old.colours → close ≡ filter (reaches_some r square) blocks → AddsColours n (within_reach r close) (code_to square) old new
+    → AddsColours n (within_reach r blocks) (code_to square) old new
 filled_by_all n r square blocks close old new le h next is a =
     let m = side_most n le in
     let ix = h.in_x in

@@ -23,9 +23,9 @@ abbrev pub within_reach : ℕ → List Block → Pixel → ℕ
 within_reach r blocks p = if list_any (reaches r p) blocks then 1 else 0
 
 -- the colour is not that of the background
-abbrev pub is_coloured : Block × ℕ → Bool
-is_coloured e = not (e.1 == 0)
+abbrev pub is_foreground : Block × ℕ → Bool
+is_foreground e = not (e.1 == 0)
 
 -- the blocks of those leaves
 abbrev pub blocks_with_colour : List (Block × ℕ) → List Block
-blocks_with_colour es = map (λ e. e.0) (filter is_coloured es)
+blocks_with_colour es = map (λ e. e.0) (filter is_foreground es)

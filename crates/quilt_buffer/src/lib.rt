@@ -1,7 +1,7 @@
 //! Chessboard buffers: the pixels that a number of a king's moves brings to a coloured one.
 #![tactic(auto)]
 
-mod buffering;
 mod reach;
+mod zone;
 
-pub use buffering::buffer;
+pub use zone::buffer;

@@ -8,7 +8,7 @@ use Rattle.std.proofs.Math.Nat.{mul-le-mul_right}
 use Rattle.std.proofs.lemmas.Bool.{cases_lt, ltb-true, lt-ltb}
 use Rattle.quilt_types.specs.Fractions.{Fraction, lowest}
 use Rattle.quilt_clip.proofs.Lowest.{lowest_is, mul_cancel}
-use Rattle.quilt_clip.specs.Compared.{over, compared}
+use Rattle.quilt_clip.specs.Compared.{denominator_of, compared}
 
 -- ---- numbers that are multiplied by others
 lt_moves : (a b c d k m : ℕ) → 0 < k → a * k ≡ c * m → b * k ≡ d * m → a < b → c < d
@@ -27,10 +27,10 @@ cmp_moves : (a b c d k m : ℕ) → 0 < k → 0 < m → a * k ≡ c * m → b * 
 cmp_moves a b c d k m pos pos' e f = nat_cmp_is c d (nat_cmp a b) (moved_by a b c d k m (nat_cmp a b) pos pos' e f refl)
 
 -- ---- the order
-over_positive : (f : Fraction) → 0 < over f
+over_positive : (f : Fraction) → 0 < denominator_of f
 over_positive f = omega arith
 
-over_is : (f : Fraction) → 0 < f.den → over f ≡ f.den
+over_is : (f : Fraction) → 0 < f.den → denominator_of f ≡ f.den
 over_is f pos = omega arith
 
 chain : (a b c p q r : ℕ) → 0 < r → a * q < b * p → b * r < c * q → a * r < c * p
@@ -45,15 +45,15 @@ chain a b c p q r pos low high =
 pub compared_total : IsTotalOrder compared
 unfolding compared
 compared_total = record {
-  antisymm = λ x y. nat_cmp_total.antisymm (x.num * over y) (y.num * over x);
+  antisymm = λ x y. nat_cmp_total.antisymm (x.num * denominator_of y) (y.num * denominator_of x);
   trans = λ x y z h k.
-      sym (nat_cmp_is (x.num * over z) (z.num * over x) Less
-      (chain x.num y.num z.num (over x) (over y) (over z) (over_positive z) (ranked (x.num * over y) (y.num * over x) Less (sym h))
-      (ranked (y.num * over z) (z.num * over y) Less (sym k))));
+      sym (nat_cmp_is (x.num * denominator_of z) (z.num * denominator_of x) Less
+      (chain x.num y.num z.num (denominator_of x) (denominator_of y) (denominator_of z) (over_positive z) (ranked (x.num * denominator_of y) (y.num * denominator_of x) Less (sym h))
+      (ranked (y.num * denominator_of z) (z.num * denominator_of y) Less (sym k))));
   congr = λ x y z h.
-      let same : x.num * over y ≡ y.num * over x = ranked (x.num * over y) (y.num * over x) Equal (sym h) in
-      cmp_moves (x.num * over z) (z.num * over x) (y.num * over z) (z.num * over y) (over y) (over x) (over_positive y) (over_positive x)
-      (omega (arith, ap (λ k. k * over z) same)) (omega arith);
+      let same : x.num * denominator_of y ≡ y.num * denominator_of x = ranked (x.num * denominator_of y) (y.num * denominator_of x) Equal (sym h) in
+      cmp_moves (x.num * denominator_of z) (z.num * denominator_of x) (y.num * denominator_of z) (z.num * denominator_of y) (denominator_of y) (denominator_of x) (over_positive y) (over_positive x)
+      (omega (arith, ap (λ k. k * denominator_of z) same)) (omega arith);
 }
 
 -- and it is that of the cross products where no denominator is 0

@@ -5,7 +5,7 @@ use Rattle.quilt_types.specs.Fractions.{Fraction}
 use Rattle.quilt_types.specs.declared.plane.Window.{Window}
 use Rattle.quilt_types.specs.declared.plane.Seg.{Seg}
 use Rattle.quilt_clip.specs.declared.span.Span.{Span}
-use Rattle.quilt_clip.specs.Spans.{IsOn, LiesIn, IsSpan, IsRest, IsCut, From, Until, Above, Below, IsSpanIn, IsClipped}
+use Rattle.quilt_clip.specs.Spans.{IsOn, LiesIn, IsSpan, IsRest, IsSpanCut, From, Until, Above, Below, IsSpanIn, IsClipped}
 use Rattle.quilt_clip.proofs.Sides.{rise_above, rise_above_from, rise_below, rise_below_from, fall_above, fall_above_from, fall_below, fall_below_from}
 
 rest_same : (p : Span) (C D : Fraction → Type 0) (r : Span) → ((t : Fraction) → IsOn t → C t → D t) → ((t : Fraction) → IsOn t → D t → C t)
@@ -18,27 +18,27 @@ rest_same p C D r there back h = record {
 }
 
 pub cut_same : (p : Span) (C D : Fraction → Type 0) (r : Option Span) → ((t : Fraction) → IsOn t → C t → D t) → ((t : Fraction) → IsOn t → D t → C t)
-    → IsCut p C r → IsCut p D r
+    → IsSpanCut p C r → IsSpanCut p D r
 cut_same p C D None there back h = λ t on l d. h t on l (back t on d)
 cut_same p C D (Some r) there back h = rest_same p C D r there back h
 
 -- the four ways in which one condition is another
-pub cut_rise_above : (p : Span) (a b c : ℕ) (r : Option Span) → a < b → a ≤ c → IsCut p (From (c - a) (b - a)) r → IsCut p (Above a b c) r
+pub cut_rise_above : (p : Span) (a b c : ℕ) (r : Option Span) → a < b → a ≤ c → IsSpanCut p (From (c - a) (b - a)) r → IsSpanCut p (Above a b c) r
 cut_rise_above p a b c r ab ac = cut_same p (From (c - a) (b - a)) (Above a b c) r
     (λ t on h. record { fact = rise_above_from a b c (b - a) (c - a) t.num t.den (omega arith) (omega arith) h.fact })
     (λ t on h. record { fact = rise_above a b c (b - a) (c - a) t.num t.den (omega arith) (omega arith) h.fact })
 
-pub cut_rise_below : (p : Span) (a b c : ℕ) (r : Option Span) → a < b → a ≤ c → IsCut p (Until (c - a) (b - a)) r → IsCut p (Below a b c) r
+pub cut_rise_below : (p : Span) (a b c : ℕ) (r : Option Span) → a < b → a ≤ c → IsSpanCut p (Until (c - a) (b - a)) r → IsSpanCut p (Below a b c) r
 cut_rise_below p a b c r ab ac = cut_same p (Until (c - a) (b - a)) (Below a b c) r
     (λ t on h. record { fact = rise_below_from a b c (b - a) (c - a) t.num t.den (omega arith) (omega arith) h.fact })
     (λ t on h. record { fact = rise_below a b c (b - a) (c - a) t.num t.den (omega arith) (omega arith) h.fact })
 
-pub cut_fall_above : (p : Span) (a b c : ℕ) (r : Option Span) → b < a → c ≤ a → IsCut p (Until (a - c) (a - b)) r → IsCut p (Above a b c) r
+pub cut_fall_above : (p : Span) (a b c : ℕ) (r : Option Span) → b < a → c ≤ a → IsSpanCut p (Until (a - c) (a - b)) r → IsSpanCut p (Above a b c) r
 cut_fall_above p a b c r ba ca = cut_same p (Until (a - c) (a - b)) (Above a b c) r
     (λ t on h. record { fact = fall_above_from a b c (a - b) (a - c) t.num t.den (omega arith) (omega arith) h.fact })
     (λ t on h. record { fact = fall_above a b c (a - b) (a - c) t.num t.den (omega arith) (omega arith) h.fact })
 
-pub cut_fall_below : (p : Span) (a b c : ℕ) (r : Option Span) → b < a → c ≤ a → IsCut p (From (a - c) (a - b)) r → IsCut p (Below a b c) r
+pub cut_fall_below : (p : Span) (a b c : ℕ) (r : Option Span) → b < a → c ≤ a → IsSpanCut p (From (a - c) (a - b)) r → IsSpanCut p (Below a b c) r
 cut_fall_below p a b c r ba ca = cut_same p (From (a - c) (a - b)) (Below a b c) r
     (λ t on h. record { fact = fall_below_from a b c (a - b) (a - c) t.num t.den (omega arith) (omega arith) h.fact })
     (λ t on h. record { fact = fall_below a b c (a - b) (a - c) t.num t.den (omega arith) (omega arith) h.fact })
@@ -93,7 +93,7 @@ clipped_some s w right middle lower last a b c d = record {
 
 pub clipped : (s : Seg) (w : Window) (right middle lower : Span) (last : Option Span) →
     IsRest whole (Above s.x1 s.x2 w.x) right → IsRest right (Below s.x1 s.x2 (w.x + w.w)) middle →
-    IsRest middle (Above s.y1 s.y2 w.y) lower → IsCut lower (Below s.y1 s.y2 (w.y + w.h)) last → IsClipped s w last
+    IsRest middle (Above s.y1 s.y2 w.y) lower → IsSpanCut lower (Below s.y1 s.y2 (w.y + w.h)) last → IsClipped s w last
 clipped s w right middle lower None a b c d =
     λ t on h. d t on (c.all t on (b.all t on (a.all t on (whole_lies t on) h.left) h.right) h.top) h.bottom
 clipped s w right middle lower (Some last) a b c d = clipped_some s w right middle lower last a b c d

@@ -32,8 +32,8 @@ pub record IsRest (p : Span) (C : Fraction → Type 0) (rest : Span) : Type 0 wh
   pub all : (t : Fraction) → IsOn t → LiesIn p t → C t → LiesIn rest t
 
 -- the same, or nothing where no point of the span meets it
-abbrev pub IsCut : Span → (Fraction → Type 0) → Option Span → Type 0
-IsCut p C rest = MatchOption rest ((t : Fraction) → IsOn t → LiesIn p t → C t → ⊥) (λ r. IsRest p C r)
+abbrev pub IsSpanCut : Span → (Fraction → Type 0) → Option Span → Type 0
+IsSpanCut p C rest = MatchOption rest ((t : Fraction) → IsOn t → LiesIn p t → C t → ⊥) (λ r. IsRest p C r)
 
 -- in one direction, the point at t of the segment from a to b is c or above
 pub record Above (a b c : ℕ) (t : Fraction) : Type 0 where

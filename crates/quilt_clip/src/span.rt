@@ -1,6 +1,6 @@
 ghost use Rattle.std.specs.Prelude.{◌≡◌, ◌+◌, ◌*◌, ◌<◌, ◌≤◌};
 ghost use Rattle.quilt_types.specs.Fractions.{is_less as fraction_is_less};
-ghost use Rattle.quilt_clip.specs.Spans.{IsSpan, IsCut, Above, Below, From, Until};
+ghost use Rattle.quilt_clip.specs.Spans.{IsSpan, IsSpanCut, Above, Below, From, Until};
 
 use std::marker::Model;
 
@@ -42,7 +42,7 @@ impl Span {
         requires span { IsSpan self }
         requires over { 0 < k }
         requires small { k < 65536 }
-        ensures { IsCut self (From m k) result }
+        ensures { IsSpanCut self (From m k) result }
     {
         let here = Ratio { num: m, den: k };
         if self.last.is_less(here) {
@@ -62,7 +62,7 @@ impl Span {
         requires span { IsSpan self }
         requires over { 0 < k }
         requires small { k < 65536 }
-        ensures { IsCut self (Until m k) result }
+        ensures { IsSpanCut self (Until m k) result }
     {
         let here = Ratio { num: m, den: k };
         if here.is_less(self.first) {
@@ -80,7 +80,7 @@ impl Span {
     /// What of the span of the segment from a to b, in one direction, is at c or above.
     pub fn above(self, a: u16, b: u16, c: u32) -> Option<Span>
         requires { IsSpan self }
-        ensures { IsCut self (Above a b c) result }
+        ensures { IsSpanCut self (Above a b c) result }
     {
         let (a, b) = (a as u32, b as u32);
         if a < b && a < c {
@@ -97,7 +97,7 @@ impl Span {
     /// What of the span of the segment from a to b, in one direction, is at c or below.
     pub fn below(self, a: u16, b: u16, c: u32) -> Option<Span>
         requires { IsSpan self }
-        ensures { IsCut self (Below a b c) result }
+        ensures { IsSpanCut self (Below a b c) result }
     {
         let (a, b) = (a as u32, b as u32);
         if a < b && a <= c {

@@ -1,7 +1,7 @@
 -- What a desk keeps through each call.
 use Rattle.std.specs.List.{list_all}
 use Rattle.std.proofs.lemmas.List.Folds.{list_all-append}
-use Rattle.quilt_desk.specs.Whole.{is_whole}
+use Rattle.quilt_desk.specs.Whole.{is_whole_page}
 use Rattle.std.proofs.Common.{◌≡◌, ◌≢◌, true, ◌⊎◌, inl, inr, ℕ, ◌<◌, List, [], ◌∷◌, ◌++◌, length, refl, sym, ◌∙◌, ap, arith, append_assoc}
 use Rattle.std.proofs.lemmas.List.{append-nil}
 use Rattle.quilt_world.specs.Disk.{Log}
@@ -27,5 +27,5 @@ pub open_not_shut : (door : Door) (n : ℕ) → (door ≡ Ready) ⊎ (door ≡ M
 open_not_shut door n (inl ready) shut = let e : Ready ≡ Shut = sym ready ∙ shut in cc
 open_not_shut door n (inr made) shut = let e : Made ≡ Shut = sym made ∙ shut in cc
 
-pub whole-push : (log : Log) (e : Event) → list_all is_whole log ≡ true → is_whole e ≡ true → list_all is_whole (log ++ e ∷ []) ≡ true
-whole-push log e all this = list_all-append is_whole log (e ∷ []) ∙ grind (arith, all, this)
+pub whole-push : (log : Log) (e : Event) → list_all is_whole_page log ≡ true → is_whole_page e ≡ true → list_all is_whole_page (log ++ e ∷ []) ≡ true
+whole-push log e all this = list_all-append is_whole_page log (e ∷ []) ∙ grind (arith, all, this)

@@ -43,8 +43,8 @@ abbrev pub FailsNext : Desk → Type 0
 FailsNext d = Contains (failing_of d) (next_count (calls_of d))
 
 -- the log has room for one event more
-abbrev pub HasRoom : Desk → Type 0
-HasRoom d = length d.log.items < vec_capacity d.log
+abbrev pub LogHasRoom : Desk → Type 0
+LogHasRoom d = length d.log.items < vec_capacity d.log
 
 -- one call more is counted, and what fails and how much a call handles are as before
 pub record CountsCall (old new : Desk) : Type 0 where

@@ -7,20 +7,20 @@ use Rattle.quilt_desk.specs.Crash.{page_filled}
 use Rattle.quilt_desk.specs.declared.page_state.PageState.{PageState}
 
 -- before any event a page has the bytes that the file began with
-abbrev pub first_state : List ℕ → PageState
-first_state bytes = record { last = Some bytes; synced = Some bytes; written = None; is_unsynced = false }
+abbrev pub first_page_state : List ℕ → PageState
+first_page_state bytes = record { last = Some bytes; synced = Some bytes; written = None; is_unsynced = false }
 
 -- after one more event: the last bytes, those at the last sync, those of the last whole write since, and whether one was tried since
-abbrev pub state_after : ℕ → PageState → Event → PageState
-state_after page s (Wrote at bytes) = if at == page then record { last = Some bytes; synced = s.synced; written = Some bytes; is_unsynced = true } else s
-state_after page s (Tore at) = if at == page then record { last = None; synced = s.synced; written = s.written; is_unsynced = true } else s
-state_after page s Synced = record { last = s.last; synced = s.last; written = None; is_unsynced = false }
-state_after page s (Took bytes) = s
-state_after page s (Put bytes) = s
+abbrev pub page_state_after : ℕ → PageState → Event → PageState
+page_state_after page s (Wrote at bytes) = if at == page then record { last = Some bytes; synced = s.synced; written = Some bytes; is_unsynced = true } else s
+page_state_after page s (Tore at) = if at == page then record { last = None; synced = s.synced; written = s.written; is_unsynced = true } else s
+page_state_after page s Synced = record { last = s.last; synced = s.last; written = None; is_unsynced = false }
+page_state_after page s (Took bytes) = s
+page_state_after page s (Put bytes) = s
 
 -- what is known of a page after the log
 unfoldable pub state_of : ℕ → List ℕ → Log → PageState
-state_of page first log = fold (state_after page) (first_state first) log
+state_of page first log = fold (page_state_after page) (first_page_state first) log
 
 -- the bytes at the last sync, or zeros where the page was torn then
 abbrev pub at_sync : PageState → List ℕ

@@ -3,7 +3,7 @@ ghost use Rattle.std.specs.List.{list_all};
 ghost use Rattle.quilt_world.specs.Tale.{put_bytes};
 ghost use Rattle.quilt_world.specs.declared.disk.Door.TheVariants as doors;
 ghost use Rattle.quilt_desk.specs.Reads.{Reads};
-ghost use Rattle.quilt_desk.specs.Whole.{is_whole};
+ghost use Rattle.quilt_desk.specs.Whole.{is_whole_page};
 
 mod crash;
 mod setup;
@@ -38,5 +38,5 @@ pub struct Desk {
     ghost no_pages: { door ≢ doors.Ready → door ≢ doors.Made → length start ≡ 0 },
     ghost put: { output.items ≡ put_bytes log.items },
     ghost some: { 1 ≤ most },
-    ghost whole: { IsTrue (list_all is_whole log.items) },
+    ghost whole: { IsTrue (list_all is_whole_page log.items) },
 }

@@ -1,8 +1,8 @@
 ghost use Rattle.std.specs.Prelude.{◌≡◌, length, true, IsTrue};
 ghost use Rattle.std.specs.List.{list_all};
 ghost use Rattle.quilt_desk.specs.Crash.{page_filled};
-ghost use Rattle.quilt_desk.specs.PageStates.{first_state, state_after, state_of, left_of, chosen_of};
-ghost use Rattle.quilt_desk.specs.Whole.{is_whole};
+ghost use Rattle.quilt_desk.specs.PageStates.{first_page_state, page_state_after, state_of, left_of, chosen_of};
+ghost use Rattle.quilt_desk.specs.Whole.{is_whole_page};
 
 use quilt_world::Event;
 
@@ -19,7 +19,7 @@ pub(crate) struct PageState {
 impl PageState {
     /// A page that has these bytes before any event.
     pub(crate) fn new(bytes: &[u8; 4096]) -> PageState
-        ensures { result ≡ first_state bytes.now }
+        ensures { result ≡ first_page_state bytes.now }
     {
         PageState {
             last: Some(*bytes),
@@ -31,7 +31,7 @@ impl PageState {
 
     /// The page of this number after these events, where it had these bytes before.
     pub(crate) fn after(page: u32, bytes: &[u8; 4096], log: &[Event]) -> PageState
-        requires { IsTrue (list_all is_whole log.now) }
+        requires { IsTrue (list_all is_whole_page log.now) }
         ensures { result ≡ state_of page bytes.now log.now }
     {
         let mut state = PageState::new(bytes);
@@ -43,8 +43,8 @@ impl PageState {
 
     /// Adds an event.
     fn add(&mut self, page: u32, event: &Event)
-        requires { IsTrue (is_whole event.now) }
-        ensures { self.new ≡ state_after page self.old event.now }
+        requires { IsTrue (is_whole_page event.now) }
+        ensures { self.new ≡ page_state_after page self.old event.now }
     {
         match event {
             Event::Wrote { page: at, bytes } if *at == page => {

@@ -1,5 +1,5 @@
 ghost use Rattle.std.specs.Prelude.{◌≡◌, ◌≤◌, length, take, min};
-ghost use Rattle.quilt_desk.specs.Sources.{Gives};
+ghost use Rattle.quilt_desk.specs.Sources.{SourceGives};
 
 use crate::input::Input;
 
@@ -14,7 +14,7 @@ impl Source {
     /// Gives its next bytes, as many as there are and as fit, and says how many.
     pub(crate) fn take(&mut self, into: &mut [u8]) -> usize
         ensures within { result ≤ length into.old }
-        ensures gives { Gives self.old (take result into.new) (length into.old) self.new }
+        ensures gives { SourceGives self.old (take result into.new) (length into.old) self.new }
     {
         match self {
             Source::Bytes(input) => {

@@ -4,7 +4,7 @@ use Rattle.quilt_world.specs.Tale.{Tale, Goes}
 use Rattle.quilt_store.specs.declared.store.StoreErr.{StoreErr}
 use Rattle.quilt_store.specs.declared.store.StoreErr.TheVariants.{Device, Memory}
 use Rattle.quilt_store.specs.Store.{HasStoreCause}
-use Rattle.quilt_edition.specs.Keeping.{reads_of}
+use Rattle.quilt_edition.specs.Keeping.{tale_reads}
 
 pub memory_cause : {B : Type 0} (n : ℕ) → HasStoreCause {T = B} n n (Err Memory)
 memory_cause n = record { later = omega arith; device = λ d. absurd cc }
@@ -17,15 +17,15 @@ module _ {A B : Type 0} where
   pub cause_ok : (m n : ℕ) (r : Result A StoreErr) (x : B) → HasStoreCause {T = A} m n r → HasStoreCause {T = B} m n (Ok x)
   cause_ok m n r x h = record { later = h.later; device = λ d. absurd cc }
 
-pub reads_same : (o : Option Tale) → Goes (λ (old new : ℕ). new ≤ old) (reads_of o) (reads_of o)
+pub reads_same : (o : Option Tale) → Goes (λ (old new : ℕ). new ≤ old) (tale_reads o) (tale_reads o)
 reads_same None = tt
 reads_same (Some t) = omega arith
 
-pub reads_same_more : (o : Option Tale) → Goes (λ (old new : ℕ). new ≤ old + 1) (reads_of o) (reads_of o)
+pub reads_same_more : (o : Option Tale) → Goes (λ (old new : ℕ). new ≤ old + 1) (tale_reads o) (tale_reads o)
 reads_same_more None = tt
 reads_same_more (Some t) = omega arith
 
-pub reads_more : (o t : Option Tale) → Goes (λ old new. new.reads ≤ old.reads + 1) o t → Goes (λ (old new : ℕ). new ≤ old + 1) (reads_of o) (reads_of t)
+pub reads_more : (o t : Option Tale) → Goes (λ old new. new.reads ≤ old.reads + 1) o t → Goes (λ (old new : ℕ). new ≤ old + 1) (tale_reads o) (tale_reads t)
 reads_more None None goes = goes
 reads_more None (Some t) goes = goes
 reads_more (Some o) None goes = goes

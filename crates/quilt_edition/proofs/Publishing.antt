@@ -9,7 +9,7 @@ use Rattle.quilt_world.specs.Stops.{Since}
 use Rattle.quilt_world.specs.Tale.{Tale, Adds, Goes}
 use Rattle.quilt_world.specs.declared.event.Event.TheVariants.{Tore}
 use Rattle.quilt_pool.proofs.Saving.{tries_both, tries_tore}
-use Rattle.quilt_edition.specs.Keeping.{IsKeptBy, told_pages, work_pages, marked_count, Moves}
+use Rattle.quilt_edition.specs.Keeping.{IsKeptBy, told_pages, work_pages, marked_count, KeepsPublished}
 use Rattle.quilt_world.proofs.StopLaws.{since_both, since_weaker}
 use Rattle.quilt_world.proofs.Told.{goes_then, goes_and, goes_weaker, goes_now}
 use Rattle.quilt_journal.specs.Kept.{HasHome, IsIdle, IsSealed, IsCarried, HoldsWork, home_page, published, work}
@@ -18,7 +18,7 @@ use Rattle.quilt_journal.proofs.Clearing.{idle_none}
 use Rattle.quilt_journal.proofs.Leaving.{idle_leaves}
 use Rattle.quilt_pool.specs.declared.frame.Frame.{Frame}
 use Rattle.quilt_pool.specs.Entries.{Entries, frame_at, page_over, bytes_or, has_dirt, held_bytes, is_dirty, is_marked, IsClean, AreBelow}
-use Rattle.quilt_pool.specs.Keeping.{IsWork, Keeps}
+use Rattle.quilt_pool.specs.Keeping.{IsWork, KeepsWork}
 use Rattle.quilt_journal.specs.Changed.{View, is_changed, changed_count}
 use Rattle.quilt_journal.specs.declared.journal.State.{State}
 use Rattle.quilt_journal.specs.declared.journal.State.TheVariants.{Idle, Sealed, Carried}
@@ -63,7 +63,7 @@ module _ (n : ℕ) (es : Entries) (c : List Bool) (header : List ℕ) where
       pub same : work t n d ≡ next_pages n es c header o
       pub clean : IsClean fs (next_pages n es c header o)
 
-    drained : (d : List Bool) → ((i : ℕ) → is_dirty fs i ≡ false) → (o t : Tale) → Keeps n es fs c d o t → AtOld d over_pages o t
+    drained : (d : List Bool) → ((i : ℕ) → is_dirty fs i ≡ false) → (o t : Tale) → KeepsWork n es fs c d o t → AtOld d over_pages o t
     unfolding over_pages
     drained d clean o t keeps =
         let same : work t n d ≡ map (page_over es (work o n c)) (below n) =
@@ -132,8 +132,8 @@ module _ (n : ℕ) (es : Entries) (c : List Bool) (header : List ℕ) where
     -- ---- the same, told or not, where the journal's number of pages has another name
 
     module _ (o t u : Option Tale) (m : ℕ) (is : m ≡ n) where
-      pub goes_drained : (d : List Bool) → ((i : ℕ) → is_dirty fs i ≡ false) → Goes (Keeps n es fs c d) o t → Goes (AtOld d over_pages) o t
-      goes_drained d clean keeps = goes_weaker (Keeps n es fs c d) (AtOld d over_pages) o t keeps (drained d clean)
+      pub goes_drained : (d : List Bool) → ((i : ℕ) → is_dirty fs i ≡ false) → Goes (KeepsWork n es fs c d) o t → Goes (AtOld d over_pages) o t
+      goes_drained d clean keeps = goes_weaker (KeepsWork n es fs c d) (AtOld d over_pages) o t keeps (drained d clean)
 
       pub goes_old_stops : (d : List Bool) (pages : Tale → Pages) → Goes (AtOld d pages) o t
           → Goes (λ a b. Since a b (HasHome m (published a m))) t u → Goes (Publishing n es c header) o u
@@ -226,17 +226,17 @@ goes_held n es c header fs m d o t is some clean at =
     }))
 
 -- what the drain leaves
-pub drain_stops : (n : ℕ) (es fs : Entries) (c d : List Bool) (header : List ℕ) (o t : Option Tale) → Goes (Keeps n es fs c d) o t
+pub drain_stops : (n : ℕ) (es fs : Entries) (c d : List Bool) (header : List ℕ) (o t : Option Tale) → Goes (KeepsWork n es fs c d) o t
     → Goes (Publishing n es c header) o t
-drain_stops n es fs c d header o t keeps = goes_weaker (Keeps n es fs c d) (Publishing n es c header) o t keeps
+drain_stops n es fs c d header o t keeps = goes_weaker (KeepsWork n es fs c d) (Publishing n es c header) o t keeps
     (λ x y k. record {
       since = since_weaker x y (HasHome n (published x n))
           (λ image. HasHome n (published x n) image ⊎ HasHome n (next_pages n es c header x) image) k.since (λ image h. inl h);
     })
 
 -- what the next call needs
-pub need_idle : (n m : ℕ) (es fs : Entries) (c d : List Bool) (o t : Option Tale) → m ≡ n → Goes (Keeps n es fs c d) o t → IfSome t (IsIdle m d)
-need_idle n m es fs c d o t is keeps = goes_now (Keeps n es fs c d) (IsIdle m d) o t keeps (λ x y k. subst (λ j. IsIdle j d y) (sym is) k.is.idle)
+pub need_idle : (n m : ℕ) (es fs : Entries) (c d : List Bool) (o t : Option Tale) → m ≡ n → Goes (KeepsWork n es fs c d) o t → IfSome t (IsIdle m d)
+need_idle n m es fs c d o t is keeps = goes_now (KeepsWork n es fs c d) (IsIdle m d) o t keeps (λ x y k. subst (λ j. IsIdle j d y) (sym is) k.is.idle)
 
 pub need_listed : (k m : ℕ) (d e : List Bool) (R : Tale → Tale → Type 0) (t u : Option Tale) → k ≡ m → e ≡ d → Goes R t u
     → ((a b : Tale) → R a b → IsIdle m d b) → IfSome u (IsIdle k e)
@@ -255,9 +255,9 @@ need_carried k m d e R t u is changed step so =
 
 -- ---- where a publish stops before the gate
 
-pub moves_drained : (n : ℕ) (es fs : Entries) (c d : List Bool) (o t : Option Tale) → Goes (Keeps n es fs c d) o t → Goes (Moves n fs d) o t
+pub moves_drained : (n : ℕ) (es fs : Entries) (c d : List Bool) (o t : Option Tale) → Goes (KeepsWork n es fs c d) o t → Goes (KeepsPublished n fs d) o t
 moves_drained n es fs c d o t keeps =
-    goes_weaker (Keeps n es fs c d) (Moves n fs d) o t keeps (λ x y k. record { is = k.is; home = k.home; tries = k.tries; since = k.since })
+    goes_weaker (KeepsWork n es fs c d) (KeepsPublished n fs d) o t keeps (λ x y k. record { is = k.is; home = k.home; tries = k.tries; since = k.since })
 
 zero_not : (i : ℕ) → 1 ≤ i → i ≡ 0 → ⊥
 zero_not i le e = omega (arith, le, e)
@@ -267,14 +267,14 @@ clean_header n fs pages x range clean =
     record { each = λ i f there none. clean.each i f there none ∙ sym (get_or-set_other pages 0 i x [] (λ e. zero_not i (range.each i f there).0 e)) }
 
 pub moves_torn : (n m : ℕ) (es fs : Entries) (c d e : List Bool) (o t u : Option Tale) → m ≡ n → e ≡ set d 0 false → AreBelow n fs
-    → Goes (Keeps n es fs c d) o t
+    → Goes (KeepsWork n es fs c d) o t
     → Goes (λ a b. IsIdle m (set d 0 false) b × (published b m ≡ published a m) × (work b m (set d 0 false) ≡ set (work a m d) 0 (home_page a 0))) t u
-    → Goes (λ a b. Adds (Tore (3 + m + 0) ∷ []) a b ⊎ Adds [] a b) t u → Goes (λ a b. Since a b (HasHome m (published a m))) t u → Goes (Moves n fs e) o u
+    → Goes (λ a b. Adds (Tore (3 + m + 0) ∷ []) a b ⊎ Adds [] a b) t u → Goes (λ a b. Since a b (HasHome m (published a m))) t u → Goes (KeepsPublished n fs e) o u
 moves_torn n m es fs c d e o t u is changed range keeps kept tore step =
-    subst (λ x. Goes (Moves n fs x) o u) (sym changed)
-    (goes_then (Keeps n es fs c d)
+    subst (λ x. Goes (KeepsPublished n fs x) o u) (sym changed)
+    (goes_then (KeepsWork n es fs c d)
     (λ a b. (IsIdle n (set d 0 false) b × (published b n ≡ published a n) × (work b n (set d 0 false) ≡ set (work a n d) 0 (home_page a 0)))
-    × ((Adds (Tore (3 + n + 0) ∷ []) a b ⊎ Adds [] a b) × Since a b (HasHome n (published a n)))) (Moves n fs (set d 0 false)) o t u keeps
+    × ((Adds (Tore (3 + n + 0) ∷ []) a b ⊎ Adds [] a b) × Since a b (HasHome n (published a n)))) (KeepsPublished n fs (set d 0 false)) o t u keeps
     (subst (λ k. Goes (λ a b. (IsIdle k (set d 0 false) b × (published b k ≡ published a k)
     × (work b k (set d 0 false) ≡ set (work a k d) 0 (home_page a 0)))
     × ((Adds (Tore (3 + k + 0) ∷ []) a b ⊎ Adds [] a b) × Since a b (HasHome k (published a k)))) t u) is
@@ -302,13 +302,13 @@ carried_not : Carried ≡ Idle → ⊥
 carried_not e = cc
 
 by_state : (j k : View) (es fs : Entries) (last : Head) (o t : Option Tale) → j.state ≡ Idle → k.pages ≡ j.pages → IsKeptBy j es last o
-    → (k.state ≡ Idle → Goes (Moves j.pages fs k.changed) o t) → (s : State) → k.state ≡ s → IsKeptBy k fs last t
+    → (k.state ≡ Idle → Goes (KeepsPublished j.pages fs k.changed) o t) → (s : State) → k.state ≡ s → IsKeptBy k fs last t
 by_state j k es fs last o t idle pages kept left Idle e = kept_moves j k es fs last idle pages (e ∙ sym idle) o t kept (left e)
 by_state j k es fs last o t idle pages kept left Sealed e = kept_busy k k fs fs last (λ i. sealed_not (sym e ∙ i)) refl t
 by_state j k es fs last o t idle pages kept left Carried e = kept_busy k k fs fs last (λ i. carried_not (sym e ∙ i)) refl t
 
 pub kept_left : (j k : View) (es fs : Entries) (last : Head) (o t : Option Tale) → j.state ≡ Idle → k.pages ≡ j.pages → IsKeptBy j es last o
-    → (k.state ≡ Idle → Goes (Moves j.pages fs k.changed) o t) → IsKeptBy k fs last t
+    → (k.state ≡ Idle → Goes (KeepsPublished j.pages fs k.changed) o t) → IsKeptBy k fs last t
 kept_left j k es fs last o t idle pages kept left = by_state j k es fs last o t idle pages kept left k.state refl
 
 first_page : (n : ℕ) (es : Entries) (c : List Bool) (header : List ℕ) (o : Tale) → 0 < n → get_or (next_pages n es c header o) 0 [] ≡ header

@@ -3,7 +3,7 @@ use Rattle.std.proofs.Common.{inl, inr, ◌+◌, length, ◌≡◌, ℕ, ◌<◌
 use Rattle.std.specs.Option.{IfSome}
 use Rattle.quilt_world.specs.Disk.{Pages}
 use Rattle.quilt_world.specs.Tale.{Tale, Goes}
-use Rattle.quilt_journal.specs.Beginning.{Gives, Answers, IsNew, Opens}
+use Rattle.quilt_journal.specs.Beginning.{FitsFile, IsBegunOver, IsNewJournal, Opens}
 use Rattle.quilt_journal.specs.Changed.{View}
 use Rattle.quilt_journal.specs.Kept.{IsIdle, IsKept, home_page, published, work}
 use Rattle.quilt_journal.specs.declared.journal.Begun.{Begun}
@@ -38,7 +38,7 @@ none_some f h = cc
 no_entries : (pages : Pages) → IsClean [] pages
 no_entries pages = record { each = λ i f there none. absurd (none_some f there) }
 
-is_begun : (size : ℕ) (j : View) (head : Head) (bytes : List ℕ) (a b : Tale) → IsNew size j → IsKept j.state j.pages j.changed b
+is_begun : (size : ℕ) (j : View) (head : Head) (bytes : List ℕ) (a b : Tale) → IsNewJournal size j → IsKept j.state j.pages j.changed b
     × (published b j.pages ≡ published a j.pages) × (work b j.pages j.changed ≡ work a j.pages j.changed)
     → bytes ≡ get_or (work a j.pages j.changed) 0 [] → IsHeader j.pages bytes head → IsBook j [] head b
 is_begun size j head bytes a b new kept read header =
@@ -53,14 +53,14 @@ is_begun size j head bytes a b new kept read header =
     }
 
 pub kept_begun : (size : ℕ) (found : Begun) (j : View) (es : Entries) (head : Head) (bytes : List ℕ) (a b : Option Tale) → found ≡ begun.Journal j
-    → Gives size found → es ≡ []
+    → FitsFile size found → es ≡ []
     → Goes (λ x y. IsKept j.state j.pages j.changed y × (published y j.pages ≡ published x j.pages) × (work y j.pages j.changed ≡ work x j.pages j.changed)) a b
     → IfSome a (λ x. bytes ≡ get_or (work x j.pages j.changed) 0 []) → IsHeader j.pages bytes head → IsKeptBy j es head b
 kept_begun size found j es head bytes None None is gives empty goes read header = tt
 kept_begun size found j es head bytes None (Some b) is gives empty goes read header = absurd goes
 kept_begun size found j es head bytes (Some a) None is gives empty goes read header = tt
 kept_begun size found j es head bytes (Some a) (Some b) is gives empty goes read header =
-    let new : IsNew size j = subst (Gives size) is gives in
+    let new : IsNewJournal size j = subst (FitsFile size) is gives in
     idle_kept j es head (Some b) new.state (subst (λ l. IsBook j l head b) (sym empty) (is_begun size j head bytes a b new goes read header))
 
 -- ---- the numbers of a header
@@ -100,13 +100,13 @@ abbrev pub IsRead : View → Tale → Tale → Type 0
 IsRead j m n = IsKept j.state j.pages j.changed n × (published n j.pages ≡ published m j.pages) × (work n j.pages j.changed ≡ work m j.pages j.changed)
 
 -- the header's page of the file that was opened
-page_found : (size : ℕ) (j : View) (bytes : List ℕ) (o m : Tale) → IsNew size j → Opens j o m → bytes ≡ get_or (work m j.pages j.changed) 0 []
+page_found : (size : ℕ) (j : View) (bytes : List ℕ) (o m : Tale) → IsNewJournal size j → Opens j o m → bytes ≡ get_or (work m j.pages j.changed) 0 []
     → bytes ≡ header_page j.pages o.seen
 page_found size j bytes o m new opens read =
     let works : work m j.pages j.changed ≡ published m j.pages = ap (λ d. work m j.pages d) new.changed ∙ (idle_none j.pages j.changed m opens.idle).1 in
     read ∙ ap (λ (p : Pages). get_or p 0 []) (works ∙ opens.same)
 
-pub opened : (size : ℕ) (j : View) (head : Head) (bytes : List ℕ) (o m n : Tale) → IsNew size j → Opens j o m
+pub opened : (size : ℕ) (j : View) (head : Head) (bytes : List ℕ) (o m n : Tale) → IsNewJournal size j → Opens j o m
     → bytes ≡ get_or (work m j.pages j.changed) 0 [] → IsRead j m n → IsHeader j.pages bytes head → Opened j.pages head o n
 opened size j head bytes o m n new opens read kept header = record {
   file = opens.file;
@@ -114,7 +114,7 @@ opened size j head bytes o m n new opens read kept header = record {
   header = subst (λ b. IsHeader j.pages b head) (page_found size j bytes o m new opens read) header;
 }
 
-pub no_header : (size : ℕ) (j : View) (bytes : List ℕ) (o m n : Tale) → IsNew size j → Opens j o m → bytes ≡ get_or (work m j.pages j.changed) 0 []
+pub no_header : (size : ℕ) (j : View) (bytes : List ℕ) (o m n : Tale) → IsNewJournal size j → Opens j o m → bytes ≡ get_or (work m j.pages j.changed) 0 []
     → ((h : Head) → HeadFits h → IsHeader j.pages bytes h → ⊥) → HasNoHeader o n
 no_header size j bytes o m n new opens read none = record {
   pages = j.pages;
@@ -134,18 +134,18 @@ goes_found P R S T (Some o) (Some m) (Some n) r s p step = step o m n r p s
 
 -- ---- the answers
 
-pub goes_no_map : (found : Begun) (a b : Option Tale) → found ≡ begun.NotMap → Goes (Answers found) a b → Goes IsNoMapFile a b
+pub goes_no_map : (found : Begun) (a b : Option Tale) → found ≡ begun.NotMap → Goes (IsBegunOver found) a b → Goes IsNoMapFile a b
 goes_no_map found a b is goes =
-    goes_weaker (Answers begun.NotMap) IsNoMapFile a b (subst (λ f. Goes (Answers f) a b) is goes) (λ t u none. record { none = none })
+    goes_weaker (IsBegunOver begun.NotMap) IsNoMapFile a b (subst (λ f. Goes (IsBegunOver f) a b) is goes) (λ t u none. record { none = none })
 
-module _ (size : ℕ) (found : Begun) (j : View) (bytes : List ℕ) (a b c : Option Tale) (is : found ≡ begun.Journal j) (gives : Gives size found)
-    (answers : Goes (Answers found) a b)
+module _ (size : ℕ) (found : Begun) (j : View) (bytes : List ℕ) (a b c : Option Tale) (is : found ≡ begun.Journal j) (gives : FitsFile size found)
+    (answers : Goes (IsBegunOver found) a b)
     (kept : Goes (IsRead j) b c) (read : IfSome b (λ t. bytes ≡ get_or (work t j.pages j.changed) 0 [])) where
-  new : IsNew size j
-  new = subst (Gives size) is gives
+  new : IsNewJournal size j
+  new = subst (FitsFile size) is gives
 
   opens : Goes (Opens j) a b
-  opens = subst (λ f. Goes (Answers f) a b) is answers
+  opens = subst (λ f. Goes (IsBegunOver f) a b) is answers
 
   pub goes_opened : (head : Head) → IsHeader j.pages bytes head → Goes (Opened j.pages head) a c
   goes_opened head header = goes_found (λ t. bytes ≡ get_or (work t j.pages j.changed) 0 []) (Opens j) (IsRead j) (Opened j.pages head) a b c opens kept read

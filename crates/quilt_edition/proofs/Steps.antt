@@ -21,8 +21,8 @@ use Rattle.quilt_journal.proofs.Homes.{map_same, home_shut, published_is, publis
 use Rattle.quilt_node.specs.declared.head.Head.{Head}
 use Rattle.quilt_node.specs.Pages.{IsHeader}
 use Rattle.quilt_pool.specs.Entries.{Entries, frame_at, page_over}
-use Rattle.quilt_pool.specs.Keeping.{IsWork, Keeps, Changes}
-use Rattle.quilt_edition.specs.Keeping.{IsBook, IsKeptBy, WhileIdle, told_pages, told_in, work_pages, reads_of, IsLater, Moves}
+use Rattle.quilt_pool.specs.Keeping.{IsWork, KeepsWork, Changes}
+use Rattle.quilt_edition.specs.Keeping.{IsBook, IsKeptBy, WhileIdle, told_pages, told_in, work_pages, tale_reads, IsLater, KeepsPublished}
 
 -- what the law of a disk says of its tale
 abbrev pub IsLawful : ℕ → Tale → Type 0
@@ -56,14 +56,14 @@ seen_home n c t law idle =
 
 -- ---- one call
 
-pub of_keeps : (n : ℕ) (es fs : Entries) (c d : List Bool) (o t : Tale) → Keeps n es fs c d o t → Moves n fs d o t
+pub of_keeps : (n : ℕ) (es fs : Entries) (c d : List Bool) (o t : Tale) → KeepsWork n es fs c d o t → KeepsPublished n fs d o t
 of_keeps n es fs c d o t k = record { is = k.is; home = k.home; tries = k.tries; since = k.since }
 
-pub of_changes : (n page : ℕ) (x : List ℕ) (es fs : Entries) (c d : List Bool) (o t : Tale) → Changes n page x es fs c d o t → Moves n fs d o t
+pub of_changes : (n page : ℕ) (x : List ℕ) (es fs : Entries) (c d : List Bool) (o t : Tale) → Changes n page x es fs c d o t → KeepsPublished n fs d o t
 of_changes n page x es fs c d o t k = record { is = k.is; home = k.home; tries = k.tries; since = k.since }
 
 module _ (j k : View) (es fs : Entries) (last : Head) (idle : j.state ≡ Idle) (pages : k.pages ≡ j.pages) (state : k.state ≡ j.state) where
-  is_later : (o t : Tale) → IsConsistent o → IsConsistent t → IsBook j es last o → Moves j.pages fs k.changed o t → IsLater j.pages o t
+  is_later : (o t : Tale) → IsConsistent o → IsConsistent t → IsBook j es last o → KeepsPublished j.pages fs k.changed o t → IsLater j.pages o t
   is_later o t lo lt book moves =
       let before = seen_home j.pages j.changed o lo book.work.idle in
       record {
@@ -72,7 +72,7 @@ module _ (j k : View) (es fs : Entries) (last : Head) (idle : j.state ≡ Idle) 
         stays = λ leaves. subst (λ (h : Pages). Since o t (HasHome j.pages h)) (sym before) moves.since;
       }
 
-  is_book : (o t : Tale) → IsBook j es last o → Moves j.pages fs k.changed o t → IsBook k fs last t
+  is_book : (o t : Tale) → IsBook j es last o → KeepsPublished j.pages fs k.changed o t → IsBook k fs last t
   is_book o t book moves =
       let some : 0 < j.pages = omega (arith, book.work.idle.file.least) in
       let header : home_page t 0 ≡ home_page o 0 =
@@ -83,19 +83,19 @@ module _ (j k : View) (es fs : Entries) (last : Head) (idle : j.state ≡ Idle) 
       }
 
   pub later_moves : (a b : ℕ) (o t : Option Tale) → IfSome o (IsLawful a) → IfSome t (IsLawful b) → IsKeptBy j es last o
-      → Goes (Moves j.pages fs k.changed) o t → Goes (IsLater j.pages) o t
+      → Goes (KeepsPublished j.pages fs k.changed) o t → Goes (IsLater j.pages) o t
   later_moves a b None None lo lt kept moves = tt
   later_moves a b None (Some t) lo lt kept moves = moves
   later_moves a b (Some o) None lo lt kept moves = moves
   later_moves a b (Some o) (Some t) lo lt kept moves = is_later o t lo.0 lt.0 (kept_idle j es last (Some o) idle kept) moves
 
-  pub kept_moves : (o t : Option Tale) → IsKeptBy j es last o → Goes (Moves j.pages fs k.changed) o t → IsKeptBy k fs last t
+  pub kept_moves : (o t : Option Tale) → IsKeptBy j es last o → Goes (KeepsPublished j.pages fs k.changed) o t → IsKeptBy k fs last t
   kept_moves None None kept moves = tt
   kept_moves None (Some t) kept moves = absurd moves
   kept_moves (Some o) None kept moves = tt
   kept_moves (Some o) (Some t) kept moves = idle_kept k fs last (Some t) (state ∙ idle) (is_book o t (kept_idle j es last (Some o) idle kept) moves)
 
-  pub told_same : (o t : Option Tale) → Goes (Keeps j.pages es fs j.changed k.changed) o t → told_pages k fs t ≡ told_pages j es o
+  pub told_same : (o t : Option Tale) → Goes (KeepsWork j.pages es fs j.changed k.changed) o t → told_pages k fs t ≡ told_pages j es o
   unfolding work_pages
   told_same None None keeps = refl
   told_same None (Some t) keeps = absurd keeps
@@ -160,7 +160,7 @@ key_found k (e ∷ es) h = elim (cases_Bool (nat_eq k e.0)) [
   | inr f ↦ rw f (key_found k es (key_at k e.0 (list_any (λ p. nat_eq p k) (keys_of es)) h f))
 ]
 
-pub tells_reads : (o t : Option Tale) → Goes (λ old new. new.reads ≤ old.reads) o t → Goes (λ (old new : ℕ). new ≤ old) (reads_of o) (reads_of t)
+pub tells_reads : (o t : Option Tale) → Goes (λ old new. new.reads ≤ old.reads) o t → Goes (λ (old new : ℕ). new ≤ old) (tale_reads o) (tale_reads t)
 tells_reads None None goes = goes
 tells_reads None (Some t) goes = goes
 tells_reads (Some o) None goes = goes

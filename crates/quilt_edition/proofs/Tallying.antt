@@ -7,7 +7,7 @@ use Rattle.std.proofs.lemmas.Bool.{cases_Bool, cases_eq, cases_lt, le-ltb}
 use Rattle.quilt_journal.specs.Changed.{has_bit}
 use Rattle.quilt_store.specs.Store.{count_free, FreesOnly}
 use Rattle.quilt_edition.specs.Keeping.{is_free, is_left_out}
-use Rattle.quilt_edition.specs.Tallies.{IsTally}
+use Rattle.quilt_edition.specs.Tallies.{IsFreeTally}
 use Rattle.quilt_edition.specs.declared.free.Tally.{Tally}
 use Rattle.quilt_edition.proofs.Counts.{count_same, count_none}
 
@@ -46,16 +46,16 @@ module _ (n : ℕ) (old new : ℕ → Bool) (page : ℕ) (low : 1 ≤ page) (hig
     | inr ne ↦ only.others i ne ∙ before i (omega (arith, lt, ne))
   ]
 
-  pub tally_taken : (t u : Tally) → IsTally n old t → old page ≡ true → FreesOnly page false old new → ((i : ℕ) → i < page → old i ≡ false)
-      → u.count ≡ t.count - 1 → u.first ≡ page + 1 → IsTally n new u
+  pub tally_taken : (t u : Tally) → IsFreeTally n old t → old page ≡ true → FreesOnly page false old new → ((i : ℕ) → i < page → old i ≡ false)
+      → u.count ≡ t.count - 1 → u.first ≡ page + 1 → IsFreeTally n new u
   tally_taken t u tally is only before count first = record {
     least = omega (arith, first);
     counted = let one = count_taken is only in omega (arith, one, tally.counted, count);
     before = λ i lt. before_taken only before i (omega (arith, lt, first));
   }
 
-  pub tally_given : (t u : Tally) → IsTally n old t → old page ≡ false → FreesOnly page true old new → u.count ≡ t.count + 1 → 1 ≤ u.first
-      → u.first ≤ page → u.first ≤ t.first → IsTally n new u
+  pub tally_given : (t u : Tally) → IsFreeTally n old t → old page ≡ false → FreesOnly page true old new → u.count ≡ t.count + 1 → 1 ≤ u.first
+      → u.first ≤ page → u.first ≤ t.first → IsFreeTally n new u
   tally_given t u tally was only count some here there = record {
     least = some;
     counted = let one = count_given was only in omega (arith, one, tally.counted, count);
@@ -64,21 +64,21 @@ module _ (n : ℕ) (old new : ℕ → Bool) (page : ℕ) (low : 1 ≤ page) (hig
 
 -- ---- the same pages
 
-pub tally_same : (n : ℕ) (f h : ℕ → Bool) (t : Tally) → ((i : ℕ) → h i ≡ f i) → IsTally n f t → IsTally n h t
+pub tally_same : (n : ℕ) (f h : ℕ → Bool) (t : Tally) → ((i : ℕ) → h i ≡ f i) → IsFreeTally n f t → IsFreeTally n h t
 tally_same n f h t same tally = record {
   least = tally.least;
   counted = tally.counted ∙ sym (count_same h f same (range_with_len 1 (n - 1)));
   before = λ i lt. same i ∙ tally.before i lt;
 }
 
-pub tally_at : (m n : ℕ) (bits : List ℕ) (t : Tally) → m ≡ n → IsTally n (is_free n bits) t → IsTally m (is_free m bits) t
-tally_at m n bits t same tally = subst (λ k. IsTally k (is_free k bits) t) (sym same) tally
+pub tally_at : (m n : ℕ) (bits : List ℕ) (t : Tally) → m ≡ n → IsFreeTally n (is_free n bits) t → IsFreeTally m (is_free m bits) t
+tally_at m n bits t same tally = subst (λ k. IsFreeTally k (is_free k bits) t) (sym same) tally
 
-pub left_tally_at : (m n : ℕ) (bits : List ℕ) (t : Tally) → m ≡ n → IsTally n (is_left_out n bits) t → IsTally m (is_left_out m bits) t
-left_tally_at m n bits t same tally = subst (λ k. IsTally k (is_left_out k bits) t) (sym same) tally
+pub left_tally_at : (m n : ℕ) (bits : List ℕ) (t : Tally) → m ≡ n → IsFreeTally n (is_left_out n bits) t → IsFreeTally m (is_left_out m bits) t
+left_tally_at m n bits t same tally = subst (λ k. IsFreeTally k (is_left_out k bits) t) (sym same) tally
 
 -- no page is free
-pub tally_none : (n : ℕ) (f : ℕ → Bool) (t : Tally) → t.count ≡ 0 → t.first ≡ 1 → ((i : ℕ) → f i ≡ false) → IsTally n f t
+pub tally_none : (n : ℕ) (f : ℕ → Bool) (t : Tally) → t.count ≡ 0 → t.first ≡ 1 → ((i : ℕ) → f i ≡ false) → IsFreeTally n f t
 tally_none n f t count first none = record {
   least = omega (arith, first);
   counted = count ∙ sym (count_none f 1 (n - 1) (λ i le lt. none i));
@@ -86,7 +86,7 @@ tally_none n f t count first none = record {
 }
 
 -- the pages were counted
-pub tally_counted : (n : ℕ) (f : ℕ → Bool) (t : Tally) → t.count ≡ count_free f n → t.first ≡ 1 → f 0 ≡ false → IsTally n f t
+pub tally_counted : (n : ℕ) (f : ℕ → Bool) (t : Tally) → t.count ≡ count_free f n → t.first ≡ 1 → f 0 ≡ false → IsFreeTally n f t
 tally_counted n f t count first none = record {
   least = omega (arith, first);
   counted = count;

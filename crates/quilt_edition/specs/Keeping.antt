@@ -50,9 +50,9 @@ told_pages j es (Some t) = told_in j.state (work_pages j es t)
 told_pages j es None = None
 
 -- how many pages a world has read, where it tells
-abbrev pub reads_of : Option Tale → Option ℕ
-reads_of (Some t) = Some t.reads
-reads_of None = None
+abbrev pub tale_reads : Option Tale → Option ℕ
+tale_reads (Some t) = Some t.reads
+tale_reads None = None
 
 -- which pages are free
 abbrev pub is_free : ℕ → List ℕ → ℕ → Bool
@@ -75,7 +75,7 @@ pub record IsLater (n : ℕ) (old new : Tale) : Type 0 where
   pub stays : LeavesNow old (HasHome n (home old.seen n)) → Since old new (HasHome n (home old.seen n))
 
 -- The journal and the entries stand as they have to, the published pages are the same, and a stop leaves them at each event.
-pub record Moves (n : ℕ) (es : Entries) (changed : List Bool) (old new : Tale) : Type 0 where
+pub record KeepsPublished (n : ℕ) (es : Entries) (changed : List Bool) (old new : Tale) : Type 0 where
   pub is : IsWork n es changed new
   pub home : published new n ≡ published old n
   pub tries : Tries old new

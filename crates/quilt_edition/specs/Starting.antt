@@ -43,10 +43,10 @@ StopCause (stops.Damaged page) before now old new = (page ≡ 0) × Goes HasNoHe
 
 module _ {W : Type 0} {D : disk.Ghosts W} where
   -- the world that each answer holds
-  abbrev pub world_in : Started W D → W
-  world_in (Ready book) = book.world
-  world_in (NotMap world) = world
-  world_in (Stopped world stop) = world
+  abbrev pub started_world : Started W D → W
+  started_world (Ready book) = book.world
+  started_world (NotMap world) = world
+  started_world (Stopped world stop) = world
 
   -- when each answer comes, by the faults and the tales before and after
   abbrev pub AnswersBy : ℕ → ℕ → Option Tale → Option Tale → Started W D → Type 0

@@ -3,7 +3,7 @@ ghost use Rattle.std.specs.Prelude.{◌≡◌, ◌+◌, ◌*◌, ◌≤◌, leng
 ghost use Rattle.quilt_node.specs.Pages.{IsHead};
 ghost use Rattle.quilt_pool.specs.Entries.{AreBelow};
 ghost use Rattle.quilt_edition.specs.Keeping.{IsKeptBy, is_free, is_left_out};
-ghost use Rattle.quilt_edition.specs.Tallies.{IsTally, IsTally-prop};
+ghost use Rattle.quilt_edition.specs.Tallies.{IsFreeTally, IsTally-prop};
 ghost use Rattle.quilt_edition.specs.Props.{IsKeptBy-prop, AreBelow-prop, IsHead-prop};
 
 mod calls;
@@ -37,6 +37,6 @@ pub struct Book<W: Disk> {
     ghost next: { IsHead journal.pages work } by { IsHead-prop journal.pages work },
     ghost edition: { work.edition ≡ last.edition },
     ghost level: { work.level ≡ last.level },
-    ghost counted: { IsTally journal.pages (is_free journal.pages free) tally } by { IsTally-prop journal.pages (is_free journal.pages free) tally },
-    ghost last_counted: { IsTally journal.pages (is_left_out journal.pages used) last_tally } by { IsTally-prop journal.pages (is_left_out journal.pages used) last_tally },
+    ghost counted: { IsFreeTally journal.pages (is_free journal.pages free) tally } by { IsTally-prop journal.pages (is_free journal.pages free) tally },
+    ghost last_counted: { IsFreeTally journal.pages (is_left_out journal.pages used) last_tally } by { IsTally-prop journal.pages (is_left_out journal.pages used) last_tally },
 }

@@ -3,7 +3,7 @@ ghost use Rattle.std.specs.List.{range_with_len};
 ghost use Rattle.quilt_store.specs.Store.{count_free, FreesOnly};
 ghost use Rattle.quilt_journal.specs.Changed.{has_bit};
 ghost use Rattle.quilt_edition.specs.Keeping.{is_free};
-ghost use Rattle.quilt_edition.specs.Tallies.{IsTally};
+ghost use Rattle.quilt_edition.specs.Tallies.{IsFreeTally};
 
 use quilt_journal::{is_listed, list_page, next_listed, unlist_page};
 
@@ -80,11 +80,11 @@ fn first_free(free: &[u8; 3750], pages: u32, from: u32) -> u32
 /// Takes the first free page.
 pub fn take_free(free: &mut [u8; 3750], tally: &mut Tally, pages: u32) -> u32
     requires range { (1 ≤ pages) × (pages ≤ 30000) }
-    requires tally { IsTally pages (is_free pages free.old) tally.old }
+    requires tally { IsFreeTally pages (is_free pages free.old) tally.old }
     requires some { 0 < count_free (is_free pages free.old) pages }
     ensures page { is_free pages free.old result ≡ true }
     ensures free { FreesOnly result false (is_free pages free.old) (is_free pages free.new) }
-    ensures tally { IsTally pages (is_free pages free.new) tally.new }
+    ensures tally { IsFreeTally pages (is_free pages free.new) tally.new }
 {
     let page = first_free(free, pages, tally.first);
     unlist_page(free, page);
@@ -106,10 +106,10 @@ fn lower_of(page: u32, other: u32) -> u32
 /// Makes a page free that is not.
 pub fn give_free(free: &mut [u8; 3750], tally: &mut Tally, pages: u32, page: u32)
     requires range { (1 ≤ page) × (page < pages) × (pages ≤ 30000) }
-    requires tally { IsTally pages (is_free pages free.old) tally.old }
+    requires tally { IsFreeTally pages (is_free pages free.old) tally.old }
     requires taken { is_free pages free.old page ≡ false }
     ensures free { FreesOnly page true (is_free pages free.old) (is_free pages free.new) }
-    ensures tally { IsTally pages (is_free pages free.new) tally.new }
+    ensures tally { IsFreeTally pages (is_free pages free.new) tally.new }
 {
     list_page(free, page);
     tally.count += 1;

@@ -7,7 +7,7 @@ mod free;
 mod laws;
 mod pages;
 mod publish;
-mod reverting;
+mod revert;
 mod start;
 
 pub use book::Book;

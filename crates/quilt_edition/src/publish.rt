@@ -7,7 +7,7 @@ ghost use Rattle.quilt_journal.specs.declared.journal.State.TheVariants.{Idle};
 ghost use Rattle.quilt_journal.specs.Writing.{Writing};
 ghost use Rattle.quilt_pool.specs.Entries.{AreBelow, is_dirty};
 ghost use Rattle.quilt_pool.specs.Keeping.{IsWork};
-ghost use Rattle.quilt_edition.specs.Keeping.{Moves, marked_count};
+ghost use Rattle.quilt_edition.specs.Keeping.{KeepsPublished, marked_count};
 ghost use Rattle.quilt_edition.specs.Publishing.{Publishing, IsPublished, held_under};
 
 use quilt_journal::{Held, Journal};
@@ -51,7 +51,7 @@ pub fn publish_pages<W: Disk>(
     ensures below { AreBelow journal.old.pages (entries_of pool.new) }
     ensures bits { length journal.new.changed ≡ journal.new.pages }
     ensures left { OnErr result (journal.new.state ≡ Idle
-        → Goes (Moves journal.old.pages (entries_of pool.new) journal.new.changed) (W.told world.old) (W.told world.new)) }
+        → Goes (KeepsPublished journal.old.pages (entries_of pool.new) journal.new.changed) (W.told world.old) (W.told world.new)) }
     ensures writes { Goes (Writing (2 * marked_count journal.old.pages (entries_of pool.old) journal.old.changed + 5)) (W.told world.old) (W.told world.new) }
     ensures state { OnOk result (journal.new.state ≡ Idle) }
     ensures changed { OnOk result (journal.new.changed ≡ replicate journal.old.pages false) }

@@ -22,24 +22,24 @@ pub enum Started<W: Disk> {
 }
 
 impl<W: Disk> Book<W> {
-    ghost use Rattle.quilt_edition.specs.Starting.{world_in, AnswersBy, Fresh, WantsFirst};
+    ghost use Rattle.quilt_edition.specs.Starting.{started_world, AnswersBy, Fresh, WantsFirst};
 
     /// Opens the book of a file, over a pool of 8 to 4096 pages, whose memory is taken before the device is called. An open gate is carried
     /// home before the header is read.
     pub fn begin(alloc: Global, mut world: W, pool: u32) -> Started<W>
         requires pool { (8 ≤ pool) × (pool ≤ 4096) }
         requires whole { IfSome (W.told world) NoneFree }
-        ensures faults { W.faults world ≤ W.faults (world_in result) }
-        ensures door { W.door (world_in result) ≡ W.door world }
-        ensures size { W.size (world_in result) ≡ W.size world }
+        ensures faults { W.faults world ≤ W.faults (started_world result) }
+        ensures door { W.door (started_world result) ≡ W.door world }
+        ensures size { W.size (started_world result) ≡ W.size world }
         ensures fresh { Fresh pool result }
-        ensures cause { AnswersBy (W.faults world) (W.faults (world_in result)) (W.told world) (W.told (world_in result)) result }
+        ensures cause { AnswersBy (W.faults world) (W.faults (started_world result)) (W.told world) (W.told (started_world result)) result }
 
         // So no fault of the device is told as want of memory.
         ensures memory { WantsFirst world result }
 
         // At each event a stop leaves the home pages that the disk had.
-        ensures crash { Goes Redoes (W.told world) (W.told (world_in result)) }
+        ensures crash { Goes Redoes (W.told world) (W.told (started_world result)) }
     {
         let Ok(empty) = Pool::new(alloc, pool) else {
             return Started::Stopped(world, Stop::Memory);

@@ -7,7 +7,7 @@ use Rattle.quilt_node.specs.Nodes.{keys_of}
 use Rattle.quilt_spell.specs.Apart.{Apart}
 
 -- the keys of both lists ascend
-pub record AreInOrder (edits : Edits) : Type 0 where
+pub record EditsAscend (edits : Edits) : Type 0 where
   pub remove : is_ascending (keys_of edits.remove) ≡ true
   pub add : is_ascending (keys_of edits.add) ≡ true
 

@@ -6,7 +6,7 @@ ghost use Rattle.quilt_record.specs.declared.record.Record.{Record as AnyRecord}
 ghost use Rattle.quilt_record.specs.Records.{key_cmp};
 ghost use Rattle.quilt_node.specs.Pages.{is_ascending};
 ghost use Rattle.quilt_node.specs.Nodes.{keys_of};
-ghost use Rattle.quilt_edits.specs.Edits.{AreInOrder, CanBeEdits};
+ghost use Rattle.quilt_edits.specs.Edits.{EditsAscend, CanBeEdits};
 
 use quilt_record::{Edits, Record, RecordList};
 use quilt_types::Stop;
@@ -20,7 +20,7 @@ const DAMAGED: Stop = Stop::Damaged { page: 0 };
 pub fn edits_of(alloc: Global, mut remove: Vec<Record>, mut add: Vec<Record>) -> Result<Edits, Stop>
     ensures remove { IfOk result (λ e. IsPermutation remove.items e.remove) }
     ensures add { IfOk result (λ e. IsPermutation add.items e.add) }
-    ensures order { IfOk result AreInOrder }
+    ensures order { IfOk result EditsAscend }
     ensures memory { IfErr result (λ e. CanBeEdits remove.items add.items → e ≡ Stop.Memory) }
     ensures no_fault { IsErrOf result Device → ⊥ }
 {

@@ -5,7 +5,7 @@ use Rattle.std.proofs.lemmas.List.{append-nil, length-append, length-take, lengt
 use Rattle.std.proofs.Math.Seq.{take-append_seam, drop-append_seam, drop-append-add}
 use Rattle.std.proofs.lemmas.List.FromFn.{get_or-map-range_with_len, length-map-range_with_len}
 use Rattle.quilt_types.specs.Plane.{below}
-use Rattle.quilt_host.specs.Bytes.{padded, overlaid, page_at, pages_of}
+use Rattle.quilt_host.specs.Bytes.{padded, patched, page_at, file_pages}
 
 -- ---- bytes at an offset
 
@@ -19,24 +19,24 @@ padded_within f n within =
     let none : n - length f ≡ 0 = omega arith in
     ap (λ z. take n f ++ replicate z 0) none ∙ append-nil (take n f)
 
-pub length-overlaid : (f : List ℕ) (at : ℕ) (x : List ℕ) → length (overlaid f at x) ≡ at + length x + (length f - (at + length x))
-unfolding overlaid
+pub length-overlaid : (f : List ℕ) (at : ℕ) (x : List ℕ) → length (patched f at x) ≡ at + length x + (length f - (at + length x))
+unfolding patched
 length-overlaid f at x =
     omega (arith, length-append (padded f at ++ x) (drop (at + length x) f), length-append (padded f at) x, length-padded f at, length-drop (at + length x) f)
 
-pub length-overlaid_least : (f : List ℕ) (at : ℕ) (x : List ℕ) → length f ≤ length (overlaid f at x)
+pub length-overlaid_least : (f : List ℕ) (at : ℕ) (x : List ℕ) → length f ≤ length (patched f at x)
 length-overlaid_least f at x = omega (arith, length-overlaid f at x)
 
 -- the first bytes, up to the end of those that were written
-overlaid_front : (f : List ℕ) (at : ℕ) (x : List ℕ) (n : ℕ) → at + length x ≡ n → take n (overlaid f at x) ≡ padded f at ++ x
-unfolding overlaid
+overlaid_front : (f : List ℕ) (at : ℕ) (x : List ℕ) (n : ℕ) → at + length x ≡ n → take n (patched f at x) ≡ padded f at ++ x
+unfolding patched
 overlaid_front f at x n is =
     let len : length (padded f at ++ x) ≡ n = omega (arith, length-append (padded f at) x, length-padded f at) in
     ap (λ m. take m ((padded f at ++ x) ++ drop (at + length x) f)) (sym len) ∙ take-append_seam (padded f at ++ x) (drop (at + length x) f)
 
 -- the bytes behind those that were written
-overlaid_back : (f : List ℕ) (at : ℕ) (x : List ℕ) (n : ℕ) → at + length x ≤ n → drop n (overlaid f at x) ≡ drop n f
-unfolding overlaid
+overlaid_back : (f : List ℕ) (at : ℕ) (x : List ℕ) (n : ℕ) → at + length x ≤ n → drop n (patched f at x) ≡ drop n f
+unfolding patched
 overlaid_back f at x n past =
     let len : length (padded f at ++ x) ≡ at + length x = omega (arith, length-append (padded f at) x, length-padded f at) in
     let rest = drop (at + length x) f in
@@ -47,10 +47,10 @@ overlaid_back f at x n past =
 
 -- bytes behind bytes are written as one
 pub overlaid-overlaid : (f : List ℕ) (at : ℕ) (x : List ℕ) (next : ℕ) (y : List ℕ) → at + length x ≡ next
-    → overlaid (overlaid f at x) next y ≡ overlaid f at (x ++ y)
-unfolding overlaid
+    → patched (patched f at x) next y ≡ patched f at (x ++ y)
+unfolding patched
 overlaid-overlaid f at x next y is =
-    let g = overlaid f at x in
+    let g = patched f at x in
     let within : next ≤ length g = omega (arith, length-overlaid f at x) in
     let front : padded g next ≡ padded f at ++ x = padded_within g next within ∙ overlaid_front f at x next is in
     let back : drop (next + length y) g ≡ drop (next + length y) f = overlaid_back f at x (next + length y) (omega arith) in
@@ -66,8 +66,8 @@ front_piece : (n b : ℕ) (a rest : List ℕ) → b + n ≤ length a → take n 
 front_piece n b a rest within =
     ap (take n) (drop-append-le b a rest (omega arith)) ∙ take-append-le n (drop b a) rest (omega (arith, length-drop b a))
 
-piece_before : (n : ℕ) (f : List ℕ) (at b : ℕ) (x : List ℕ) → at ≤ length f → b + n ≤ at → take n (drop b (overlaid f at x)) ≡ take n (drop b f)
-unfolding overlaid
+piece_before : (n : ℕ) (f : List ℕ) (at b : ℕ) (x : List ℕ) → at ≤ length f → b + n ≤ at → take n (drop b (patched f at x)) ≡ take n (drop b f)
+unfolding patched
 piece_before n f at b x within before =
     let a = take at f in
     let len : length a ≡ at = length-take-le at f within in
@@ -77,8 +77,8 @@ piece_before n f at b x within before =
     ∙ sym (front_piece n b a (drop at f) (omega arith))
     ∙ ap (λ l. take n (drop b l)) (take-append-drop at f)
 
-piece_of : (n : ℕ) (f : List ℕ) (at : ℕ) (x : List ℕ) → length x ≡ n → take n (drop at (overlaid f at x)) ≡ x
-unfolding overlaid
+piece_of : (n : ℕ) (f : List ℕ) (at : ℕ) (x : List ℕ) → length x ≡ n → take n (drop at (patched f at x)) ≡ x
+unfolding patched
 piece_of n f at x is =
     let p = padded f at in
     let rest = drop (at + length x) f in
@@ -90,16 +90,16 @@ piece_of n f at x is =
 
 -- ---- pages
 
-pub length-pages_of : (f : List ℕ) (n : ℕ) → length (pages_of f n) ≡ n
-unfolding pages_of
+pub length-pages_of : (f : List ℕ) (n : ℕ) → length (file_pages f n) ≡ n
+unfolding file_pages
 length-pages_of f n = length-map-range_with_len (page_at f) 0 n
 
-pub get-pages_of : (f : List ℕ) (n i : ℕ) → i < n → get_or (pages_of f n) i [] ≡ page_at f i
-unfolding pages_of
+pub get-pages_of : (f : List ℕ) (n i : ℕ) → i < n → get_or (file_pages f n) i [] ≡ page_at f i
+unfolding file_pages
 get-pages_of f n i within = get_or-map-range_with_len (page_at f) 0 n i i [] within (omega arith)
 
 -- the other pages stay
-pub page-overlaid_other : (f : List ℕ) (i j : ℕ) (x : List ℕ) → i ≢ j → length x ≤ 4096 → i * 4096 ≤ length f → page_at (overlaid f (i * 4096) x) j ≡ page_at f j
+pub page-overlaid_other : (f : List ℕ) (i j : ℕ) (x : List ℕ) → i ≢ j → length x ≤ 4096 → i * 4096 ≤ length f → page_at (patched f (i * 4096) x) j ≡ page_at f j
 unfolding page_at
 page-overlaid_other f i j x apart few within = elim (cases_lt i j) [
   | inl behind ↦ ap (λ l. take 4096 l) (overlaid_back f (i * 4096) x (j * 4096) (omega arith))
@@ -107,29 +107,29 @@ page-overlaid_other f i j x apart few within = elim (cases_lt i j) [
 ]
 
 -- a page that is written whole reads so
-pub page-overlaid_same : (f : List ℕ) (i : ℕ) (x : List ℕ) → length x ≡ 4096 → page_at (overlaid f (i * 4096) x) i ≡ x
+pub page-overlaid_same : (f : List ℕ) (i : ℕ) (x : List ℕ) → length x ≡ 4096 → page_at (patched f (i * 4096) x) i ≡ x
 unfolding page_at
 page-overlaid_same f i x is = piece_of 4096 f (i * 4096) x is
 
 -- ---- zeros
 
-pub overlaid_end : (f : List ℕ) (at : ℕ) (x : List ℕ) → length f ≡ at → overlaid f at x ≡ f ++ x
-unfolding overlaid
+pub overlaid_end : (f : List ℕ) (at : ℕ) (x : List ℕ) → length f ≡ at → patched f at x ≡ f ++ x
+unfolding patched
 overlaid_end f at x is =
     ap (λ p. p ++ x ++ drop (at + length x) f) (padded_within f at (omega arith) ∙ take_all at f (omega arith))
     ∙ ap (λ d. f ++ x ++ d) (drop_all (at + length x) f (omega arith))
     ∙ append-nil (f ++ x)
 
-pub zeros_more : (i n : ℕ) → i + 1 ≡ n → overlaid (replicate (i * 4096) 0) (i * 4096) (replicate 4096 0) ≡ replicate (n * 4096) 0
+pub zeros_more : (i n : ℕ) → i + 1 ≡ n → patched (replicate (i * 4096) 0) (i * 4096) (replicate 4096 0) ≡ replicate (n * 4096) 0
 zeros_more i n is = more 4096 (i * 4096) (n * 4096) (omega arith)
   where
-    more : (size at end : ℕ) → at + size ≡ end → overlaid (replicate at 0) at (replicate size 0) ≡ replicate end 0
+    more : (size at end : ℕ) → at + size ≡ end → patched (replicate at 0) at (replicate size 0) ≡ replicate end 0
     more size at end total =
         overlaid_end (replicate at 0) at (replicate size 0) (length-replicate at 0)
         ∙ replicate-append-replicate at size 0
         ∙ ap (λ m. replicate m 0) total
 
-pub pages_of-zeros : (n : ℕ) → pages_of (replicate (n * 4096) 0) n ≡ replicate n (replicate 4096 0)
+pub pages_of-zeros : (n : ℕ) → file_pages (replicate (n * 4096) 0) n ≡ replicate n (replicate 4096 0)
 unfolding page_at
 pages_of-zeros n = ext_get_or [] _ _
     (length-pages_of (replicate (n * 4096) 0) n ∙ sym (length-replicate n (replicate {A = ℕ} 4096 0)))

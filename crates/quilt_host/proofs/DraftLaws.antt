@@ -9,7 +9,7 @@ use Rattle.quilt_world.specs.declared.event.Event.{Event}
 use Rattle.quilt_world.specs.declared.event.Event.TheVariants as events
 use Rattle.quilt_host.specs.declared.act.Act.{Act}
 use Rattle.quilt_host.specs.declared.act.Act.TheVariants.{Opened, Created, Wrote, Lost, Synced, Linked, Took, Ended, Put}
-use Rattle.quilt_host.specs.Acts.{Draft, drafted, closed, fronted, begins, goes_on, tears, after}
+use Rattle.quilt_host.specs.Acts.{Draft, drafted, closed, fronted, begins, goes_on, tears, drafted_after}
 
 -- ---- closing
 
@@ -67,8 +67,8 @@ tears_one i m n some fits =
 -- ---- writes
 
 -- a page begins
-pub after_first : (d : Draft) (i : ℕ) (x : List ℕ) → length x ≤ 4096 → after d (Wrote (i * 4096) x) ≡ fronted i x (closed d)
-unfolding after
+pub after_first : (d : Draft) (i : ℕ) (x : List ℕ) → length x ≤ 4096 → drafted_after d (Wrote (i * 4096) x) ≡ fronted i x (closed d)
+unfolding drafted_after
 after_first d i x few =
     ap (λ b. cond b (fronted (i * 4096 / 4096) x (closed d))
     (cond (goes_on d (i * 4096) (length x)) (fronted d.page (d.front ++ x) d.log) (drafted (closed d ++ tears (i * 4096) (length x)))))
@@ -77,8 +77,8 @@ after_first d i x few =
 
 -- a page goes on
 pub after_next : (i m : ℕ) (front x : List ℕ) (log : Log) → length front ≡ m → 0 < m → m < 4096 → m + length x ≤ 4096
-    → after (record { log = log; page = i; front = front }) (Wrote (i * 4096 + m) x) ≡ fronted i (front ++ x) log
-unfolding after
+    → drafted_after (record { log = log; page = i; front = front }) (Wrote (i * 4096 + m) x) ≡ fronted i (front ++ x) log
+unfolding drafted_after
 after_next i m front x log is some few fits =
     let d : Draft = record { log = log; page = i; front = front } in
     let at : ℕ = i * 4096 + m in
@@ -88,8 +88,8 @@ after_next i m front x log is some few fits =
     (goes_on_true d at (length x) (omega arith) (omega arith) (omega arith) (omega arith))
 
 -- a write that begins a page is lost
-pub after_lost_first : (d : Draft) (i n : ℕ) → 1 ≤ n → n ≤ 4096 → closed (after d (Lost (i * 4096) n)) ≡ closed d ++ events.Tore i ∷ []
-unfolding after
+pub after_lost_first : (d : Draft) (i n : ℕ) → 1 ≤ n → n ≤ 4096 → closed (drafted_after d (Lost (i * 4096) n)) ≡ closed d ++ events.Tore i ∷ []
+unfolding drafted_after
 after_lost_first d i n some few =
     closed_drafted _
     ∙ ap (λ b. cond b d.log (closed d) ++ tears (i * 4096) n) (goes_on_false d i n)
@@ -98,8 +98,8 @@ after_lost_first d i n some few =
 
 -- a write that goes on is lost
 pub after_lost_next : (i m n : ℕ) (front : List ℕ) (log : Log) → length front ≡ m → 0 < m → m < 4096 → 1 ≤ n → m + n ≤ 4096
-    → closed (after (record { log = log; page = i; front = front }) (Lost (i * 4096 + m) n)) ≡ log ++ events.Tore i ∷ []
-unfolding after
+    → closed (drafted_after (record { log = log; page = i; front = front }) (Lost (i * 4096 + m) n)) ≡ log ++ events.Tore i ∷ []
+unfolding drafted_after
 after_lost_next i m n front log is some few one fits =
     let d : Draft = record { log = log; page = i; front = front } in
     closed_drafted _
@@ -108,26 +108,26 @@ after_lost_next i m n front log is some few one fits =
 
 -- ---- the others
 
-pub after_synced : (d : Draft) → closed (after d Synced) ≡ closed d ++ events.Synced ∷ []
-unfolding after
+pub after_synced : (d : Draft) → closed (drafted_after d Synced) ≡ closed d ++ events.Synced ∷ []
+unfolding drafted_after
 after_synced d = closed_drafted _
 
-pub after_took : (d : Draft) (bytes : List ℕ) → closed (after d (Took bytes)) ≡ closed d ++ events.Took bytes ∷ []
-unfolding after
+pub after_took : (d : Draft) (bytes : List ℕ) → closed (drafted_after d (Took bytes)) ≡ closed d ++ events.Took bytes ∷ []
+unfolding drafted_after
 after_took d bytes = closed_drafted _
 
-pub after_put : (d : Draft) (bytes : List ℕ) → closed (after d (Put bytes)) ≡ closed d ++ events.Put bytes ∷ []
-unfolding after
+pub after_put : (d : Draft) (bytes : List ℕ) → closed (drafted_after d (Put bytes)) ≡ closed d ++ events.Put bytes ∷ []
+unfolding drafted_after
 after_put d bytes = closed_drafted _
 
-pub after_ended : (d : Draft) → after d Ended ≡ d
-unfolding after
+pub after_ended : (d : Draft) → drafted_after d Ended ≡ d
+unfolding drafted_after
 after_ended d = refl
 
-pub after_opened : (d : Draft) → closed (after d Opened) ≡ []
-unfolding after
+pub after_opened : (d : Draft) → closed (drafted_after d Opened) ≡ []
+unfolding drafted_after
 after_opened d = closed_drafted _
 
-pub after_linked : (d : Draft) → closed (after d Linked) ≡ []
-unfolding after
+pub after_linked : (d : Draft) → closed (drafted_after d Linked) ≡ []
+unfolding drafted_after
 after_linked d = closed_drafted _

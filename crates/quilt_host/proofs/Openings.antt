@@ -13,10 +13,10 @@ use Rattle.quilt_world.specs.declared.disk.Door.TheVariants as doors
 use Rattle.quilt_host.specs.declared.act.Act.TheVariants.{Opened, Created, Synced, Linked}
 use Rattle.quilt_host.specs.Story.{Story}
 use Rattle.quilt_host.specs.Acts.{draft_of, closed, log_of, is_settled}
-use Rattle.quilt_host.specs.Bytes.{overlaid, page_at, pages_of}
-use Rattle.quilt_host.specs.Calls.{acted, Opens, Creates, Removes, FailsToRemove, Syncs, Links}
-use Rattle.quilt_host.specs.Paging.{KeepsFile, KeepsRest, KeepsStart, WritesPage, TearsPage, WritesZeros, WritesSome, Settles, Fills, IsCleared, MakesMap, FailsToMake}
-use Rattle.quilt_host.specs.Worlds.{is_open, tale_of, IsSound, IsKept}
+use Rattle.quilt_host.specs.Bytes.{patched, page_at, file_pages}
+use Rattle.quilt_host.specs.Calls.{acted, OpensFile, CreatesFile, Removes, FailsToRemove, Syncs, Links}
+use Rattle.quilt_host.specs.Paging.{KeepsBytes, KeepsRest, KeepsStart, WritesPage, TearsPage, WritesZeros, WritesSome, Settles, Fills, IsCleared, MakesMap, FailsToMake}
+use Rattle.quilt_host.specs.Worlds.{is_open_door, tale_of, IsSoundStory, IsFileKept}
 use Rattle.quilt_host.proofs.ByteLaws.{get-pages_of, zeros_more, pages_of-zeros}
 use Rattle.quilt_host.proofs.DraftLaws.{after_opened, after_linked}
 use Rattle.quilt_host.proofs.Pieces.{same_rest}
@@ -56,8 +56,8 @@ zeros_next i zeros t u v are z w = record {
   rest = rest_both t u v z.rest w.rest;
   bytes =
       w.bytes
-      ∙ ap (λ f. overlaid f (i * 4096) zeros) z.bytes
-      ∙ ap (overlaid (replicate (i * 4096) 0) (i * 4096)) are
+      ∙ ap (λ f. patched f (i * 4096) zeros) z.bytes
+      ∙ ap (patched (replicate (i * 4096) 0) (i * 4096)) are
       ∙ zeros_more i (i + 1) refl;
   owes = w.owes ∙ z.owes;
 }
@@ -143,10 +143,10 @@ cleared_kept t u v some kept =
 
 -- ---- making
 
-pub created_empty : (path : List ℕ) (t u : Story) → Creates path t u → u.bytes ≡ []
+pub created_empty : (path : List ℕ) (t u : Story) → CreatesFile path t u → u.bytes ≡ []
 created_empty path t u c = ap (λ (x : Story). x.bytes) c.now
 
-pub makes_map : (path : List ℕ) (n : ℕ) (t u v : Story) → Creates path t u → Fills n u v → MakesMap path n t v
+pub makes_map : (path : List ℕ) (n : ℕ) (t u v : Story) → CreatesFile path t u → Fills n u v → MakesMap path n t v
 makes_map path n t u v c f = record {
   named = c.named;
   free = c.free;
@@ -164,7 +164,7 @@ makes_map path n t u v c f = record {
   log = f.log;
 }
 
-pub fails_to_fill : (path : List ℕ) (t u v : Story) → Creates path t u → IsCleared u v → FailsToMake t v
+pub fails_to_fill : (path : List ℕ) (t u v : Story) → CreatesFile path t u → IsCleared u v → FailsToMake t v
 fails_to_fill path t u v c f = record {
   same = record {
     words = f.same.words ∙ ap (λ (x : Story). x.words) c.now;
@@ -187,7 +187,7 @@ not_made : (door : Door) → door ≡ doors.Shut → door ≢ doors.Made
 not_made door shut made = let no : doors.Shut ≡ doors.Made = sym shut ∙ made in cc
 
 -- the file is opened
-kept_opened : (path : List ℕ) (door : Door) (s u : Story) → door ≡ doors.Shut → Opens path s u → IsKept door s → IsKept doors.Ready u
+kept_opened : (path : List ℕ) (door : Door) (s u : Story) → door ≡ doors.Shut → OpensFile path s u → IsFileKept door s → IsFileKept doors.Ready u
 kept_opened path door s u shut o kept = record {
   there = λ was. ap (λ (x : Story). x.is_there) o.now ∙ o.there;
   owes = λ apart. ap (λ (x : Story). x.owes) o.now ∙ kept.owes (not_made door shut);
@@ -196,14 +196,14 @@ kept_opened path door s u shut o kept = record {
 }
 
 reads_first : (pages : ℕ) (s : Story) → log_of s.acts ≡ [] → s.settled ≡ s.bytes → (i : ℕ) (bytes : List ℕ) → i < pages
-    → last_bytes (pages_of s.settled pages) (log_of s.acts) i ≡ Some bytes → page_at s.bytes i ≡ bytes
+    → last_bytes (file_pages s.settled pages) (log_of s.acts) i ≡ Some bytes → page_at s.bytes i ≡ bytes
 unfolding last_bytes
 reads_first pages s log settled i bytes within is =
-    let now : last_bytes (pages_of s.settled pages) [] i ≡ Some bytes = ap (λ (l : Log). last_bytes (pages_of s.settled pages) l i) (sym log) ∙ is in
+    let now : last_bytes (file_pages s.settled pages) [] i ≡ Some bytes = ap (λ (l : Log). last_bytes (file_pages s.settled pages) l i) (sym log) ∙ is in
     ap (λ f. page_at f i) (sym settled) ∙ sym (get-pages_of s.settled pages i within) ∙ same_Some _ bytes now
 
-pub sound_opened : (path : List ℕ) (door : Door) (pages n : ℕ) (s u : Story) → door ≡ doors.Shut → IsSound door n s → Opens path s u
-    → pages * 4096 ≤ length u.bytes → IsSound doors.Ready pages u
+pub sound_opened : (path : List ℕ) (door : Door) (pages n : ℕ) (s u : Story) → door ≡ doors.Shut → IsSoundStory door n s → OpensFile path s u
+    → pages * 4096 ≤ length u.bytes → IsSoundStory doors.Ready pages u
 sound_opened path door pages n s u shut sound o within = record {
   first = λ shut. absurd (let no : doors.Ready ≡ doors.Shut = shut in cc);
   within = within;
@@ -213,7 +213,7 @@ sound_opened path door pages n s u shut sound o within = record {
   kept = kept_opened path door s u shut o sound.kept;
 }
 
-pub sound_made : (path : List ℕ) (door : Door) (pages n : ℕ) (s u : Story) → IsSound door n s → MakesMap path pages s u → IsSound doors.Made pages u
+pub sound_made : (path : List ℕ) (door : Door) (pages n : ℕ) (s u : Story) → IsSoundStory door n s → MakesMap path pages s u → IsSoundStory doors.Made pages u
 sound_made path door pages n s u sound m = record {
   first = λ shut. absurd (let no : doors.Made ≡ doors.Shut = shut in cc);
   within = omega (arith, ap length m.bytes, length-replicate {A = ℕ} (pages * 4096) 0);
@@ -227,7 +227,7 @@ sound_made path door pages n s u sound m = record {
 }
 
 -- no page is open
-sound_closed : (door : Door) (pages : ℕ) (s : Story) → pages ≡ 0 → door ≢ doors.Shut → is_open door ≡ false → IsKept door s → IsSound door pages s
+sound_closed : (door : Door) (pages : ℕ) (s : Story) → pages ≡ 0 → door ≢ doors.Shut → is_open_door door ≡ false → IsFileKept door s → IsSoundStory door pages s
 sound_closed door pages s none not_shut closed kept = record {
   first = λ shut. absurd (not_shut shut);
   within = omega arith;
@@ -239,20 +239,20 @@ module _ (door : Door) (pages : ℕ) (no_pages : door ≢ doors.Ready → door �
   none : pages ≡ 0
   none = no_pages (λ ready. (let no : doors.Shut ≡ doors.Ready = sym shut ∙ ready in cc)) (not_made door shut)
 
-  pub sound_missing : (s : Story) → IsSound door pages s → IsSound doors.Missing pages s
+  pub sound_missing : (s : Story) → IsSoundStory door pages s → IsSoundStory doors.Missing pages s
   sound_missing s sound = sound_closed doors.Missing pages s none (λ e. (let no : doors.Missing ≡ doors.Shut = e in cc)) refl
       (record { there = sound.kept.there; owes = λ apart. sound.kept.owes (not_made door shut); said = sound.kept.said; says = sound.kept.says })
 
-  pub sound_taken : (s : Story) → IsSound door pages s → IsSound doors.Taken pages s
+  pub sound_taken : (s : Story) → IsSoundStory door pages s → IsSoundStory doors.Taken pages s
   sound_taken s sound = sound_closed doors.Taken pages s none (λ e. (let no : doors.Taken ≡ doors.Shut = e in cc)) refl
       (record { there = sound.kept.there; owes = λ apart. sound.kept.owes (not_made door shut); said = sound.kept.said; says = sound.kept.says })
 
-  failed_first : (s : Story) → IsSound door pages s → IsSound doors.Failed pages s
+  failed_first : (s : Story) → IsSoundStory door pages s → IsSoundStory doors.Failed pages s
   failed_first s sound = sound_closed doors.Failed pages s none (λ e. (let no : doors.Failed ≡ doors.Shut = e in cc)) refl
       (record { there = sound.kept.there; owes = λ apart. sound.kept.owes (not_made door shut); said = sound.kept.said; says = sound.kept.says })
 
-  pub sound_not_opened : (path : List ℕ) (s u : Story) → IsSound door pages s → (u ≡ s) ⊎ Opens path s u → IsSound doors.Failed pages u
-  sound_not_opened path s u sound (inl same) = subst (IsSound doors.Failed pages) (sym same) (failed_first s sound)
+  pub sound_not_opened : (path : List ℕ) (s u : Story) → IsSoundStory door pages s → (u ≡ s) ⊎ OpensFile path s u → IsSoundStory doors.Failed pages u
+  sound_not_opened path s u sound (inl same) = subst (IsSoundStory doors.Failed pages) (sym same) (failed_first s sound)
   sound_not_opened path s u sound (inr o) =
       let kept = kept_opened path door s u shut o sound.kept in
       sound_closed doors.Failed pages u none (λ e. (let no : doors.Failed ≡ doors.Shut = e in cc)) refl (record {
@@ -262,7 +262,7 @@ module _ (door : Door) (pages : ℕ) (no_pages : door ≢ doors.Ready → door �
         says = kept.says;
       })
 
-  pub sound_not_made : (s u : Story) → IsSound door pages s → FailsToMake s u → IsSound doors.Failed pages u
+  pub sound_not_made : (s u : Story) → IsSoundStory door pages s → FailsToMake s u → IsSoundStory doors.Failed pages u
   sound_not_made s u sound f = sound_closed doors.Failed pages u none (λ e. (let no : doors.Failed ≡ doors.Shut = e in cc)) refl (record {
     there = λ was.
         let there : s.is_there ≡ true = sound.kept.there (sym f.same.was_there ∙ was) in
@@ -274,7 +274,7 @@ module _ (door : Door) (pages : ℕ) (no_pages : door ≢ doors.Ready → door �
 
 -- ---- tales
 
-pub opens_at : (path : List ℕ) (door : Door) (pages pages' reads writes : ℕ) (s u : Story) → door ≡ doors.Shut → IsSound door pages s → Opens path s u
+pub opens_at : (path : List ℕ) (door : Door) (pages pages' reads writes : ℕ) (s u : Story) → door ≡ doors.Shut → IsSoundStory door pages s → OpensFile path s u
     → OpensAt path doors.Ready (tale_of door pages reads writes s) (tale_of doors.Ready pages' reads writes u)
 opens_at path door pages pages' reads writes s u shut sound o = record {
   fresh = record {
@@ -289,7 +289,7 @@ opens_at path door pages pages' reads writes s u shut sound o = record {
   missing = λ missing. absurd (let no : doors.Ready ≡ doors.Missing = missing in cc);
 }
 
-pub is_missing : (path : List ℕ) (door : Door) (pages pages' reads writes : ℕ) (s : Story) → door ≡ doors.Shut → IsSound door pages s
+pub is_missing : (path : List ℕ) (door : Door) (pages pages' reads writes : ℕ) (s : Story) → door ≡ doors.Shut → IsSoundStory door pages s
     → (path ≡ s.path → s.is_there ≡ false) → OpensAt path doors.Missing (tale_of door pages reads writes s) (tale_of doors.Missing pages' reads writes s)
 is_missing path door pages pages' reads writes s shut sound none = record {
   fresh = record { log = refl; reads = refl; writes = refl; input = refl; path = refl; was_there = refl };
@@ -297,7 +297,7 @@ is_missing path door pages pages' reads writes s shut sound none = record {
   missing = λ missing same. sym (sound.first shut) ∙ none same;
 }
 
-pub fails_to_open : (path : List ℕ) (door : Door) (pages pages' reads writes : ℕ) (s u : Story) → (u ≡ s) ⊎ Opens path s u
+pub fails_to_open : (path : List ℕ) (door : Door) (pages pages' reads writes : ℕ) (s u : Story) → (u ≡ s) ⊎ OpensFile path s u
     → OpensAt path doors.Failed (tale_of door pages reads writes s) (tale_of doors.Failed pages' reads writes u)
 fails_to_open path door pages pages' reads writes s u (inl same) = record {
   fresh = record {
@@ -324,7 +324,7 @@ fails_to_open path door pages pages' reads writes s u (inr o) = record {
   missing = λ missing. absurd (let no : doors.Failed ≡ doors.Missing = missing in cc);
 }
 
-pub makes_at : (path : List ℕ) (door : Door) (n pages reads writes : ℕ) (s u : Story) → door ≡ doors.Shut → IsSound door pages s → MakesMap path n s u
+pub makes_at : (path : List ℕ) (door : Door) (n pages reads writes : ℕ) (s u : Story) → door ≡ doors.Shut → IsSoundStory door pages s → MakesMap path n s u
     → MakesAt path n doors.Made (tale_of door pages reads writes s) (tale_of doors.Made n reads writes u)
 makes_at path door n pages reads writes s u shut sound m = record {
   fresh = record {
@@ -336,11 +336,11 @@ makes_at path door n pages reads writes s u shut sound m = record {
     was_there = m.same.was_there;
   };
   ready = λ made. (m.named, sym (sound.first shut) ∙ m.free);
-  zero = λ made. ap (λ f. pages_of f n) m.settled ∙ pages_of-zeros n;
+  zero = λ made. ap (λ f. file_pages f n) m.settled ∙ pages_of-zeros n;
   taken = λ taken. absurd (let no : doors.Made ≡ doors.Taken = taken in cc);
 }
 
-pub is_taken : (path : List ℕ) (door : Door) (n pages pages' reads writes : ℕ) (s : Story) → door ≡ doors.Shut → IsSound door pages s
+pub is_taken : (path : List ℕ) (door : Door) (n pages pages' reads writes : ℕ) (s : Story) → door ≡ doors.Shut → IsSoundStory door pages s
     → (path ≡ s.path → s.is_there ≡ true) → MakesAt path n doors.Taken (tale_of door pages reads writes s) (tale_of doors.Taken pages' reads writes s)
 is_taken path door n pages pages' reads writes s shut sound there = record {
   fresh = record { log = refl; reads = refl; writes = refl; input = refl; path = refl; was_there = refl };
@@ -360,18 +360,18 @@ fails_at path door n pages pages' reads writes s u f = record {
 
 -- ---- files
 
-pub same_file : (s : Story) → KeepsFile s s
+pub same_file : (s : Story) → KeepsBytes s s
 same_file s = record { is_there = refl; bytes = refl }
 
-pub file_opened : (path : List ℕ) (s u : Story) → Opens path s u → KeepsFile s u
+pub file_opened : (path : List ℕ) (s u : Story) → OpensFile path s u → KeepsBytes s u
 file_opened path s u o = record { is_there = ap (λ (x : Story). x.is_there) o.now; bytes = ap (λ (x : Story). x.bytes) o.now }
 
-pub file_not_opened : (path : List ℕ) (s u : Story) → (u ≡ s) ⊎ Opens path s u → KeepsFile s u
+pub file_not_opened : (path : List ℕ) (s u : Story) → (u ≡ s) ⊎ OpensFile path s u → KeepsBytes s u
 file_not_opened path s u (inl same) = record { is_there = ap (λ (x : Story). x.is_there) same; bytes = ap (λ (x : Story). x.bytes) same }
 file_not_opened path s u (inr o) = file_opened path s u o
 
 -- ---- what is kept
 
-pub if_kept : (door : Door) (pages : ℕ) (told : Option Story) → ForSome told (IsSound door pages) → IfSome told (IsKept door)
+pub if_kept : (door : Door) (pages : ℕ) (told : Option Story) → ForSome told (IsSoundStory door pages) → IfSome told (IsFileKept door)
 if_kept door pages None sound = tt
 if_kept door pages (Some s) sound = (sound s refl).kept

@@ -10,9 +10,9 @@ use Rattle.quilt_world.specs.declared.event.Event.TheVariants as events
 use Rattle.quilt_host.specs.declared.act.Act.{Act}
 use Rattle.quilt_host.specs.declared.act.Act.TheVariants.{Wrote, Lost}
 use Rattle.quilt_host.specs.Story.{Story}
-use Rattle.quilt_host.specs.Bytes.{overlaid, page_at}
-use Rattle.quilt_host.specs.Acts.{Draft, drafted, closed, fronted, after, draft_of, log_of}
-use Rattle.quilt_host.specs.Calls.{Writes, Loses}
+use Rattle.quilt_host.specs.Bytes.{patched, page_at}
+use Rattle.quilt_host.specs.Acts.{Draft, drafted, closed, fronted, drafted_after, draft_of, log_of}
+use Rattle.quilt_host.specs.Calls.{WritesBytes, Loses}
 use Rattle.quilt_host.specs.Paging.{KeepsRest, WritesPage, TearsPage}
 use Rattle.quilt_host.proofs.ByteLaws.{overlaid-overlaid}
 use Rattle.quilt_host.proofs.DraftLaws.{closed_some, fronted_part, fronted_whole, closed_drafted, after_first, after_next, after_lost_first, after_lost_next}
@@ -20,7 +20,7 @@ use Rattle.quilt_host.proofs.DraftLaws.{closed_some, fronted_part, fronted_whole
 -- the front of a page, so many bytes, is written
 pub record Begun (i : ℕ) (page : List ℕ) (done : ℕ) (old new : Story) : Type 0 where
   pub rest : KeepsRest old new
-  pub bytes : new.bytes ≡ overlaid old.bytes (i * 4096) (take done page)
+  pub bytes : new.bytes ≡ patched old.bytes (i * 4096) (take done page)
   pub draft : draft_of new.acts ≡ fronted i (take done page) (log_of old.acts)
   pub owes : new.owes ≡ old.owes
 
@@ -43,9 +43,9 @@ pub room_of : (page : List ℕ) (done : ℕ) → length (slice_range page done (
 room_of page done = ap length (left_of page done) ∙ length-drop done page
 
 module _ (i : ℕ) (page : List ℕ) (size : length page ≡ 4096) where
-  first_piece : (n : ℕ) → n ≤ 4096 → (old new : Story) → Writes (i * 4096) (take n page) old new → Begun i page n old new
+  first_piece : (n : ℕ) → n ≤ 4096 → (old new : Story) → WritesBytes (i * 4096) (take n page) old new → Begun i page n old new
   first_piece n few old new w =
-      let at : Story = record old { bytes = overlaid old.bytes (i * 4096) (take n page); acts = Wrote (i * 4096) (take n page) ∷ old.acts } in
+      let at : Story = record old { bytes = patched old.bytes (i * 4096) (take n page); acts = Wrote (i * 4096) (take n page) ∷ old.acts } in
       subst (λ (u : Story). Begun i page n old u) (sym w)
       (record {
         rest = record { words = refl; path = refl; was_there = refl; is_there = refl; settled = refl; input = refl; said = refl; says = refl };
@@ -55,7 +55,7 @@ module _ (i : ℕ) (page : List ℕ) (size : length page ≡ 4096) where
       })
 
   next_piece : (done n : ℕ) → 0 < done → done < 4096 → done + n ≤ 4096 → (old mid new : Story) → Begun i page done old mid
-      → Writes (i * 4096 + done) (take n (drop done page)) mid new → Begun i page (done + n) old new
+      → WritesBytes (i * 4096 + done) (take n (drop done page)) mid new → Begun i page (done + n) old new
   next_piece done n some few fits old mid new b w =
       let x = take n (drop done page) in
       let joined : take done page ++ x ≡ take (done + n) page = sym (take-add done n page) in
@@ -74,11 +74,11 @@ module _ (i : ℕ) (page : List ℕ) (size : length page ≡ 4096) where
           says = b.rest.says;
         };
         bytes =
-            ap (λ f. overlaid f (i * 4096 + done) x) b.bytes
+            ap (λ f. patched f (i * 4096 + done) x) b.bytes
             ∙ overlaid-overlaid old.bytes (i * 4096) (take done page) (i * 4096 + done) x (omega arith)
-            ∙ ap (overlaid old.bytes (i * 4096)) joined;
+            ∙ ap (patched old.bytes (i * 4096)) joined;
         draft =
-            ap (λ d. after d (Wrote (i * 4096 + done) x)) (b.draft ∙ fronted_part i (take done page) (log_of old.acts) (omega arith))
+            ap (λ d. drafted_after d (Wrote (i * 4096 + done) x)) (b.draft ∙ fronted_part i (take done page) (log_of old.acts) (omega arith))
             ∙ after_next i done (take done page) x (log_of old.acts) len some few (omega arith)
             ∙ ap (λ l. fronted i l (log_of old.acts)) joined;
         owes = b.owes;
@@ -86,20 +86,20 @@ module _ (i : ℕ) (page : List ℕ) (size : length page ≡ 4096) where
 
   -- one piece more
   writing_next : (done n : ℕ) → done < 4096 → 0 < n → done + n ≤ 4096 → (old mid new : Story) → Writing i page done old mid
-      → Writes (i * 4096 + done) (take n (slice_range page done (length page))) mid new → Writing i page (done + n) old new
+      → WritesBytes (i * 4096 + done) (take n (slice_range page done (length page))) mid new → Writing i page (done + n) old new
   writing_next done n few more fits old mid new w p = elim (cases_lt 0 done) [
     | inl some ↦ record {
       none = λ zero. absurd (omega arith);
       some = λ _. next_piece done n some few fits old mid new (w.some some)
-          (subst (λ l. Writes (i * 4096 + done) (take n l) mid new) (left_of page done) p);
+          (subst (λ l. WritesBytes (i * 4096 + done) (take n l) mid new) (left_of page done) p);
     }
     | inr none ↦
         let zero : done ≡ 0 = omega arith in
-        let q : Writes (i * 4096 + done) (take n (drop done page)) mid new =
-        subst (λ l. Writes (i * 4096 + done) (take n l) mid new) (left_of page done) p in
-        let r : Writes (i * 4096 + 0) (take n (drop 0 page)) mid new = subst (λ d. Writes (i * 4096 + d) (take n (drop d page)) mid new) zero q in
-        let t : Writes (i * 4096) (take n page) mid new = subst (λ a. Writes a (take n page) mid new) (add-zero (i * 4096)) r in
-        let u : Writes (i * 4096) (take n page) old new = subst (λ (m : Story). Writes (i * 4096) (take n page) m new) (w.none zero) t in
+        let q : WritesBytes (i * 4096 + done) (take n (drop done page)) mid new =
+        subst (λ l. WritesBytes (i * 4096 + done) (take n l) mid new) (left_of page done) p in
+        let r : WritesBytes (i * 4096 + 0) (take n (drop 0 page)) mid new = subst (λ d. WritesBytes (i * 4096 + d) (take n (drop d page)) mid new) zero q in
+        let t : WritesBytes (i * 4096) (take n page) mid new = subst (λ a. WritesBytes a (take n page) mid new) (add-zero (i * 4096)) r in
+        let u : WritesBytes (i * 4096) (take n page) old new = subst (λ (m : Story). WritesBytes (i * 4096) (take n page) m new) (w.none zero) t in
         let count : n ≡ done + n = omega arith in
         record {
           none = λ zero. absurd (omega arith);
@@ -108,13 +108,13 @@ module _ (i : ℕ) (page : List ℕ) (size : length page ≡ 4096) where
   ]
 
   pub writing_more : (done n at : ℕ) → done < 4096 → 0 < n → n ≤ length (slice_range page done (length page)) → (old mid new : Story)
-      → Writing i page done old mid → Writes at (take n (slice_range page done (length page))) mid new → at ≡ i * 4096 + done
+      → Writing i page done old mid → WritesBytes at (take n (slice_range page done (length page))) mid new → at ≡ i * 4096 + done
       → Writing i page (done + n) old new
   writing_more done n at few more within old mid new w p is =
       let count : length (slice_range page done (length page)) ≡ 4096 - done =
       ap length (left_of page done) ∙ length-drop done page ∙ ap (λ m. m - done) size in
       writing_next done n few more (omega arith) old mid new w
-      (subst (λ a. Writes a (take n (slice_range page done (length page))) mid new) is p)
+      (subst (λ a. WritesBytes a (take n (slice_range page done (length page))) mid new) is p)
 
   -- all pieces
   pub writing_all : (done : ℕ) → done ≡ 4096 → (old new : Story) → Writing i page done old new → WritesPage i page old new
@@ -123,7 +123,7 @@ module _ (i : ℕ) (page : List ℕ) (size : length page ≡ 4096) where
       let whole : take done page ≡ page = ap (λ n. take n page) (is ∙ sym size) ∙ take-length page in
       record {
         rest = b.rest;
-        bytes = b.bytes ∙ ap (overlaid old.bytes (i * 4096)) whole;
+        bytes = b.bytes ∙ ap (patched old.bytes (i * 4096)) whole;
         log =
             ap closed (b.draft ∙ ap (λ l. fronted i l (log_of old.acts)) whole ∙ fronted_whole i page (log_of old.acts) size)
             ∙ closed_drafted (log_of old.acts ++ events.Wrote i page ∷ []);
@@ -158,10 +158,10 @@ module _ (i : ℕ) (page : List ℕ) (size : length page ≡ 4096) where
             left = take done page ++ p.left;
             few = omega (arith, length-append (take done page) p.left, p.few, count);
             bytes =
-                ap (λ f. overlaid f (i * 4096 + done) p.left) b.bytes
+                ap (λ f. patched f (i * 4096 + done) p.left) b.bytes
                 ∙ overlaid-overlaid old.bytes (i * 4096) (take done page) (i * 4096 + done) p.left (omega arith);
             log =
-                ap (λ d. closed (after d (Lost (i * 4096 + done) n))) (b.draft ∙ fronted_part i (take done page) (log_of old.acts) (omega arith))
+                ap (λ d. closed (drafted_after d (Lost (i * 4096 + done) n))) (b.draft ∙ fronted_part i (take done page) (log_of old.acts) (omega arith))
                 ∙ after_lost_next i done n (take done page) (log_of old.acts) len some few (omega (arith, count)) (omega (arith, count));
             owes = b.owes;
           })
@@ -171,9 +171,9 @@ module _ (i : ℕ) (page : List ℕ) (size : length page ≡ 4096) where
           let n = length (slice_range page done (length page)) in
           let at : i * 4096 + done ≡ i * 4096 = omega arith in
           let start : mid ≡ old = w.none zero in
-          let now : new ≡ record old { bytes = overlaid old.bytes (i * 4096) p.left; acts = Lost (i * 4096) n ∷ old.acts } =
-          subst (λ (m : Story). new ≡ record m { bytes = overlaid m.bytes (i * 4096) p.left; acts = Lost (i * 4096) n ∷ m.acts }) start
-          (subst (λ a. new ≡ record mid { bytes = overlaid mid.bytes a p.left; acts = Lost a n ∷ mid.acts }) at p.now) in
+          let now : new ≡ record old { bytes = patched old.bytes (i * 4096) p.left; acts = Lost (i * 4096) n ∷ old.acts } =
+          subst (λ (m : Story). new ≡ record m { bytes = patched m.bytes (i * 4096) p.left; acts = Lost (i * 4096) n ∷ m.acts }) start
+          (subst (λ a. new ≡ record mid { bytes = patched mid.bytes a p.left; acts = Lost a n ∷ mid.acts }) at p.now) in
           subst (λ (u : Story). TearsPage i old u) (sym now)
           (record {
             rest = record { words = refl; path = refl; was_there = refl; is_there = refl; settled = refl; input = refl; said = refl; says = refl };

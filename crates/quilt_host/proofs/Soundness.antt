@@ -13,9 +13,9 @@ use Rattle.quilt_world.specs.declared.disk.Door.TheVariants as doors
 use Rattle.quilt_world.proofs.PageLaws.{last-spared, last-Wrote, last-Tore}
 use Rattle.quilt_host.specs.Story.{Story}
 use Rattle.quilt_host.specs.Acts.{log_of}
-use Rattle.quilt_host.specs.Bytes.{overlaid, page_at, pages_of}
+use Rattle.quilt_host.specs.Bytes.{patched, page_at, file_pages}
 use Rattle.quilt_host.specs.Paging.{KeepsRest, WritesPage, TearsPage}
-use Rattle.quilt_host.specs.Worlds.{is_open, tale_of, IsSound, IsKept}
+use Rattle.quilt_host.specs.Worlds.{is_open_door, tale_of, IsSoundStory, IsFileKept}
 use Rattle.quilt_host.proofs.ByteLaws.{length-overlaid_least, page-overlaid_other, page-overlaid_same}
 
 -- what soundness and tales ask of a step, beside the bytes and the events
@@ -28,7 +28,7 @@ pub record KeepsSound (s u : Story) : Type 0 where
   pub says : u.says ≡ s.says
 
 -- what is kept goes on
-kept_on : (door : Door) (s u : Story) → KeepsSound s u → IsKept door s → IsKept door u
+kept_on : (door : Door) (s u : Story) → KeepsSound s u → IsFileKept door s → IsFileKept door u
 kept_on door s u keeps kept = record {
   there = λ was. keeps.is_there ∙ kept.there (sym keeps.was_there ∙ was);
   owes = λ apart. keeps.owes ∙ kept.owes apart;
@@ -44,7 +44,7 @@ pub record KeepsTale (s u : Story) : Type 0 where
 
 -- ---- doors
 
-pub open_with_pages : (door : Door) (pages : ℕ) → (door ≢ doors.Ready → door ≢ doors.Made → pages ≡ 0) → 0 < pages → is_open door ≡ true
+pub open_with_pages : (door : Door) (pages : ℕ) → (door ≢ doors.Ready → door ≢ doors.Made → pages ≡ 0) → 0 < pages → is_open_door door ≡ true
 open_with_pages doors.Ready pages none some = refl
 open_with_pages doors.Made pages none some = refl
 open_with_pages doors.Shut pages none some = absurd (let zero : pages ≡ 0 = none (λ e. cc) (λ e. cc) in omega arith)
@@ -52,39 +52,39 @@ open_with_pages doors.Missing pages none some = absurd (let zero : pages ≡ 0 =
 open_with_pages doors.Taken pages none some = absurd (let zero : pages ≡ 0 = none (λ e. cc) (λ e. cc) in omega arith)
 open_with_pages doors.Failed pages none some = absurd (let zero : pages ≡ 0 = none (λ e. cc) (λ e. cc) in omega arith)
 
-pub open_either : (door : Door) → (door ≡ doors.Ready) ⊎ (door ≡ doors.Made) → is_open door ≡ true
-open_either door (inl ready) = ap is_open ready
-open_either door (inr made) = ap is_open made
+pub open_either : (door : Door) → (door ≡ doors.Ready) ⊎ (door ≡ doors.Made) → is_open_door door ≡ true
+open_either door (inl ready) = ap is_open_door ready
+open_either door (inr made) = ap is_open_door made
 
 -- ---- one event more
 
 moved_last : (pages : ℕ) (s u : Story) (e : Event) (j : ℕ) (b : List ℕ) → u.settled ≡ s.settled → log_of u.acts ≡ log_of s.acts ++ e ∷ []
-    → last_bytes (pages_of u.settled pages) (log_of u.acts) j ≡ Some b → last_bytes (pages_of s.settled pages) (log_of s.acts ++ e ∷ []) j ≡ Some b
+    → last_bytes (file_pages u.settled pages) (log_of u.acts) j ≡ Some b → last_bytes (file_pages s.settled pages) (log_of s.acts ++ e ∷ []) j ≡ Some b
 moved_last pages s u e j b settled log is =
-    ap (λ (l : Log). last_bytes (pages_of s.settled pages) l j) (sym log) ∙ ap (λ z. last_bytes (pages_of z pages) (log_of u.acts) j) (sym settled) ∙ is
+    ap (λ (l : Log). last_bytes (file_pages s.settled pages) l j) (sym log) ∙ ap (λ z. last_bytes (file_pages z pages) (log_of u.acts) j) (sym settled) ∙ is
 
 -- an event that is no write, with the same bytes
 pub sound_spared : (door : Door) (pages : ℕ) (s u : Story) (e : Event) → ((i : ℕ) → Spares i e) → KeepsSound s u → u.bytes ≡ s.bytes
-    → log_of u.acts ≡ log_of s.acts ++ e ∷ [] → IsSound door pages s → IsSound door pages u
+    → log_of u.acts ≡ log_of s.acts ++ e ∷ [] → IsSoundStory door pages s → IsSoundStory door pages u
 sound_spared door pages s u e spares keeps bytes log sound = record {
   first = λ shut. keeps.is_there ∙ sound.first shut ∙ sym keeps.was_there;
   within = omega (arith, sound.within, ap length bytes);
   reads = λ opens j b lt is.
       ap (λ l. page_at l j) bytes
-      ∙ sound.reads opens j b lt (sym (last-spared (pages_of s.settled pages) (log_of s.acts) e j (spares j)) ∙ moved_last pages s u e j b keeps.settled log is);
+      ∙ sound.reads opens j b lt (sym (last-spared (file_pages s.settled pages) (log_of s.acts) e j (spares j)) ∙ moved_last pages s u e j b keeps.settled log is);
   kept = kept_on door s u keeps sound.kept;
 }
 
 -- nothing that is seen
-pub sound_kept : (door : Door) (pages : ℕ) (s u : Story) → KeepsSound s u → u.bytes ≡ s.bytes → log_of u.acts ≡ log_of s.acts → IsSound door pages s
-    → IsSound door pages u
+pub sound_kept : (door : Door) (pages : ℕ) (s u : Story) → KeepsSound s u → u.bytes ≡ s.bytes → log_of u.acts ≡ log_of s.acts → IsSoundStory door pages s
+    → IsSoundStory door pages u
 sound_kept door pages s u keeps bytes log sound = record {
   first = λ shut. keeps.is_there ∙ sound.first shut ∙ sym keeps.was_there;
   within = omega (arith, sound.within, ap length bytes);
   reads = λ opens j b lt is.
       ap (λ l. page_at l j) bytes
-      ∙ sound.reads opens j b lt (ap (λ (l : Log). last_bytes (pages_of s.settled pages) l j) (sym log)
-      ∙ ap (λ z. last_bytes (pages_of z pages) (log_of u.acts) j) (sym keeps.settled) ∙ is);
+      ∙ sound.reads opens j b lt (ap (λ (l : Log). last_bytes (file_pages s.settled pages) l j) (sym log)
+      ∙ ap (λ z. last_bytes (file_pages z pages) (log_of u.acts) j) (sym keeps.settled) ∙ is);
   kept = kept_on door s u keeps sound.kept;
 }
 
@@ -99,8 +99,8 @@ keeps_rest s u rest owes = record {
   says = rest.says;
 }
 
-pub sound_wrote : (door : Door) (pages i : ℕ) (page : List ℕ) (s u : Story) → i < pages → length page ≡ 4096 → IsSound door pages s → WritesPage i page s u
-    → IsSound door pages u
+pub sound_wrote : (door : Door) (pages i : ℕ) (page : List ℕ) (s u : Story) → i < pages → length page ≡ 4096 → IsSoundStory door pages s → WritesPage i page s u
+    → IsSoundStory door pages u
 sound_wrote door pages i page s u low size sound w = record {
   first = λ shut. w.rest.is_there ∙ sound.first shut ∙ sym w.rest.was_there;
   within = omega (arith, sound.within, ap length w.bytes, length-overlaid_least s.bytes (i * 4096) page);
@@ -109,19 +109,19 @@ sound_wrote door pages i page s u low size sound w = record {
       ap (λ l. page_at l j) w.bytes
       ∙ elim (cases_eq i j) [
         | inl here ↦
-            let at : last_bytes (pages_of s.settled pages) (log_of s.acts ++ Wrote i page ∷ []) i ≡ Some b =
-            subst (λ k. last_bytes (pages_of s.settled pages) (log_of s.acts ++ Wrote i page ∷ []) k ≡ Some b) (sym here) moved in
-            subst (λ k. page_at (overlaid s.bytes (i * 4096) page) k ≡ b) here
-            (page-overlaid_same s.bytes i page size ∙ same_Some page b (sym (last-Wrote (pages_of s.settled pages) (log_of s.acts) i page) ∙ at))
+            let at : last_bytes (file_pages s.settled pages) (log_of s.acts ++ Wrote i page ∷ []) i ≡ Some b =
+            subst (λ k. last_bytes (file_pages s.settled pages) (log_of s.acts ++ Wrote i page ∷ []) k ≡ Some b) (sym here) moved in
+            subst (λ k. page_at (patched s.bytes (i * 4096) page) k ≡ b) here
+            (page-overlaid_same s.bytes i page size ∙ same_Some page b (sym (last-Wrote (file_pages s.settled pages) (log_of s.acts) i page) ∙ at))
         | inr apart ↦
             page-overlaid_other s.bytes i j page apart (omega arith) (omega (arith, sound.within))
-            ∙ sound.reads opens j b lt (sym (last-spared (pages_of s.settled pages) (log_of s.acts) (Wrote i page) j apart) ∙ moved)
+            ∙ sound.reads opens j b lt (sym (last-spared (file_pages s.settled pages) (log_of s.acts) (Wrote i page) j apart) ∙ moved)
       ];
   kept = kept_on door s u (keeps_rest s u w.rest w.owes) sound.kept;
 }
 
-pub sound_tore : (door : Door) (pages i : ℕ) (s u : Story) → i < pages → IsSound door pages s → TearsPage i s u ⊎ (u ≡ s) → IsSound door pages u
-sound_tore door pages i s u low sound (inr same) = subst (IsSound door pages) (sym same) sound
+pub sound_tore : (door : Door) (pages i : ℕ) (s u : Story) → i < pages → IsSoundStory door pages s → TearsPage i s u ⊎ (u ≡ s) → IsSoundStory door pages u
+sound_tore door pages i s u low sound (inr same) = subst (IsSoundStory door pages) (sym same) sound
 sound_tore door pages i s u low sound (inl w) = record {
   first = λ shut. w.rest.is_there ∙ sound.first shut ∙ sym w.rest.was_there;
   within = omega (arith, sound.within, ap length w.bytes, length-overlaid_least s.bytes (i * 4096) w.left);
@@ -130,11 +130,11 @@ sound_tore door pages i s u low sound (inl w) = record {
       ap (λ l. page_at l j) w.bytes
       ∙ elim (cases_eq i j) [
         | inl here ↦ absurd (let no : ◌≡◌ {A = Option (List ℕ)} None (Some b) =
-            sym (last-Tore (pages_of s.settled pages) (log_of s.acts) i)
-            ∙ subst (λ k. last_bytes (pages_of s.settled pages) (log_of s.acts ++ Tore i ∷ []) k ≡ Some b) (sym here) moved in cc)
+            sym (last-Tore (file_pages s.settled pages) (log_of s.acts) i)
+            ∙ subst (λ k. last_bytes (file_pages s.settled pages) (log_of s.acts ++ Tore i ∷ []) k ≡ Some b) (sym here) moved in cc)
         | inr apart ↦
             page-overlaid_other s.bytes i j w.left apart w.few (omega (arith, sound.within))
-            ∙ sound.reads opens j b lt (sym (last-spared (pages_of s.settled pages) (log_of s.acts) (Tore i) j apart) ∙ moved)
+            ∙ sound.reads opens j b lt (sym (last-spared (file_pages s.settled pages) (log_of s.acts) (Tore i) j apart) ∙ moved)
       ];
   kept = kept_on door s u (keeps_rest s u w.rest w.owes) sound.kept;
 }
@@ -142,10 +142,10 @@ sound_tore door pages i s u low sound (inl w) = record {
 -- ---- tales
 
 -- the tale has these events more
-pub adds_of : (door : Door) (pages reads writes reads' writes' : ℕ) (s u : Story) (events : Log) → is_open door ≡ true → KeepsTale s u
+pub adds_of : (door : Door) (pages reads writes reads' writes' : ℕ) (s u : Story) (events : Log) → is_open_door door ≡ true → KeepsTale s u
     → log_of u.acts ≡ log_of s.acts ++ events → Adds events (tale_of door pages reads writes s) (tale_of door pages reads' writes' u)
 adds_of door pages reads writes reads' writes' s u events opens keeps log = record {
-  file = record { start = ap (λ z. pages_of z pages) keeps.settled; path = keeps.path; was_there = keeps.was_there };
+  file = record { start = ap (λ z. file_pages z pages) keeps.settled; path = keeps.path; was_there = keeps.was_there };
   log = ap (λ b. cond b (log_of u.acts) []) opens ∙ log ∙ ap (λ b. cond b (log_of s.acts) [] ++ events) (sym opens);
   input = keeps.input;
 }
@@ -154,15 +154,15 @@ adds_of door pages reads writes reads' writes' s u events opens keeps log = reco
 pub adds_none : (door : Door) (pages reads writes reads' writes' : ℕ) (s : Story)
     → Adds [] (tale_of door pages reads writes s) (tale_of door pages reads' writes' s)
 adds_none door pages reads writes reads' writes' s =
-    record { file = record { start = refl; path = refl; was_there = refl }; log = sym (append-nil (cond (is_open door) (log_of s.acts) [])); input = refl }
+    record { file = record { start = refl; path = refl; was_there = refl }; log = sym (append-nil (cond (is_open_door door) (log_of s.acts) [])); input = refl }
 
-pub adds_wrote : (door : Door) (pages reads writes reads' writes' i : ℕ) (page : List ℕ) (s u : Story) → is_open door ≡ true → WritesPage i page s u
+pub adds_wrote : (door : Door) (pages reads writes reads' writes' i : ℕ) (page : List ℕ) (s u : Story) → is_open_door door ≡ true → WritesPage i page s u
     → Adds (Wrote i page ∷ []) (tale_of door pages reads writes s) (tale_of door pages reads' writes' u)
 adds_wrote door pages reads writes reads' writes' i page s u opens w =
     adds_of door pages reads writes reads' writes' s u (Wrote i page ∷ []) opens
     (record { settled = w.rest.settled; path = w.rest.path; was_there = w.rest.was_there; input = w.rest.input }) w.log
 
-pub adds_tore : (door : Door) (pages reads writes reads' writes' i : ℕ) (s u : Story) → is_open door ≡ true → TearsPage i s u ⊎ (u ≡ s)
+pub adds_tore : (door : Door) (pages reads writes reads' writes' i : ℕ) (s u : Story) → is_open_door door ≡ true → TearsPage i s u ⊎ (u ≡ s)
     → Adds (Tore i ∷ []) (tale_of door pages reads writes s) (tale_of door pages reads' writes' u)
     ⊎ Adds [] (tale_of door pages reads writes s) (tale_of door pages reads' writes' u)
 adds_tore door pages reads writes reads' writes' i s u opens (inl w) =

@@ -8,20 +8,20 @@ use Rattle.quilt_world.specs.declared.disk.Door.{Door}
 use Rattle.quilt_host.specs.declared.act.Act.TheVariants.{Synced, Took, Ended, Put}
 use Rattle.quilt_host.specs.Story.{Story}
 use Rattle.quilt_host.specs.Acts.{draft_of, closed, log_of}
-use Rattle.quilt_host.specs.Calls.{Syncs, Takes, Puts, took}
-use Rattle.quilt_host.specs.Worlds.{is_open, tale_of, IsSound}
+use Rattle.quilt_host.specs.Calls.{Syncs, TakesInput, Puts, took}
+use Rattle.quilt_host.specs.Worlds.{is_open_door, tale_of, IsSoundStory}
 use Rattle.quilt_host.proofs.DraftLaws.{after_synced, after_took, after_put, after_ended}
 use Rattle.quilt_host.proofs.Soundness.{KeepsSound, KeepsTale, sound_spared, sound_kept, adds_of}
 
 -- ---- a sync
 
-pub sound_synced : (door : Door) (pages : ℕ) (s u : Story) → IsSound door pages s → Syncs s u → IsSound door pages u
+pub sound_synced : (door : Door) (pages : ℕ) (s u : Story) → IsSoundStory door pages s → Syncs s u → IsSoundStory door pages u
 sound_synced door pages s u sound is =
-    subst (λ (v : Story). IsSound door pages v) (sym is)
+    subst (λ (v : Story). IsSoundStory door pages v) (sym is)
     (sound_spared door pages s (record s { acts = Synced ∷ s.acts }) events.Synced (λ i. tt)
     (record { is_there = refl; was_there = refl; settled = refl; owes = refl; said = refl; says = refl }) refl (after_synced (draft_of s.acts)) sound)
 
-pub adds_synced : (door : Door) (pages reads writes : ℕ) (s u : Story) → is_open door ≡ true → Syncs s u
+pub adds_synced : (door : Door) (pages reads writes : ℕ) (s u : Story) → is_open_door door ≡ true → Syncs s u
     → Adds (events.Synced ∷ []) (tale_of door pages reads writes s) (tale_of door pages reads writes u)
 adds_synced door pages reads writes s u opens is =
     subst (λ (v : Story). Adds (events.Synced ∷ []) (tale_of door pages reads writes s) (tale_of door pages reads writes v)) (sym is)
@@ -30,13 +30,13 @@ adds_synced door pages reads writes s u opens is =
 
 -- ---- a put
 
-pub sound_put : (door : Door) (pages : ℕ) (bytes : List ℕ) (s u : Story) → IsSound door pages s → Puts bytes s u → IsSound door pages u
+pub sound_put : (door : Door) (pages : ℕ) (bytes : List ℕ) (s u : Story) → IsSoundStory door pages s → Puts bytes s u → IsSoundStory door pages u
 sound_put door pages bytes s u sound is =
-    subst (λ (v : Story). IsSound door pages v) (sym is)
+    subst (λ (v : Story). IsSoundStory door pages v) (sym is)
     (sound_spared door pages s (record s { acts = Put bytes ∷ s.acts }) (events.Put bytes) (λ i. tt)
     (record { is_there = refl; was_there = refl; settled = refl; owes = refl; said = refl; says = refl }) refl (after_put (draft_of s.acts) bytes) sound)
 
-pub adds_put : (door : Door) (pages reads writes : ℕ) (bytes : List ℕ) (s u : Story) → is_open door ≡ true → Puts bytes s u
+pub adds_put : (door : Door) (pages reads writes : ℕ) (bytes : List ℕ) (s u : Story) → is_open_door door ≡ true → Puts bytes s u
     → Adds (events.Put bytes ∷ []) (tale_of door pages reads writes s) (tale_of door pages reads writes u)
 adds_put door pages reads writes bytes s u opens is =
     subst (λ (v : Story). Adds (events.Put bytes ∷ []) (tale_of door pages reads writes s) (tale_of door pages reads writes v)) (sym is)
@@ -45,17 +45,17 @@ adds_put door pages reads writes bytes s u opens is =
 
 -- ---- a take
 
-pub sound_took : (door : Door) (pages : ℕ) (bytes : List ℕ) (s u : Story) → IsSound door pages s → Takes bytes s u → IsSound door pages u
+pub sound_took : (door : Door) (pages : ℕ) (bytes : List ℕ) (s u : Story) → IsSoundStory door pages s → TakesInput bytes s u → IsSoundStory door pages u
 sound_took door pages [] s u sound is =
-    subst (λ (v : Story). IsSound door pages v) (sym is.now)
+    subst (λ (v : Story). IsSoundStory door pages v) (sym is.now)
     (sound_kept door pages s (record s { input = is.rest; acts = Ended ∷ s.acts })
     (record { is_there = refl; was_there = refl; settled = refl; owes = refl; said = refl; says = refl }) refl (ap closed (after_ended (draft_of s.acts))) sound)
 sound_took door pages (b ∷ bytes) s u sound is =
-    subst (λ (v : Story). IsSound door pages v) (sym is.now)
+    subst (λ (v : Story). IsSoundStory door pages v) (sym is.now)
     (sound_spared door pages s (record s { input = is.rest; acts = Took (b ∷ bytes) ∷ s.acts }) (events.Took (b ∷ bytes)) (λ i. tt)
     (record { is_there = refl; was_there = refl; settled = refl; owes = refl; said = refl; says = refl }) refl (after_took (draft_of s.acts) (b ∷ bytes)) sound)
 
-pub takes_from : (door : Door) (pages reads writes : ℕ) (bytes : List ℕ) (s u : Story) → is_open door ≡ true → Takes bytes s u
+pub takes_from : (door : Door) (pages reads writes : ℕ) (bytes : List ℕ) (s u : Story) → is_open_door door ≡ true → TakesInput bytes s u
     → TakesFrom bytes (tale_of door pages reads writes s) (tale_of door pages reads writes u)
 takes_from door pages reads writes [] s u opens is =
     subst (λ (v : Story). TakesFrom [] (tale_of door pages reads writes s) (tale_of door pages reads writes v)) (sym is.now)
@@ -63,7 +63,7 @@ takes_from door pages reads writes [] s u opens is =
       next = is.next;
       end = is.end;
       log = λ some. absurd (omega arith);
-      same = λ none. ap (λ d. cond (is_open door) (closed d) []) (after_ended (draft_of s.acts));
+      same = λ none. ap (λ d. cond (is_open_door door) (closed d) []) (after_ended (draft_of s.acts));
       file = record { start = refl; path = refl; was_there = refl };
       reads = refl;
       writes = refl;

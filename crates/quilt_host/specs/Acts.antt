@@ -39,23 +39,23 @@ tears at n = map (λ k. events.Tore (at / 4096 + k)) (below ((at % 4096 + n + 40
 
 -- A page that is written from its first byte on, piece behind piece, is one write. Any other write tears its pages, and so does
 -- one that fails. What is done to the file before it is opened, or before its folder is synced, is no event.
-unfoldable pub after : Draft → Act → Draft
-after d Opened = drafted []
-after d Created = drafted []
-after d (Wrote at bytes) =
+unfoldable pub drafted_after : Draft → Act → Draft
+drafted_after d Opened = drafted []
+drafted_after d Created = drafted []
+drafted_after d (Wrote at bytes) =
     if begins at (length bytes) then fronted (at / 4096) bytes (closed d)
     else (if goes_on d at (length bytes) then fronted d.page (d.front ++ bytes) d.log else drafted (closed d ++ tears at (length bytes)))
-after d (Lost at n) = drafted ((if goes_on d at n then d.log else closed d) ++ tears at n)
-after d Synced = drafted (closed d ++ events.Synced ∷ [])
-after d Linked = drafted []
-after d (Took bytes) = drafted (closed d ++ events.Took bytes ∷ [])
-after d Ended = d
-after d (Put bytes) = drafted (closed d ++ events.Put bytes ∷ [])
+drafted_after d (Lost at n) = drafted ((if goes_on d at n then d.log else closed d) ++ tears at n)
+drafted_after d Synced = drafted (closed d ++ events.Synced ∷ [])
+drafted_after d Linked = drafted []
+drafted_after d (Took bytes) = drafted (closed d ++ events.Took bytes ∷ [])
+drafted_after d Ended = d
+drafted_after d (Put bytes) = drafted (closed d ++ events.Put bytes ∷ [])
 
 -- the draft after all acts, of which the last stands first
 abbrev pub draft_of : List Act → Draft
 draft_of [] = drafted []
-draft_of (act ∷ earlier) = after (draft_of earlier) act
+draft_of (act ∷ earlier) = drafted_after (draft_of earlier) act
 
 -- the events of pages and streams since the file was opened, or since its folder was synced
 abbrev pub log_of : List Act → Log

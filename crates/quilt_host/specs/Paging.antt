@@ -2,7 +2,7 @@
 use Rattle.std.specs.Prelude.{◌≡◌, ◌⊎◌, ℕ, ◌*◌, ◌≤◌, Bool, true, false, List, [], ◌∷◌, ◌++◌, length, replicate}
 use Rattle.quilt_world.specs.declared.event.Event.TheVariants.{Wrote, Tore}
 use Rattle.quilt_host.specs.Story.{Story}
-use Rattle.quilt_host.specs.Bytes.{overlaid}
+use Rattle.quilt_host.specs.Bytes.{patched}
 use Rattle.quilt_host.specs.Acts.{log_of}
 
 -- all but the bytes of the file, the acts and what is owed is as it was
@@ -26,7 +26,7 @@ pub record KeepsStart (old new : Story) : Type 0 where
   pub says : new.says ≡ old.says
 
 -- a file is there just where one was, with the same bytes
-pub record KeepsFile (old new : Story) : Type 0 where
+pub record KeepsBytes (old new : Story) : Type 0 where
   pub is_there : new.is_there ≡ old.is_there
   pub bytes : new.bytes ≡ old.bytes
 
@@ -52,7 +52,7 @@ pub record WritesSome (old new : Story) : Type 0 where
 -- the page is written whole
 pub record WritesPage (i : ℕ) (page : List ℕ) (old new : Story) : Type 0 where
   pub rest : KeepsRest old new
-  pub bytes : new.bytes ≡ overlaid old.bytes (i * 4096) page
+  pub bytes : new.bytes ≡ patched old.bytes (i * 4096) page
   pub log : log_of new.acts ≡ log_of old.acts ++ Wrote i page ∷ []
   pub owes : new.owes ≡ old.owes
 
@@ -61,7 +61,7 @@ pub record TearsPage (i : ℕ) (old new : Story) : Type 0 where
   pub rest : KeepsRest old new
   pub left : List ℕ
   pub few : length left ≤ 4096
-  pub bytes : new.bytes ≡ overlaid old.bytes (i * 4096) left
+  pub bytes : new.bytes ≡ patched old.bytes (i * 4096) left
   pub log : log_of new.acts ≡ log_of old.acts ++ Tore i ∷ []
   pub owes : new.owes ≡ old.owes
 

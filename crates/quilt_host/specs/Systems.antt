@@ -7,8 +7,8 @@ module _ {S : Type 0} {g : systems.Ghosts S} where
   abbrev pub system_of : HostWorld S g → S
   system_of w = w.system
 
-  abbrev pub reads_of : HostWorld S g → ℕ
-  reads_of w = w.reads
+  abbrev pub host_reads : HostWorld S g → ℕ
+  host_reads w = w.reads
 
   abbrev pub writes_of : HostWorld S g → ℕ
   writes_of w = w.writes

@@ -10,31 +10,31 @@ use Rattle.quilt_world.specs.declared.disk.Door.{Door}
 use Rattle.quilt_world.specs.declared.disk.Door.TheVariants as doors
 use Rattle.quilt_host.specs.Story.{Story}
 use Rattle.quilt_host.specs.Acts.{log_of}
-use Rattle.quilt_host.specs.Bytes.{page_at, pages_of}
-use Rattle.quilt_host.specs.Worlds.{tale_of, is_open, IsSound}
+use Rattle.quilt_host.specs.Bytes.{page_at, file_pages}
+use Rattle.quilt_host.specs.Worlds.{tale_of, is_open_door, IsSoundStory}
 
-length-pages_of : (f : List ℕ) (n : ℕ) → length (pages_of f n) ≡ n
-unfolding pages_of
+length-pages_of : (f : List ℕ) (n : ℕ) → length (file_pages f n) ≡ n
+unfolding file_pages
 length-pages_of f n = length-map-range_with_len (page_at f) 0 n
 
-get-pages_of : (f : List ℕ) (n i : ℕ) → i < n → slice_index_or (pages_of f n) i [] ≡ page_at f i
-unfolding pages_of
+get-pages_of : (f : List ℕ) (n i : ℕ) → i < n → slice_index_or (file_pages f n) i [] ≡ page_at f i
+unfolding file_pages
 get-pages_of f n i within = get_or-map-range_with_len (page_at f) 0 n i i [] within (omega arith)
 
 module _ (pages reads writes : ℕ) (s : Story) where
   Lawful : Log → Type 0
   Lawful log = IsConsistent (record {
-    start = pages_of s.settled pages;
+    start = file_pages s.settled pages;
     log = log;
-    seen = pages_of s.bytes pages;
+    seen = file_pages s.bytes pages;
     reads = reads;
     writes = writes;
     input = s.input;
     path = s.path;
     was_there = s.was_there;
-  }) × (length (pages_of s.settled pages) ≡ pages)
+  }) × (length (file_pages s.settled pages) ≡ pages)
 
-  open_law : ((i : ℕ) (bytes : List ℕ) → i < pages → last_bytes (pages_of s.settled pages) (log_of s.acts) i ≡ Some bytes → page_at s.bytes i ≡ bytes)
+  open_law : ((i : ℕ) (bytes : List ℕ) → i < pages → last_bytes (file_pages s.settled pages) (log_of s.acts) i ≡ Some bytes → page_at s.bytes i ≡ bytes)
       → Lawful (log_of s.acts)
   unfolding Lawful
   open_law each = (
@@ -57,7 +57,7 @@ module _ (pages reads writes : ℕ) (s : Story) where
     length-pages_of s.settled pages,
   )
 
-tale_law : (door : Door) (pages reads writes : ℕ) → (door ≢ doors.Ready → door ≢ doors.Made → pages ≡ 0) → (s : Story) → IsSound door pages s
+tale_law : (door : Door) (pages reads writes : ℕ) → (door ≢ doors.Ready → door ≢ doors.Made → pages ≡ 0) → (s : Story) → IsSoundStory door pages s
     → IsConsistent (tale_of door pages reads writes s) × (length (tale_of door pages reads writes s).start ≡ pages)
 unfolding Lawful
 tale_law doors.Shut pages reads writes none s sound = shut_law pages reads writes s (none (λ e. cc) (λ e. cc))
@@ -69,6 +69,6 @@ tale_law doors.Failed pages reads writes none s sound = shut_law pages reads wri
 
 -- the tale of each story behind a door is consistent, and has as many pages as the world
 pub tale_is_consistent : (door : Door) (pages reads writes : ℕ) → (door ≢ doors.Ready → door ≢ doors.Made → pages ≡ 0) → (told : Option Story)
-    → ForSome told (IsSound door pages) → IfSome (option_map (tale_of door pages reads writes) told) (λ t. IsConsistent t × (length t.start ≡ pages))
+    → ForSome told (IsSoundStory door pages) → IfSome (option_map (tale_of door pages reads writes) told) (λ t. IsConsistent t × (length t.start ≡ pages))
 tale_is_consistent door pages reads writes none None sound = tt
 tale_is_consistent door pages reads writes none (Some s) sound = tale_law door pages reads writes none s (sound s refl)

@@ -5,12 +5,12 @@ ghost use Rattle.quilt_world.specs.Doors.{attached, made, OpensAt, MakesAt, Take
 ghost use Rattle.quilt_world.specs.Tale.{Adds, Goes};
 ghost use Rattle.quilt_world.specs.declared.event.Event.TheVariants.{Wrote, Tore, Synced, Put};
 ghost use Rattle.quilt_world.specs.declared.disk.Door.TheVariants as doors;
-ghost use Rattle.quilt_host.specs.Paging.{KeepsFile, FailsToMake};
-ghost use Rattle.quilt_host.specs.Worlds.{tale_of, IsFresh, IsKept, IsSound};
+ghost use Rattle.quilt_host.specs.Paging.{KeepsBytes, FailsToMake};
+ghost use Rattle.quilt_host.specs.Worlds.{tale_of, IsUnasked, IsFileKept, IsSoundStory};
 ghost use Rattle.quilt_host.specs.Tales.{tale_is_consistent};
 
 use crate::failure::Failure;
-use crate::opening::{make_map, open_map};
+use crate::opened::{make_map, open_map};
 use crate::pages::{read_page, sync_pages, write_page};
 use crate::streams;
 use crate::system::System;
@@ -27,15 +27,15 @@ pub struct HostWorld<S: System> {
     writes: u64,
     faults: u64,
     ghost no_pages: { door ≢ doors.Ready → door ≢ doors.Made → pages ≡ 0 },
-    ghost sound: { ForSome (S.told system) (IsSound door pages) },
+    ghost sound: { ForSome (S.told system) (IsSoundStory door pages) },
 }
 
 impl<S: System> HostWorld<S> {
-    ghost use Rattle.quilt_host.specs.Systems.{system_of, reads_of, writes_of};
+    ghost use Rattle.quilt_host.specs.Systems.{system_of, host_reads, writes_of};
 
     /// The world before any call, over a system that has not yet opened, made or removed a file or written a line.
     pub fn new(system: S) -> HostWorld<S>
-        requires { IfSome (S.told system) IsFresh }
+        requires { IfSome (S.told system) IsUnasked }
         ensures system { system_of result ≡ system }
         ensures told { ⟦<HostWorld<S> as Disk>⟧.told result ≡ option_map (tale_of doors.Shut 0 0 0) (S.told system) }
         ensures door { ⟦<HostWorld<S> as Disk>⟧.door result ≡ doors.Shut }
@@ -56,8 +56,8 @@ impl<S: System> HostWorld<S> {
     pub fn into_system(self) -> S
         ensures system { result ≡ system_of self }
         ensures told { ⟦<HostWorld<S> as Disk>⟧.told self
-            ≡ option_map (tale_of (⟦<HostWorld<S> as Disk>⟧.door self) (⟦<HostWorld<S> as Disk>⟧.size self) (reads_of self) (writes_of self)) (S.told result) }
-        ensures kept { IfSome (S.told result) (IsKept (⟦<HostWorld<S> as Disk>⟧.door self)) }
+            ≡ option_map (tale_of (⟦<HostWorld<S> as Disk>⟧.door self) (⟦<HostWorld<S> as Disk>⟧.size self) (host_reads self) (writes_of self)) (S.told result) }
+        ensures kept { IfSome (S.told result) (IsFileKept (⟦<HostWorld<S> as Disk>⟧.door self)) }
     {
         let HostWorld {
             system,
@@ -163,7 +163,7 @@ impl<S: System> World for HostWorld<S> {
         ensures tale { Goes (OpensAt path.now (⟦<HostWorld<S> as Disk>⟧.door self.new)) (⟦<HostWorld<S> as Disk>⟧.told self.old) (⟦<HostWorld<S> as Disk>⟧.told self.new) }
 
         // No file is made, removed or changed.
-        ensures kept { Goes KeepsFile (S.told self.old.system) (S.told self.new.system) }
+        ensures kept { Goes KeepsBytes (S.told self.old.system) (S.told self.new.system) }
     {
         match open_map(&mut self.system, path) {
             Ok(opened) => {

@@ -5,7 +5,7 @@ mod act;
 mod failure;
 mod host_world;
 mod machine;
-mod opening;
+mod opened;
 mod pages;
 mod streams;
 mod system;

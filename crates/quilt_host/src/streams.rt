@@ -1,6 +1,6 @@
 ghost use Rattle.std.specs.Prelude.{◌≡◌, ◌<◌, ◌≤◌, length, take, OnErr, IfOk};
 ghost use Rattle.quilt_world.specs.Tale.{Goes};
-ghost use Rattle.quilt_host.specs.Calls.{Takes, Puts};
+ghost use Rattle.quilt_host.specs.Calls.{TakesInput, Puts};
 
 use crate::failure::Failure;
 use crate::system::System;
@@ -9,7 +9,7 @@ use crate::system::System;
 pub(crate) fn take<S: System>(system: &mut S, into: &mut [u8]) -> Result<usize, Failure>
     requires { 0 < length into.old }
     ensures count { IfOk result (λ n. n ≤ length into.old) }
-    ensures took { IfOk result (λ n. Goes (Takes (take n into.new)) (S.told system.old) (S.told system.new)) }
+    ensures took { IfOk result (λ n. Goes (TakesInput (take n into.new)) (S.told system.old) (S.told system.new)) }
     ensures nothing { OnErr result (S.told system.new ≡ S.told system.old) }
 {
     'tries: for _ in 0..u64::MAX {

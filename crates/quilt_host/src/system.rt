@@ -1,7 +1,7 @@
 ghost use Rattle.std.specs.Prelude.{◌≡◌, ◌⊎◌, ℕ, ◌<◌, ◌≤◌, Option, Ok, Err, true, false, List, map, length, take, drop, string_bytes, OnOk, OnErr, IfOk, IfSome, Some, None};
 ghost use Rattle.quilt_world.specs.Tale.{Goes};
 ghost use Rattle.quilt_host.specs.Story.{Story};
-ghost use Rattle.quilt_host.specs.Calls.{Opens, Creates, Removes, FailsToRemove, Writes, Loses, Syncs, Links, Takes, Puts, Says, SaysFront};
+ghost use Rattle.quilt_host.specs.Calls.{OpensFile, CreatesFile, Removes, FailsToRemove, WritesBytes, Loses, Syncs, Links, TakesInput, Puts, SaysLine, SaysFront};
 
 use crate::failure::Failure;
 use std::alloc::Global;
@@ -44,7 +44,7 @@ pub trait System {
 
     /// Opens the file of this path, and gives its descriptor. It makes no file and changes none.
     fn open(&mut self, path: &str, access: Access) -> Result<RawFd, Failure>
-        ensures opened { OnOk result (Goes (Opens path.now) (told self.old) (told self.new)) }
+        ensures opened { OnOk result (Goes (OpensFile path.now) (told self.old) (told self.new)) }
         ensures nothing { OnErr result (told self.new ≡ told self.old) }
         ensures missing { result ≡ Err Failure.Missing → IfSome (told self.old) (λ s. path.now ≡ s.path → s.is_there ≡ false) };
 
@@ -59,7 +59,7 @@ pub trait System {
 
     /// Makes a new file of this path, with no bytes, and gives its descriptor. It takes no path that has a file.
     fn create(&mut self, path: &str) -> Result<RawFd, Failure>
-        ensures created { OnOk result (Goes (Creates path.now) (told self.old) (told self.new)) }
+        ensures created { OnOk result (Goes (CreatesFile path.now) (told self.old) (told self.new)) }
         ensures nothing { OnErr result (told self.new ≡ told self.old) }
         ensures taken { result ≡ Err Failure.Taken → IfSome (told self.old) (λ s. path.now ≡ s.path → s.is_there ≡ true) };
 
@@ -91,7 +91,7 @@ pub trait System {
     /// but where a signal came first, nothing is done.
     fn write_at(&mut self, at: u64, bytes: &[u8]) -> Result<usize, Failure>
         ensures count { IfOk result (λ n. n ≤ length bytes.now) }
-        ensures wrote { IfOk result (λ n. 0 < n → Goes (Writes at (take n bytes.now)) (told self.old) (told self.new)) }
+        ensures wrote { IfOk result (λ n. 0 < n → Goes (WritesBytes at (take n bytes.now)) (told self.old) (told self.new)) }
         ensures none { result ≡ Ok 0 → told self.new ≡ told self.old }
         ensures lost { OnErr result (Goes (λ old new. (new ≡ old) ⊎ Loses at (length bytes.now) old new) (told self.old) (told self.new)) }
         ensures interrupted { result ≡ Err Failure.Interrupted → told self.new ≡ told self.old };
@@ -115,7 +115,7 @@ pub trait System {
     fn take(&mut self, into: &mut [u8]) -> Result<usize, Failure>
         requires { 0 < length into.old }
         ensures count { IfOk result (λ n. n ≤ length into.old) }
-        ensures took { IfOk result (λ n. Goes (Takes (take n into.new)) (told self.old) (told self.new)) }
+        ensures took { IfOk result (λ n. Goes (TakesInput (take n into.new)) (told self.old) (told self.new)) }
         ensures nothing { OnErr result (told self.new ≡ told self.old) };
 
     /// Puts a front of the bytes to standard output, and says how many.
@@ -127,6 +127,6 @@ pub trait System {
 
     /// Writes a line to standard error. Where it fails, a front of the line may be written.
     fn say(&mut self, line: &str) -> Result<(), Failure>
-        ensures said { OnOk result (Goes (Says line.now) (told self.old) (told self.new)) }
+        ensures said { OnOk result (Goes (SaysLine line.now) (told self.old) (told self.new)) }
         ensures front { OnErr result (Goes (SaysFront line.now) (told self.old) (told self.new)) };
 }

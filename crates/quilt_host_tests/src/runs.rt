@@ -1,6 +1,6 @@
 //! Runs over a system in memory, and the same over a desk.
 ghost use Rattle.std.specs.Prelude.{IfOk, IfSome};
-ghost use Rattle.quilt_host.specs.Worlds.{IsFresh};
+ghost use Rattle.quilt_host.specs.Worlds.{IsUnasked};
 
 use quilt_host::{HostWorld, System};
 use quilt_memory::Memory;
@@ -44,7 +44,7 @@ fn system_of(
     input: &[u8],
     weather: Weather,
 ) -> Result<Memory, AllocError>
-    ensures { IfOk result (λ m. IfSome (⟦<Memory as System>⟧.told m) IsFresh) }
+    ensures { IfOk result (λ m. IfSome (⟦<Memory as System>⟧.told m) IsUnasked) }
 {
     let there = if file.is_empty() { None } else { Some(file) };
     let mut system = Memory::new(alloc, &[], "m", there, input)?;
@@ -59,7 +59,7 @@ fn system_of(
 
 /// Does what the words ask for over the system.
 fn done<R: Threads + Sync>(rt: &R, alloc: Global, words: &[&str], system: Memory) -> (End, Memory)
-    requires { IfSome (⟦<Memory as System>⟧.told system) IsFresh }
+    requires { IfSome (⟦<Memory as System>⟧.told system) IsUnasked }
 {
     let (end, world) = run_quilt(rt, alloc, words, HostWorld::new(system));
     (end, world.into_system())

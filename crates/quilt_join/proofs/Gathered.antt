@@ -13,7 +13,7 @@ use Rattle.std.specs.FinMap as finmap
 use Rattle.quilt_types.specs.Layers.{SegMap}
 use Rattle.quilt_types.specs.Crossings.{shares, crossings}
 use Rattle.quilt_join.specs.declared.rows.Row.{Row}
-use Rattle.quilt_join.specs.Pairs.{ids_sharing, pairs_with, crossings_of, most, IsAnswer}
+use Rattle.quilt_join.specs.Pairs.{ids_sharing, pairs_with, crossings_of, most, IsPairAnswer}
 use Rattle.quilt_join.specs.Rows.{IsSharingRow}
 
 module _ {X Y : Type 0} (R : X → Y → Type 0) (E : Type 0) where
@@ -112,7 +112,7 @@ are_many a b all after lt is = let e = rows_counted a b in omega arith
 -- nothing is left
 pub all_listed : (a b rest : List (ℕ × Seg)) (pairs : List (ℕ × ℕ)) (total : ℕ) → length rest ≡ 0 → total ≤ most
     → total + sum (map (λ e. length (ids_sharing e.1 b)) rest) ≡ sum (map (λ e. length (ids_sharing e.1 b)) a)
-    → pairs ++ crossings_of rest b ≡ crossings_of a b → IsAnswer (crossings_of a b) (Some pairs)
+    → pairs ++ crossings_of rest b ≡ crossings_of a b → IsPairAnswer (crossings_of a b) (Some pairs)
 all_listed a b [] pairs total none few counted listed =
     let e = rows_counted a b in (sym (append-nil pairs) ∙ listed, (omega arith))
 all_listed a b (e ∷ rest) pairs total none few counted listed = absurd (omega arith)

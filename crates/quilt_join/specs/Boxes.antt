@@ -8,7 +8,7 @@ abbrev pub span_at : ℕ → Seg → Span
 span_at w s = record { left = min s.x1 s.x2 / w; right = max s.x1 s.x2 / w; top = min s.y1 s.y2 / w; bottom = max s.y1 s.y2 / w }
 
 -- the columns and the rows are in order
-pub record IsSpan (p : Span) : Type 0 where
+pub record IsBox (p : Span) : Type 0 where
   pub columns : p.left ≤ p.right
   pub rows : p.top ≤ p.bottom
 

@@ -20,6 +20,6 @@ abbrev pub most : ℕ
 most = 1000000
 
 -- all pairs, or nothing where there are more than the most
-abbrev pub IsAnswer : List (ℕ × ℕ) → Option (List (ℕ × ℕ)) → Type 0
-IsAnswer all None = most < length all
-IsAnswer all (Some list) = (list ≡ all) × (length all ≤ most)
+abbrev pub IsPairAnswer : List (ℕ × ℕ) → Option (List (ℕ × ℕ)) → Type 0
+IsPairAnswer all None = most < length all
+IsPairAnswer all (Some list) = (list ≡ all) × (length all ≤ most)

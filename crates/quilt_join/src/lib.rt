@@ -2,13 +2,13 @@
 #![tactic(auto)]
 
 mod buckets;
-mod choosing;
-mod joining;
+mod join;
+mod overlap;
 mod pairs;
 mod rows;
-mod sharing;
+mod shift;
 mod span;
 
-pub use joining::crossings;
+pub use join::crossings;
+pub use overlap::shares;
 pub use pairs::PairList;
-pub use sharing::shares;

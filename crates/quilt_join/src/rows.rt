@@ -7,8 +7,8 @@ ghost use Rattle.quilt_join.specs.Serving.{Serves};
 ghost use Rattle.quilt_join.specs.Rows.{IsSharingRow};
 
 use crate::buckets::Buckets;
+use crate::overlap::shares;
 use crate::pairs::PairList;
-use crate::sharing::shares;
 use crate::span::Span;
 use quilt_types::Seg;
 use std::alloc::{AllocError, Global};

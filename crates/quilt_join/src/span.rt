@@ -1,5 +1,5 @@
 ghost use Rattle.std.specs.Prelude.{◌≡◌, ◌^◌, ◌≤◌, ◌<◌};
-ghost use Rattle.quilt_join.specs.Boxes.{span_at, IsSpan, count as count_of, number_at};
+ghost use Rattle.quilt_join.specs.Boxes.{span_at, IsBox, count as count_of, number_at};
 
 use quilt_types::Seg;
 
@@ -17,7 +17,7 @@ impl Span {
     pub fn of(s: Seg, shift: u32) -> Span
         requires { shift < 16 }
         ensures value { result ≡ span_at (2 ^ shift) s }
-        ensures order { IsSpan result }
+        ensures order { IsBox result }
     {
         Span {
             left: s.x1.min(s.x2) >> shift,
@@ -29,7 +29,7 @@ impl Span {
 
     /// How many blocks there are.
     pub fn count(self) -> usize
-        requires { IsSpan self }
+        requires { IsBox self }
         ensures { result ≡ count_of self }
     {
         let width = usize::from(self.right - self.left) + 1;
@@ -39,7 +39,7 @@ impl Span {
 
     /// The number of the block at this place, row by row, where a row of the square has this many blocks.
     pub fn number(self, columns: usize, place: usize) -> usize
-        requires order { IsSpan self }
+        requires order { IsBox self }
         requires most { columns ≤ 4096 }
         requires place { place < count_of self }
         ensures { result ≡ number_at self columns place }

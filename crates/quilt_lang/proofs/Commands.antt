@@ -12,8 +12,8 @@ use Rattle.quilt_words.specs.Made.{further_of, nothing_further}
 use Rattle.quilt_words.proofs.SpelledLaws.{spelled_fits}
 use Rattle.quilt_lang.specs.declared.asked.Asked.{Asked}
 use Rattle.quilt_lang.specs.declared.asked.Asked.TheVariants as kinds
-use Rattle.quilt_lang.specs.declared.commanding.LineCommand.{LineCommand}
-use Rattle.quilt_lang.specs.declared.commanding.LineCommand.TheVariants as commands_of
+use Rattle.quilt_lang.specs.declared.command_front.LineCommand.{LineCommand}
+use Rattle.quilt_lang.specs.declared.command_front.LineCommand.TheVariants as commands_of
 use Rattle.quilt_lang.specs.Reading.{Gives, GivesCommand, Unread}
 use Rattle.quilt_lang.specs.Cutting.{Cuts, CutsUpTo, IsAsked, grouped, holding}
 use Rattle.quilt_lang.specs.Commanding.{IsLineCommand, IsWordsCommand}

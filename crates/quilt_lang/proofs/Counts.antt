@@ -9,8 +9,8 @@ use Rattle.quilt_lang.specs.declared.asked.Asked.{Asked}
 use Rattle.quilt_lang.specs.declared.progress.CutLines.{CutLines}
 use Rattle.quilt_words.specs.Items.{asked, is_silent, whole_lines, words_of}
 use Rattle.quilt_lang.specs.Reading.{HasNewline, HasNone, IsLine}
-use Rattle.quilt_lang.specs.Cutting.{Cuts, CutsUpTo, IsAsked, number_of}
-use Rattle.quilt_lang.specs.Progress.{IsCount, IsFirst, IsUncut, IsWaiting}
+use Rattle.quilt_lang.specs.Cutting.{Cuts, CutsUpTo, IsAsked, further_count}
+use Rattle.quilt_lang.specs.Progress.{IsCount, IsFrontLine, IsUncut, IsWaiting}
 use Rattle.quilt_lang.proofs.LineLaws.{whole_none}
 use Rattle.quilt_lang.proofs.Groups.{cuts_line, cuts_none, fronts_then, front_cuts, front_none}
 
@@ -87,7 +87,7 @@ uncut_kept scanned kept known rest bytes piece so within least put =
     }))
 
 -- a text whose first line is cut
-pub first_whole : (n line : ℕ) (what : Asked) (text : List ℕ) → IsFirst false n line what text
+pub first_whole : (n line : ℕ) (what : Asked) (text : List ℕ) → IsFrontLine false n line what text
     → whole_lines text ≡ take line text ∷ whole_lines (drop (line + 1) text)
 first_whole n line what text so = rw (append-nil text, append-nil (drop (line + 1) text)) at (so.cuts.whole refl [])
 
@@ -165,9 +165,9 @@ lines_there false count taken text new more there = elim (cases_Bool (length tak
 ]
 
 -- and where there are fewer, the item waits
-pub count_waits : (n line : ℕ) (what : Asked) (cut : CutLines) (text : List ℕ) → IsFirst false n line what text
-    → IsCount (number_of n what) cut (drop (line + 1) text) →
-    (cut.count == number_of n what) ≡ false → (cut.count < number_of n what → whole_lines (drop cut.len (drop (line + 1) text)) ≡ []) → HasNone false n text
+pub count_waits : (n line : ℕ) (what : Asked) (cut : CutLines) (text : List ℕ) → IsFrontLine false n line what text
+    → IsCount (further_count n what) cut (drop (line + 1) text) →
+    (cut.count == further_count n what) ≡ false → (cut.count < further_count n what → whole_lines (drop cut.len (drop (line + 1) text)) ≡ []) → HasNone false n text
 count_waits n line what cut text first so other stops =
     let behind : List ℕ = drop (line + 1) text in
     front_none false n what (take line text) text behind (drop cut.len behind) so.lines first.loud first.cuts first.asks
@@ -176,7 +176,7 @@ count_waits n line what cut text first so other stops =
       few = omega (arith, so.few, so.number);
       stops = λ few. stops (omega (arith, few, so.number));
     })
-    (ap (λ (m : ℕ). m == number_of n what) so.number ∙ other)
+    (ap (λ (m : ℕ). m == further_count n what) so.number ∙ other)
 
 -- what is cut so far of a text whose front is kept, whatever is put behind it
 kept_front : (k m : ℕ) (text u : List ℕ) → k ≤ m → m ≤ length text → take k (take m text ++ u) ≡ take k text
@@ -213,8 +213,8 @@ count_kept most known m cut text u so less is =
           (omega (arith, less)) rest;
     }
 
-first_kept : (n line : ℕ) (what : Asked) (m : ℕ) (text u : List ℕ) → IsFirst false n line what text → line + 1 ≤ m → m ≤ length text
-    → IsFirst false n line what (take m text ++ u)
+first_kept : (n line : ℕ) (what : Asked) (m : ℕ) (text u : List ℕ) → IsFrontLine false n line what text → line + 1 ≤ m → m ≤ length text
+    → IsFrontLine false n line what (take m text ++ u)
 first_kept n line what m text u so less within =
     let new : List ℕ = take m text ++ u in
     let same : take line text ≡ take line new = sym (kept_front line m text u (omega (arith, less)) within) in
@@ -232,8 +232,8 @@ first_kept n line what m text u so less within =
       asks = subst (λ (l : List ℕ). IsAsked n (asked n l) (words_of l) what) same so.asks;
     }
 
-pub waiting_kept : (n line known m : ℕ) (what : Asked) (cut : CutLines) (text u : List ℕ) → IsFirst false n line what text
-    → IsCount (number_of n what) cut (drop (line + 1) text) → known ≤ cut.scanned → m ≡ line + 1 + cut.len + known →
+pub waiting_kept : (n line known m : ℕ) (what : Asked) (cut : CutLines) (text u : List ℕ) → IsFrontLine false n line what text
+    → IsCount (further_count n what) cut (drop (line + 1) text) → known ≤ cut.scanned → m ≡ line + 1 + cut.len + known →
     IsWaiting false n (record { line = line; what = what; cut = record { count = cut.count; len = cut.len; scanned = known } }) (take m text ++ u)
 waiting_kept n line known m what cut text u first so less is =
     let behind : List ℕ = drop (line + 1) text in
@@ -245,6 +245,6 @@ waiting_kept n line known m what cut text u first so less is =
     let new : CutLines = record { count = cut.count; len = cut.len; scanned = known } in
     record {
       first = first_kept n line what m text u first (omega (arith, is)) within;
-      further = subst (λ (t : List ℕ). IsCount (number_of n what) new t) (sym rest)
-          (count_kept (number_of n what) known (m - (line + 1)) cut behind u so less (omega (arith, is)));
+      further = subst (λ (t : List ℕ). IsCount (further_count n what) new t) (sym rest)
+          (count_kept (further_count n what) known (m - (line + 1)) cut behind u so less (omega (arith, is)));
     }

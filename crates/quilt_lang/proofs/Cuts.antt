@@ -4,7 +4,7 @@ use Rattle.std.proofs.Common.{Option, Some, None, sym, ◌∙◌, ap, arith, len
 use Rattle.std.proofs.lemmas.List.{get_or-take, get_or_default, take-append-drop, drop_more}
 use Rattle.std.proofs.lemmas.Bool.{eqb-true, cases_Bool}
 use Rattle.memchr.specs.Find.{IsFirstByte, is_byte}
-use Rattle.quilt_lang.specs.Reading.{IsCut}
+use Rattle.quilt_lang.specs.Reading.{IsNewlineFound}
 
 -- no byte passes where none is found
 not_newline : (bytes : List ℕ) (j d : ℕ) → j < length bytes → ((get_or bytes j 0 == 10) ≡ true → ⊥) → (get_or bytes j d == 10) ≡ false
@@ -18,7 +18,7 @@ split_at bytes k within is =
     sym (take-append-drop k bytes) ∙ ap (λ (l : List ℕ). take k bytes ++ l) (drop_more bytes k 0 within)
     ∙ ap (λ (c : ℕ). take k bytes ++ c ∷ drop (k + 1) bytes) (eqb-true (get_or bytes k 0) 10 is)
 
-pub cut : (bytes : List ℕ) (r : Option ℕ) → IsFirstByte (is_byte 10) bytes r → IsCut bytes r
+pub cut : (bytes : List ℕ) (r : Option ℕ) → IsFirstByte (is_byte 10) bytes r → IsNewlineFound bytes r
 cut bytes None none = λ j d below. not_newline bytes j d below (none j (omega arith) below)
 cut bytes (Some k) at = record {
   within = at.0.high;

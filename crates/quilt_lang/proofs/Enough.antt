@@ -13,8 +13,8 @@ use Rattle.quilt_lang.specs.declared.progress.Waiting.{Waiting}
 use Rattle.quilt_lang.specs.declared.progress.Progress.TheVariants as progresses
 use Rattle.quilt_lang.specs.Reading.{Gives, IsLine, begins_silent, first_is_silent, enough_of, limit_behind, point_limit, unfinished}
 use Rattle.quilt_lang.specs.Shortening.{bounds}
-use Rattle.quilt_lang.specs.Cutting.{Cuts, CutsUpTo, IsAsked, grouped, limit_of, number_of}
-use Rattle.quilt_lang.specs.Progress.{IsCount, IsFirst, IsKept, IsWaiting}
+use Rattle.quilt_lang.specs.Cutting.{Cuts, CutsUpTo, IsAsked, grouped, limit_of, further_count}
+use Rattle.quilt_lang.specs.Progress.{IsCount, IsFrontLine, KeepsUnfinished, IsWaiting}
 use Rattle.quilt_lang.proofs.Asking.{other_word}
 use Rattle.quilt_lang.proofs.Counts.{first_whole, uncut_all, uncut_kept, waiting_kept}
 use Rattle.quilt_lang.proofs.Groups.{fronts_then, front_cuts, front_gives}
@@ -25,7 +25,7 @@ use Rattle.quilt_lang.proofs.Shortened.{Wants, gives_cut}
 use Rattle.quilt_lang.proofs.Unfinished.{unfinished_all, unfinished_none, unfinished_part, whole_kept}
 
 -- a line that is not whole, with nothing before it
-pub kept_begun : (n m : ℕ) (text : List ℕ) → IsLine text → m ≡ min (length text) (line_limit + 1) → IsKept n text (progresses.Begun m)
+pub kept_begun : (n m : ℕ) (text : List ℕ) → IsLine text → m ≡ min (length text) (line_limit + 1) → KeepsUnfinished n text (progresses.Begun m)
 kept_begun n m text none is =
     let all : length (unfinished text) ≡ length text = ap length (unfinished_all text none) in
     let limit : limit_behind (whole_lines text) ≡ Some line_limit = ap limit_behind (whole_none text none) in
@@ -43,7 +43,7 @@ kept_begun n m text none is =
     }
 
 -- what the first line asks for says how long the lines behind it may be
-limit_is : (n count : ℕ) (line : List ℕ) (ls : List (List ℕ)) (what : Asked) → IsAsked n count (words_of line) what → 0 < number_of n what
+limit_is : (n count : ℕ) (line : List ℕ) (ls : List (List ℕ)) (what : Asked) → IsAsked n count (words_of line) what → 0 < further_count n what
     → limit_behind (line ∷ ls) ≡ limit_of what
 limit_is n count line ls kinds.Nothing so some = absurd (omega (arith, some))
 limit_is n count line ls kinds.Rows so some =
@@ -61,7 +61,7 @@ bounds_limit (kinds.Points k) count b is = let same : Some (point_limit, k - cou
 bounds_limit (kinds.Rings k) count b is = let same : Some (line_limit, k - count) ≡ Some b = is in let pair : (line_limit, k - count) ≡ b = cc in
     ap (λ (p : ℕ × ℕ). Some p.0) pair
 
-bounds_missing : (n : ℕ) (what : Asked) (count : ℕ) (b : ℕ × ℕ) → bounds what count ≡ Some b → number_of n what - count ≡ b.1
+bounds_missing : (n : ℕ) (what : Asked) (count : ℕ) (b : ℕ × ℕ) → bounds what count ≡ Some b → further_count n what - count ≡ b.1
 bounds_missing n kinds.Nothing count b is = absurd (let bad : None ≡ Some b = is in cc)
 bounds_missing n kinds.Rows count b is = absurd (let bad : None ≡ Some b = is in cc)
 bounds_missing n (kinds.Points k) count b is = let same : Some (point_limit, k - count) ≡ Some b = is in let pair : (point_limit, k - count) ≡ b = cc in
@@ -69,7 +69,7 @@ bounds_missing n (kinds.Points k) count b is = let same : Some (point_limit, k -
 bounds_missing n (kinds.Rings k) count b is = let same : Some (line_limit, k - count) ≡ Some b = is in let pair : (line_limit, k - count) ≡ b = cc in
     ap (λ (p : ℕ × ℕ). p.1) pair
 
-limit_bounds : (n : ℕ) (what : Asked) (count most : ℕ) → limit_of what ≡ Some most → bounds what count ≡ Some (most, number_of n what - count)
+limit_bounds : (n : ℕ) (what : Asked) (count most : ℕ) → limit_of what ≡ Some most → bounds what count ≡ Some (most, further_count n what - count)
 limit_bounds n kinds.Nothing count most is = absurd (let bad : None ≡ Some most = is in cc)
 limit_bounds n kinds.Rows count most is = absurd (let bad : None ≡ Some most = is in cc)
 limit_bounds n (kinds.Points k) count most is = let same : Some point_limit ≡ Some most = is in let equal : point_limit ≡ most = cc in
@@ -81,8 +81,8 @@ abbrev first_line : List ℕ → List (List ℕ) → List ℕ
 first_line d [] = d
 first_line d (l ∷ ls) = l
 
-module _ (n line : ℕ) (what : Asked) (cut : CutLines) (text : List ℕ) (first : IsFirst false n line what text)
-    (so : IsCount (number_of n what) cut (drop (line + 1) text)) (given : whole_items n text ≡ []) where
+module _ (n line : ℕ) (what : Asked) (cut : CutLines) (text : List ℕ) (first : IsFrontLine false n line what text)
+    (so : IsCount (further_count n what) cut (drop (line + 1) text)) (given : whole_items n text ≡ []) where
   abbrev behind : List ℕ
   behind = drop (line + 1) text
 
@@ -100,20 +100,20 @@ module _ (n line : ℕ) (what : Asked) (cut : CutLines) (text : List ℕ) (first
   last_is = drop-drop cut.len (line + 1) text
 
   -- not all further lines stand there
-  pub few : cut.count < number_of n what
-  few = elim (cases_Bool (cut.count == number_of n what)) [
-    | inr other ↦ omega (arith, so.few, eqb-false cut.count (number_of n what) other)
+  pub few : cut.count < further_count n what
+  few = elim (cases_Bool (cut.count == further_count n what)) [
+    | inr other ↦ omega (arith, so.few, eqb-false cut.count (further_count n what) other)
     | inl is ↦
         let lines : List (List ℕ) = so.lines in
-        let all : length lines ≡ number_of n what = so.number ∙ eqb-true cut.count (number_of n what) is in
-        let more : CutsUpTo false (number_of n what) lines behind (drop cut.len behind) = record {
+        let all : length lines ≡ further_count n what = so.number ∙ eqb-true cut.count (further_count n what) is in
+        let more : CutsUpTo false (further_count n what) lines behind (drop cut.len behind) = record {
           cuts = front_cuts lines cut.len behind so.cuts;
           few = omega (arith, all);
           stops = λ less. absurd (omega (arith, less, all));
         } in
         let gives : Gives false n (grouped (take line text) lines ∷ []) text (drop cut.len behind) =
         front_gives false n what (take line text) text behind (drop cut.len behind) lines first.loud first.cuts first.asks more
-        (eq-eqb (length lines) (number_of n what) all) in
+        (eq-eqb (length lines) (further_count n what) all) in
         let whole : map (held 1 n) (whole_items n (text ++ [])) ≡ held 1 n (grouped (take line text) lines)
         ∷ map (held 1 n) (whole_items n (drop cut.len behind ++ [])) = gives.whole refl [] 1 in
         let none : map (held 1 n) (whole_items n (text ++ [])) ≡ [] = ap (λ (t : List ℕ). map (held 1 n) (whole_items n t)) (append-nil text)
@@ -170,7 +170,7 @@ module _ (n line : ℕ) (what : Asked) (cut : CutLines) (text : List ℕ) (first
     ]
 
     pub kept_waits : (known : ℕ) → known ≡ enough_of (limit_of what) cut.scanned →
-        IsKept n text (progresses.Waiting (record { line = line; what = what; cut = record { count = cut.count; len = cut.len; scanned = known } }))
+        KeepsUnfinished n text (progresses.Waiting (record { line = line; what = what; cut = record { count = cut.count; len = cut.len; scanned = known } }))
     kept_waits known is =
         let few_known : known ≤ cut.scanned = enough_few (limit_of what) cut.scanned known is in
         let open_ : unfinished text ≡ last =
@@ -212,9 +212,9 @@ module _ (n line : ℕ) (what : Asked) (cut : CutLines) (text : List ℕ) (first
           bounds = λ other more most lines limited.
               let same : take line text ∷ so.lines ≡ other ∷ more = sym lines_all ∙ lines in
               let first_is : take line text ≡ other = ap (first_line []) same in
-              let asked_is : asked n other ≡ number_of n what = ap (asked n) (sym first_is) ∙ first.asks.number in
+              let asked_is : asked n other ≡ further_count n what = ap (asked n) (sym first_is) ∙ first.asks.number in
               let count_is : cut.count ≡ length more = omega (arith, ap length same, so.number) in
-              let to : bounds what cut.count ≡ Some (most, number_of n what - cut.count) = limit_bounds n what cut.count most (sym limit ∙ limited) in
+              let to : bounds what cut.count ≡ Some (most, further_count n what - cut.count) = limit_bounds n what cut.count most (sym limit ∙ limited) in
               to ∙ ap (λ (k : ℕ). Some (most, k)) (omega (arith, asked_is, count_is));
           short = omega (arith, size, open_size, most);
           behind = λ piece. waiting_kept n line known (from + known) what cut text piece first so few_known refl;

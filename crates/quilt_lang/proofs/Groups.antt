@@ -6,7 +6,7 @@ use Rattle.std.proofs.lemmas.Bool.{eqb-true, eqb-false, eq-eqb, ne_eqb}
 use Rattle.quilt_lang.specs.declared.asked.Asked.{Asked}
 use Rattle.quilt_words.specs.Items.{Group, asked, is_complete, is_silent, groups_from, items_of, lines_of, whole_items, whole_lines, words_of}
 use Rattle.quilt_lang.specs.Reading.{Gives, HasNone, HasNewline, IsLine}
-use Rattle.quilt_lang.specs.Cutting.{Cuts, CutsUpTo, HasNoLine, IsAsked, grouped, number_of}
+use Rattle.quilt_lang.specs.Cutting.{Cuts, CutsUpTo, HasNoLine, IsAsked, grouped, further_count}
 use Rattle.quilt_lang.proofs.LineLaws.{groups_loud, lines_line, whole_line, whole_none, last_line, no_lines, silent_nothing}
 use Rattle.quilt_lang.proofs.Pieces.{gives_of, drop_min}
 use Rattle.quilt_words.proofs.Slices.{behind}
@@ -188,20 +188,20 @@ met true n k line taken text behind new loud number first more is = elim (cases_
 -- the item at the front of a text
 pub front_gives : (e : Bool) (n : ℕ) (what : Asked) (line text behind new : List ℕ) (taken : List (List ℕ)) → is_silent line ≡ false
     → Cuts e (line ∷ []) text behind →
-    IsAsked n (asked n line) (words_of line) what → CutsUpTo e (number_of n what) taken behind new → (e || (length taken == number_of n what)) ≡ true →
+    IsAsked n (asked n line) (words_of line) what → CutsUpTo e (further_count n what) taken behind new → (e || (length taken == further_count n what)) ≡ true →
     Gives e n (grouped line taken ∷ []) text new
 front_gives e n what line text behind new taken loud first asks more is =
-    met e n (number_of n what) line taken text behind new loud asks.number first more is
+    met e n (further_count n what) line taken text behind new loud asks.number first more is
 
 -- and where it waits for further lines
 pub front_none : (e : Bool) (n : ℕ) (what : Asked) (line text behind new : List ℕ) (taken : List (List ℕ)) → is_silent line ≡ false
     → Cuts e (line ∷ []) text behind →
-    IsAsked n (asked n line) (words_of line) what → CutsUpTo e (number_of n what) taken behind new
-    → (e || (length taken == number_of n what)) ≡ false → HasNone e n text
+    IsAsked n (asked n line) (words_of line) what → CutsUpTo e (further_count n what) taken behind new
+    → (e || (length taken == further_count n what)) ≡ false → HasNone e n text
 front_none true n what line text behind new taken loud first asks more is = absurd (let bad : true ≡ false = is in cc)
 front_none false n what line text behind new taken loud first asks more is =
-    let few : length taken < number_of n what = omega (arith, more.few, eqb-false (length taken) (number_of n what) is) in
-    let cuts : Cuts false (line ∷ taken) text new = both_cuts false (number_of n what) text line behind new taken first more in
+    let few : length taken < further_count n what = omega (arith, more.few, eqb-false (length taken) (further_count n what) is) in
+    let cuts : Cuts false (line ∷ taken) text new = both_cuts false (further_count n what) text line behind new taken first more in
     let lines : whole_lines text ≡ (line ∷ taken) ++ whole_lines new = rw (append-nil text, append-nil new) at (cuts.whole refl []) in
     whole_short n line taken text loud (omega (arith, few, asks.number)) (lines ∙ ap (λ (l : List (List ℕ)). (line ∷ taken) ++ l) (more.stops few)
     ∙ append-nil (line ∷ taken))

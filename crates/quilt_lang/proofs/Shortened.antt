@@ -9,7 +9,7 @@ use Rattle.quilt_words.specs.Items.{ring_of, rings_joined, whole_items, whole_li
 use Rattle.quilt_lang.specs.declared.asked.Asked.{Asked}
 use Rattle.quilt_lang.specs.declared.asked.Asked.TheVariants as kinds
 use Rattle.quilt_lang.specs.Reading.{Gives, IsLine, Same, point_limit, unfinished}
-use Rattle.quilt_lang.specs.Cutting.{IsAsked, grouped, holding, limit_of, number_of}
+use Rattle.quilt_lang.specs.Cutting.{IsAsked, grouped, holding, limit_of, further_count}
 use Rattle.quilt_lang.proofs.LineLaws.{groups_loud}
 use Rattle.quilt_lang.proofs.Long.{first_of, later_of, long_item, onto, pieces}
 use Rattle.quilt_lang.proofs.Asking.{holds}
@@ -87,11 +87,11 @@ pub record Wants (n lim : ℕ) (text : List ℕ) : Type 0 where
   pub lines : whole_lines text ≡ line ∷ more
   pub loud : is_silent line ≡ false
   pub asks : IsAsked n (asked n line) (words_of line) what
-  pub few : length more < number_of n what
+  pub few : length more < further_count n what
   pub limit : limit_of what ≡ Some lim
 
 module _ (n lim : ℕ) (line : List ℕ) (more : List (List ℕ)) (what : Asked) (loud : is_silent line ≡ false)
-    (asks : IsAsked n (asked n line) (words_of line) what) (few : length more < number_of n what) (limit : limit_of what ≡ Some lim)
+    (asks : IsAsked n (asked n line) (words_of line) what) (few : length more < further_count n what) (limit : limit_of what ≡ Some lim)
     (l m : List ℕ) (long_l : lim < length l) (long_m : lim < length m) where
   -- how many are wanted behind it
   abbrev left : ℕ

@@ -3,10 +3,10 @@ use Rattle.std.specs.Prelude.{◌≡◌, ℕ, ◌≤◌, Bool, List, [], length,
 use Rattle.quilt_words.specs.Items.{asked, asked_by, held, words_of}
 use Rattle.quilt_words.specs.Forms.{form, form_of_words}
 use Rattle.quilt_words.specs.Made.{nothing_further}
-use Rattle.quilt_lang.specs.declared.commanding.CommandFront.{CommandFront}
-use Rattle.quilt_lang.specs.declared.commanding.CommandFront.TheVariants as fronts
-use Rattle.quilt_lang.specs.declared.commanding.LineCommand.{LineCommand}
-use Rattle.quilt_lang.specs.declared.commanding.LineCommand.TheVariants as commands_of
+use Rattle.quilt_lang.specs.declared.command_front.CommandFront.{CommandFront}
+use Rattle.quilt_lang.specs.declared.command_front.CommandFront.TheVariants as fronts
+use Rattle.quilt_lang.specs.declared.command_front.LineCommand.{LineCommand}
+use Rattle.quilt_lang.specs.declared.command_front.LineCommand.TheVariants as commands_of
 use Rattle.quilt_lang.specs.Reading.{GivesCommand, HasNone}
 use Rattle.quilt_lang.specs.Cutting.{IsAsked, grouped}
 use Rattle.quilt_lang.specs.Progress.{IsProgress}

@@ -29,11 +29,11 @@ pub record CutsUpTo (ended : Bool) (count : ℕ) (lines : List (List ℕ)) (old 
   pub stops : length lines < count → HasNoLine ended new
 
 -- how many further lines they are
-abbrev pub number_of : ℕ → Asked → ℕ
-number_of n kinds.Nothing = 0
-number_of n kinds.Rows = side n
-number_of n (kinds.Points k) = k
-number_of n (kinds.Rings k) = k
+abbrev pub further_count : ℕ → Asked → ℕ
+further_count n kinds.Nothing = 0
+further_count n kinds.Rows = side n
+further_count n (kinds.Points k) = k
+further_count n (kinds.Rings k) = k
 
 -- the most bytes that one of them may have; a row has no such bound
 abbrev pub limit_of : Asked → Option ℕ
@@ -51,7 +51,7 @@ IsAsking ws (kinds.Rings k) = (0 < k) × (begins_with ws (codes "polygon") ≡ t
 
 -- these are what words ask for that ask for so many lines
 pub record IsAsked (n count : ℕ) (ws : List (List ℕ)) (what : Asked) : Type 0 where
-  pub number : count ≡ number_of n what
+  pub number : count ≡ further_count n what
   pub kind : IsAsking ws what
 
 -- what a line holds with these further lines, where it asks for such

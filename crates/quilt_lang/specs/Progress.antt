@@ -7,12 +7,12 @@ use Rattle.quilt_lang.specs.declared.progress.Progress.{Progress}
 use Rattle.quilt_lang.specs.declared.progress.Progress.TheVariants as progresses
 use Rattle.quilt_lang.specs.declared.front.Front.{Front}
 use Rattle.quilt_lang.specs.declared.front.Front.TheVariants as fronts
-use Rattle.quilt_lang.specs.declared.cutting.FirstLine.{FirstLine}
-use Rattle.quilt_lang.specs.declared.cutting.FirstLine.TheVariants as firsts
+use Rattle.quilt_lang.specs.declared.first_line.FirstLine.{FirstLine}
+use Rattle.quilt_lang.specs.declared.first_line.FirstLine.TheVariants as firsts
 use Rattle.quilt_words.specs.Items.{asked, is_silent, whole_lines, words_of}
 use Rattle.quilt_lang.specs.Reading.{Gives, GivesItem, HasNone, IsLine, begins_silent, kept_limit, limit_behind, unfinished}
 use Rattle.quilt_lang.specs.Shortening.{Misses, bounds_of}
-use Rattle.quilt_lang.specs.Cutting.{Cuts, IsAsked, number_of}
+use Rattle.quilt_lang.specs.Cutting.{Cuts, IsAsked, further_count}
 
 -- so many bytes at the front have no newline
 pub record IsUncut (scanned : ℕ) (text : List ℕ) : Type 0 where
@@ -30,7 +30,7 @@ pub record IsCount (most : ℕ) (cut : CutLines) (text : List ℕ) : Type 0 wher
   pub behind : IsUncut cut.scanned (drop cut.len text)
 
 -- the first line has so many bytes, begins an item and asks for this
-pub record IsFirst (ended : Bool) (n : ℕ) (line : ℕ) (what : Asked) (text : List ℕ) : Type 0 where
+pub record IsFrontLine (ended : Bool) (n : ℕ) (line : ℕ) (what : Asked) (text : List ℕ) : Type 0 where
   pub within : line ≤ length text
   pub whole : ended ≡ false → line < length text
   pub cuts : Cuts ended (take line text ∷ []) text (drop (line + 1) text)
@@ -40,8 +40,8 @@ pub record IsFirst (ended : Bool) (n : ℕ) (line : ℕ) (what : Asked) (text : 
 
 -- the first line is cut, and so far these lines behind it
 pub record IsWaiting (ended : Bool) (n : ℕ) (waiting : Waiting) (text : List ℕ) : Type 0 where
-  pub first : IsFirst ended n waiting.line waiting.what text
-  pub further : IsCount (number_of n waiting.what) waiting.cut (drop (waiting.line + 1) text)
+  pub first : IsFrontLine ended n waiting.line waiting.what text
+  pub further : IsCount (further_count n waiting.what) waiting.cut (drop (waiting.line + 1) text)
 
 -- the item at the front is cut so far
 abbrev pub IsProgress : ℕ → Progress → List ℕ → Type 0
@@ -66,7 +66,7 @@ told_len (progresses.Waiting waiting) = waiting.line + 1 + waiting.cut.len + wai
 -- So many bytes of a rest are kept that waits for more: it holds the same with them alone, they are no more than may be kept, and
 -- the item at the front is cut so far, whatever follows them. All lines stand there that end with a newline, and what is known of
 -- further lines is how many are missing, where they have a greatest length.
-pub record IsKept (n : ℕ) (rest : List ℕ) (progress : Progress) : Type 0 where
+pub record KeepsUnfinished (n : ℕ) (rest : List ℕ) (progress : Progress) : Type 0 where
   pub within : told_len progress ≤ length rest
   pub gives : Gives false n [] rest (take (told_len progress) rest)
   pub short : told_len progress ≤ kept_limit rest

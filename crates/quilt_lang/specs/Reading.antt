@@ -59,9 +59,9 @@ pub record HasNewline (bytes : List ℕ) (k : ℕ) : Type 0 where
   pub is : bytes ≡ take k bytes ++ 10 ∷ drop (k + 1) bytes
 
 -- where the first newline stands, if there is one
-abbrev pub IsCut : List ℕ → Option ℕ → Type 0
-IsCut bytes None = IsLine bytes
-IsCut bytes (Some k) = HasNewline bytes k
+abbrev pub IsNewlineFound : List ℕ → Option ℕ → Type 0
+IsNewlineFound bytes None = IsLine bytes
+IsNewlineFound bytes (Some k) = HasNewline bytes k
 
 -- the first of these lines is there, and begins no item
 abbrev pub first_is_silent : List (List ℕ) → Bool

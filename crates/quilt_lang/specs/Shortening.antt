@@ -6,7 +6,7 @@ use Rattle.quilt_lang.specs.declared.asked.Asked.TheVariants as kinds
 use Rattle.quilt_lang.specs.declared.progress.Progress.{Progress}
 use Rattle.quilt_lang.specs.declared.progress.Progress.TheVariants as progresses
 use Rattle.quilt_lang.specs.Reading.{Gives, limit_behind, point_limit, unfinished}
-use Rattle.quilt_lang.specs.Cutting.{IsAsked, limit_of, number_of}
+use Rattle.quilt_lang.specs.Cutting.{IsAsked, limit_of, further_count}
 
 -- the first line begins an item that asks for further lines of at most so many bytes, of which so many are missing
 pub record Misses (n most missing : ℕ) (text : List ℕ) : Type 0 where
@@ -16,7 +16,7 @@ pub record Misses (n most missing : ℕ) (text : List ℕ) : Type 0 where
   pub lines : whole_lines text ≡ line ∷ more
   pub loud : is_silent line ≡ false
   pub asks : IsAsked n (asked n line) (words_of line) what
-  pub number : length more + missing ≡ number_of n what
+  pub number : length more + missing ≡ further_count n what
   pub limit : limit_of what ≡ Some most
 
 -- The new text has the whole lines of the old one and others behind them, and of the first of these, so many, each has at most twice as
@@ -45,9 +45,9 @@ bounds_of (progresses.Begun scanned) = None
 bounds_of (progresses.Waiting waiting) = bounds waiting.what waiting.cut.count
 
 -- these bytes may be put in the place of a piece
-abbrev pub IsPart : Option (ℕ × ℕ) → List ℕ → List ℕ → Type 0
-IsPart None piece new = new ≡ piece
-IsPart (Some b) piece new = IsShortened b.0 b.1 piece new
+abbrev pub IsTextPart : Option (ℕ × ℕ) → List ℕ → List ℕ → Type 0
+IsTextPart None piece new = new ≡ piece
+IsTextPart (Some b) piece new = IsShortened b.0 b.1 piece new
 
 -- Of the further lines of an item that waits, of a kind that has a greatest length, those that come are kept short, as many as are missing.
 abbrev pub KeepsShort : ℕ → List ℕ → List ℕ → Type 0

@@ -3,7 +3,7 @@ ghost use Rattle.std.specs.Prelude.{◌≡◌, ◌==◌, ◌||◌, ℕ, false, c
 ghost use Rattle.std.specs.Str.{bytes_eq};
 ghost use Rattle.quilt_types.specs.Plane.{side};
 ghost use Rattle.quilt_words.specs.Items.{asked, asked_by, begins_with, words_of};
-ghost use Rattle.quilt_lang.specs.Cutting.{IsAsked, limit_of, number_of};
+ghost use Rattle.quilt_lang.specs.Cutting.{IsAsked, limit_of, further_count};
 ghost use Rattle.quilt_lang.specs.Reading.{enough_of};
 ghost use Rattle.quilt_lang.specs.Shortening.{bounds};
 
@@ -26,7 +26,7 @@ pub enum Asked {
 impl Asked {
     /// Whether they are so many.
     fn is_number(self, level: u8, count: usize) -> bool
-        ensures { result ≡ (count == number_of level self) }
+        ensures { result ≡ (count == further_count level self) }
     {
         match self {
             Asked::Nothing => count == 0,
@@ -60,7 +60,7 @@ impl Asked {
 
     /// Whether so many lines are all of them, or no more can come.
     pub fn is_met(self, level: u8, count: usize, ended: bool) -> bool
-        ensures { result ≡ (ended || (count == number_of level self)) }
+        ensures { result ≡ (ended || (count == further_count level self)) }
     {
         ended || self.is_number(level, count)
     }

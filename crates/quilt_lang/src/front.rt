@@ -2,13 +2,13 @@
 ghost use Rattle.std.specs.Prelude.{◌≡◌, ◌+◌, ◌≤◌, false, [], ◌∷◌, length, take, drop, map, IfOk, MatchOption};
 ghost use Rattle.quilt_words.specs.Items.{whole_lines};
 ghost use Rattle.quilt_lang.specs.Reading.{Gives, GivesItem, HasNone, begins_silent};
-ghost use Rattle.quilt_lang.specs.Cutting.{CutsUpTo, grouped, number_of};
-ghost use Rattle.quilt_lang.specs.Progress.{IsFirst, IsFront, IsProgress, IsUncut, IsWaiting};
+ghost use Rattle.quilt_lang.specs.Cutting.{CutsUpTo, grouped, further_count};
+ghost use Rattle.quilt_lang.specs.Progress.{IsFrontLine, IsFront, IsProgress, IsUncut, IsWaiting};
 
 use crate::asked::{Asked, further_asked};
-use crate::counting::count_lines;
-use crate::cutting::{first_line, line_len};
+use crate::first_line::{first_line, line_len};
 use crate::held::item_of;
+use crate::line_count::count_lines;
 use crate::progress::{CutLines, Progress, Waiting};
 use quilt_words::Item;
 use std::alloc::{AllocError, Global};
@@ -87,7 +87,7 @@ fn further_item(
 /// How far an item is cut whose first line is cut, where it waits for further lines.
 pub fn waits_on(level: u8, text: &[u8], waiting: Waiting, ended: bool) -> Option<Progress>
     requires { IsWaiting ended level waiting text.now }
-    ensures { MatchOption result (ended ≡ false → number_of level waiting.what ≤ length (whole_lines (drop (waiting.line + 1) text.now)))
+    ensures { MatchOption result (ended ≡ false → further_count level waiting.what ≤ length (whole_lines (drop (waiting.line + 1) text.now)))
         (λ progress. HasNone ended level text.now × IsProgress level progress text.now) }
 {
     if ended {
@@ -112,8 +112,8 @@ pub fn held_lines<'a>(
     what: Asked,
     ended: bool,
 ) -> Result<(Vec<&'a [u8]>, usize), AllocError>
-    requires first { IsFirst ended level line what text.now }
-    requires there { ended ≡ false → number_of level what ≤ length (whole_lines (drop (line + 1) text.now)) }
+    requires first { IsFrontLine ended level line what text.now }
+    requires there { ended ≡ false → further_count level what ≤ length (whole_lines (drop (line + 1) text.now)) }
     ensures within { IfOk result (λ f. f.1 ≤ length text.now) }
     ensures gives { IfOk result (λ f. Gives ended level (grouped (take line text.now) (map (λ w. w.now) f.0.items) ∷ []) text.now (drop f.1 text.now)) }
 {
@@ -130,7 +130,7 @@ fn further_lines<'a>(
     text: &'a [u8],
     ended: bool,
 ) -> Result<(Vec<&'a [u8]>, usize), AllocError>
-    ensures is { IfOk result (λ f. CutsUpTo ended (number_of level what) (map (λ w. w.now) f.0.items) text.now (drop f.1 text.now)) }
+    ensures is { IfOk result (λ f. CutsUpTo ended (further_count level what) (map (λ w. w.now) f.0.items) text.now (drop f.1 text.now)) }
     ensures within { IfOk result (λ f. f.1 ≤ length text.now) }
 {
     let mut lines = Vec::new(alloc);

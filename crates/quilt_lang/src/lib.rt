@@ -2,18 +2,18 @@
 #![tactic(auto)]
 
 mod asked;
-mod commanding;
-mod counting;
-mod cutting;
+mod command_front;
+mod first_line;
 mod front;
 mod held;
-mod keeping;
+mod items;
+mod kept;
+mod line_count;
 mod lines;
 mod progress;
-mod reading;
-mod shortening;
+mod short_lines;
 mod spelled;
 
+pub use items::{items_in, whole_items_in};
 pub use lines::Lines;
 pub use quilt_words::{Command, Item, Pairs, ParseErr, parse, refusal_text};
-pub use reading::{items_in, whole_items_in};

@@ -4,14 +4,14 @@ ghost use Rattle.quilt_words.specs.Forms.{Spelled};
 ghost use Rattle.quilt_words.specs.Fitting.{IsFitting};
 ghost use Rattle.quilt_lang.specs.Reading.{Gives, GivesCommand, GivesItem, HasNone, kept_limit};
 ghost use Rattle.quilt_lang.specs.Progress.{told_len};
-ghost use Rattle.quilt_lang.specs.Shortening.{IsPart, KeepsShort, bounds_of};
+ghost use Rattle.quilt_lang.specs.Shortening.{IsTextPart, KeepsShort, bounds_of};
 
-use crate::commanding::{CommandFront, front_command};
-use crate::cutting::silent_front;
+use crate::command_front::{CommandFront, front_command};
+use crate::first_line::silent_front;
 use crate::front::{Front, front_item};
-use crate::keeping::kept_progress;
+use crate::kept::kept_progress;
 use crate::progress::Progress;
-use crate::shortening::{is_short, shortened};
+use crate::short_lines::{is_short, shortened};
 use quilt_types::Code;
 use quilt_words::{Command, Item};
 use std::alloc::{AllocError, Global};
@@ -173,7 +173,7 @@ fn put_piece(
 ) -> Result<(), AllocError>
     requires { from + told_len progress ≤ vec_len bytes.old }
     ensures put { OnOk result ((new : List ℕ) × (bytes.new.items ≡ take (told_len progress) (drop from bytes.old.items) ++ new)
-        × IsPart (bounds_of progress) piece.now new) }
+        × IsTextPart (bounds_of progress) piece.now new) }
     ensures err { OnErr result (bytes.new.items ≡ bytes.old.items) }
 {
     match progress.bounds() {

@@ -10,7 +10,7 @@ use Rattle.quilt_loc.proofs.Nesting.{Within-trans}
 use Rattle.quilt_loc.proofs.Quartered.{quarters_are}
 use Rattle.quilt_line_laws.proofs.Meeting.{meets_within}
 use Rattle.quilt_line_audit.specs.declared.pair.Pair.{Pair}
-use Rattle.quilt_line_audit.specs.Pairs.{near, none_on, pair_on, pairs_of, pairs_on, InTurn, Begins}
+use Rattle.quilt_line_audit.specs.Pairs.{near, none_pair, pair_on, block_pairs, pairs_on, EachInTurn, BeginsWithPairs}
 
 -- ---- the pairs of a block have a first one
 pub record HasFirst (b : Block) (pairs : List Pair) : Type 0 where
@@ -19,8 +19,8 @@ pub record HasFirst (b : Block) (pairs : List Pair) : Type 0 where
   pub are : pairs ≡ first ∷ more
   pub on : first.block ≡ b
 
-pub of_first : (b : Block) (segs : List (ℕ × Seg)) (rest : List Pair) → HasFirst b (pairs_of b segs ++ rest)
-of_first b [] rest = record { first = none_on b; more = rest; are = refl; on = refl }
+pub of_first : (b : Block) (segs : List (ℕ × Seg)) (rest : List Pair) → HasFirst b (block_pairs b segs ++ rest)
+of_first b [] rest = record { first = none_pair b; more = rest; are = refl; on = refl }
 of_first b (e ∷ es) rest = record { first = pair_on b e; more = map (pair_on b) es ++ rest; are = refl; on = refl }
 
 same_first : (p q : Pair) (ps qs : List Pair) → p ∷ ps ≡ q ∷ qs → p ≡ q
@@ -46,7 +46,7 @@ whole_small b segs pairs rest e =
 half_side : (k : ℕ) (b : Block) → b.side ≡ side (ℕ.suc k) → b.side / 2 ≡ side k
 half_side k b e = let p = pow-suc 2 k in omega arith
 
-pub small_first : (k : ℕ) (b : Block) (segs : List (ℕ × Seg)) (pairs rest : List Pair) → b.side ≡ side k → Begins segs k b pairs rest → IsSmall b.side pairs
+pub small_first : (k : ℕ) (b : Block) (segs : List (ℕ × Seg)) (pairs rest : List Pair) → b.side ≡ side k → BeginsWithPairs segs k b pairs rest → IsSmall b.side pairs
 small_first ℕ.zero b segs pairs rest e h = whole_small b segs pairs rest h
 small_first (ℕ.suc k) b segs pairs rest e h =
     ⊎_elim (λ here. whole_small b segs pairs rest here)
@@ -59,7 +59,7 @@ small_first (ℕ.suc k) b segs pairs rest e h =
 
 -- a square that is cut does not begin with a pair of its own
 pub not_both : (k : ℕ) (b : Block) (segs : List (ℕ × Seg)) (pairs rest : List Pair) (p : Pair) (more : List Pair) → b.side ≡ side (ℕ.suc k)
-    → InTurn (Begins segs k) (quarters_of b) pairs rest
+    → EachInTurn (BeginsWithPairs segs k) (quarters_of b) pairs rest
     → pairs ≡ p ∷ more → p.block ≡ b → ⊥
 not_both k b segs pairs rest p more e turn is on =
     let s = small_first k (record { x = b.x; y = b.y; side = b.side / 2 }) segs pairs turn.0 (half_side k b e) turn.1 in
@@ -88,26 +88,26 @@ pub quarter_side : (k : ℕ) (b q : Block) → b.side ≡ side (ℕ.suc k) → C
 quarter_side k b q e c = each_at (λ r. r.side ≡ side k) (quarters_of b) (quarter_sides k b e) q c
 
 turn_once : (P : Block → List Pair → List Pair → Type 0) (A : Block → Type 0) → ((b : Block) (pairs r s : List Pair) → A b → P b pairs r → P b pairs s → r ≡ s)
-    → (qs : List Block) → Each A qs → (pairs r s : List Pair) → InTurn P qs pairs r → InTurn P qs pairs s → r ≡ s
+    → (qs : List Block) → Each A qs → (pairs r s : List Pair) → EachInTurn P qs pairs r → EachInTurn P qs pairs s → r ≡ s
 turn_once P A one [] a pairs r s h g = sym h ∙ g
 turn_once P A one (q ∷ qs) a pairs r s h g =
-    turn_once P A one qs a.1 h.0 r s h.2 (subst (λ (m : List Pair). InTurn P qs m s) (sym (one q pairs h.0 g.0 a.0 h.1 g.1)) g.2)
+    turn_once P A one qs a.1 h.0 r s h.2 (subst (λ (m : List Pair). EachInTurn P qs m s) (sym (one q pairs h.0 g.0 a.0 h.1 g.1)) g.2)
 
 cut_and_whole : (k : ℕ) (b : Block) (segs : List (ℕ × Seg)) (pairs r s : List Pair) → b.side ≡ side (ℕ.suc k) → pairs ≡ pairs_on segs b ++ r
-    → InTurn (Begins segs k) (quarters_of b) pairs s → ⊥
+    → EachInTurn (BeginsWithPairs segs k) (quarters_of b) pairs s → ⊥
 cut_and_whole k b segs pairs r s e here turn =
     let f = of_first b (filter (λ (d : ℕ × Seg). meets d.1 (square b)) segs) r in
     not_both k b segs pairs s f.first f.more e turn (here ∙ f.are) f.on
 
-pub begins_once : (k : ℕ) (b : Block) (segs : List (ℕ × Seg)) (pairs r s : List Pair) → b.side ≡ side k → Begins segs k b pairs r
-    → Begins segs k b pairs s → r ≡ s
+pub begins_once : (k : ℕ) (b : Block) (segs : List (ℕ × Seg)) (pairs r s : List Pair) → b.side ≡ side k → BeginsWithPairs segs k b pairs r
+    → BeginsWithPairs segs k b pairs s → r ≡ s
 begins_once ℕ.zero b segs pairs r s e h g = same_rest (pairs_on segs b) r s (sym h ∙ g)
 begins_once (ℕ.suc k) b segs pairs r s e h g =
     ⊎_elim
     (λ a. ⊎_elim (λ c. same_rest (pairs_on segs b) r s (sym a ∙ c)) (λ t. absurd (cut_and_whole k b segs pairs r s e a t)) g)
     (λ t.
     ⊎_elim (λ c. absurd (cut_and_whole k b segs pairs s r e c t))
-    (λ u. turn_once (Begins segs k) (λ q. q.side ≡ side k) (λ q ps x y f i j. begins_once k q segs ps x y f i j) (quarters_of b)
+    (λ u. turn_once (BeginsWithPairs segs k) (λ q. q.side ≡ side k) (λ q ps x y f i j. begins_once k q segs ps x y f i j) (quarters_of b)
     (quarter_sides k b e) pairs r s t u) g) h
 
 -- ---- the segments that meet a square are enough for its quarters
@@ -125,18 +125,18 @@ filter_twice p r h (x ∷ xs) = keeps p r x (filter p xs) (p x) refl (h x) ∙ a
 
 pub near_pairs : (b q : Block) (segs : List (ℕ × Seg)) → Within q b → pairs_on (near b segs) q ≡ pairs_on segs q
 near_pairs b q segs w =
-    ap (pairs_of q) (filter_twice (λ (e : ℕ × Seg). meets e.1 (square b)) (λ e. meets e.1 (square q)) (λ e t. meets_within e.1 q b w t) segs)
+    ap (block_pairs q) (filter_twice (λ (e : ℕ × Seg). meets e.1 (square b)) (λ e. meets e.1 (square q)) (λ e t. meets_within e.1 q b w t) segs)
 
 pub turn_map : (P Q : Block → List Pair → List Pair → Type 0) (qs : List Block)
     → ((q : Block) (ps r : List Pair) → Contains qs q → P q ps r → Q q ps r) → (pairs rest : List Pair)
-    → InTurn P qs pairs rest → InTurn Q qs pairs rest
+    → EachInTurn P qs pairs rest → EachInTurn Q qs pairs rest
 turn_map P Q [] f pairs rest h = h
 turn_map P Q (q ∷ qs) f pairs rest h =
     (h.0, f q pairs h.0 (Contains-here q qs) h.1, turn_map P Q qs (λ r ps s c. f r ps s (Contains-there q qs r c)) h.0 rest h.2)
 
 module _ (n : ℕ) (b : Block) (segs : List (ℕ × Seg)) where
-  pub near_begins : (k : ℕ) (q : Block) (pairs rest : List Pair) → IsBlock n q → q.side ≡ side k → Within q b → Begins (near b segs) k q pairs rest
-      ↔ Begins segs k q pairs rest
+  pub near_begins : (k : ℕ) (q : Block) (pairs rest : List Pair) → IsBlock n q → q.side ≡ side k → Within q b → BeginsWithPairs (near b segs) k q pairs rest
+      ↔ BeginsWithPairs segs k q pairs rest
   near_begins ℕ.zero q pairs rest hq e w =
       let same = ap (λ (l : List Pair). l ++ rest) (near_pairs b q segs w) in
       (λ h. h ∙ same, λ h. h ∙ sym same)
@@ -148,7 +148,7 @@ module _ (n : ℕ) (b : Block) (segs : List (ℕ × Seg)) where
       let below = λ (r : Block) (ps s : List Pair) (c : Contains (quarters_of q) r). near_begins k r ps s (part r c).block (quarter_side k q r e c)
       (Within-trans r q b (part r c).within w) in (
         ⊎_elim (λ h. inl (h ∙ same))
-            (λ t. inr (turn_map (Begins (near b segs) k) (Begins segs k) (quarters_of q) (λ r ps s c. (below r ps s c).0) pairs rest t)),
+            (λ t. inr (turn_map (BeginsWithPairs (near b segs) k) (BeginsWithPairs segs k) (quarters_of q) (λ r ps s c. (below r ps s c).0) pairs rest t)),
         ⊎_elim (λ h. inl (h ∙ sym same))
-            (λ t. inr (turn_map (Begins segs k) (Begins (near b segs) k) (quarters_of q) (λ r ps s c. (below r ps s c).1) pairs rest t)),
+            (λ t. inr (turn_map (BeginsWithPairs segs k) (BeginsWithPairs (near b segs) k) (quarters_of q) (λ r ps s c. (below r ps s c).1) pairs rest t)),
       )

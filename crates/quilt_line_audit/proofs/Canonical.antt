@@ -20,7 +20,7 @@ use Rattle.quilt_line_laws.specs.Merging.{blocks_in}
 use Rattle.quilt_line_laws.proofs.Adding.{cover_of}
 use Rattle.quilt_line_audit.specs.declared.pair.Pair.{Pair}
 use Rattle.quilt_line_audit.specs.Layers.{SpellsOne}
-use Rattle.quilt_line_audit.specs.Pairs.{pair_on, pairs_of, pairs_on}
+use Rattle.quilt_line_audit.specs.Pairs.{pair_on, block_pairs, pairs_on}
 use Rattle.quilt_line_audit.specs.Runs.{pair_record, segment_record, is_of_part}
 use Rattle.quilt_line_audit.proofs.Keys.{part_true, part_says, pair_key, segment_key, pairs_by_code, pairs_by_id, segments_by_id}
 use Rattle.quilt_line_audit.proofs.Facts.{record_says, segment_there, pair_there, pair_block}
@@ -36,7 +36,7 @@ module _ (n layer : ℕ) where
   abbrev by_pair : Pair → Pair → Ordering
   by_pair p q = by_key (pair_record n layer p) (pair_record n layer q)
 
-  block_rises : (b : Block) (ms : List (ℕ × Seg)) → Rises (by_first nat_cmp) ms → Rises by_pair (pairs_of b ms)
+  block_rises : (b : Block) (ms : List (ℕ × Seg)) → Rises (by_first nat_cmp) ms → Rises by_pair (block_pairs b ms)
   block_rises b [] h = (λ y c. absurd (Contains-nil y c), tt)
   block_rises b (m ∷ ms) h = Rises-map (by_first nat_cmp) by_pair (pair_on b) (m ∷ ms) (λ d e _ _ lt. pairs_by_id n layer b d.0 e.0 ∙ lt) h
 

@@ -23,7 +23,7 @@ use Rattle.quilt_spell.proofs.facts.FactKeys.{block_same}
 use Rattle.quilt_line_laws.proofs.Merges.{IsBlockCover}
 use Rattle.quilt_line_laws.proofs.SetLaws.{items-from_list}
 use Rattle.quilt_line_audit.specs.declared.pair.Pair.{Pair}
-use Rattle.quilt_line_audit.specs.Pairs.{pairs_on, Begins}
+use Rattle.quilt_line_audit.specs.Pairs.{pairs_on, BeginsWithPairs}
 use Rattle.quilt_line_audit.proofs.Begins.{quarter_side}
 
 -- blocks as one after another has them
@@ -92,7 +92,7 @@ module _ (segs : List (ℕ × Seg)) where
     uncut : (b : Block) (pairs rest : List Pair) → IsBlock n b → pairs ≡ pairs_on segs b ++ rest → IsCutInto n segs b pairs rest
     uncut b pairs rest hb e = record { blocks = b ∷ []; runs = one_block n b hb; are = e ∙ sym (on_one b rest) }
 
-    pub cut_into : (k : ℕ) (b : Block) (pairs rest : List Pair) → IsBlock n b → b.side ≡ side k → Begins segs k b pairs rest → IsCutInto n segs b pairs rest
+    pub cut_into : (k : ℕ) (b : Block) (pairs rest : List Pair) → IsBlock n b → b.side ≡ side k → BeginsWithPairs segs k b pairs rest → IsCutInto n segs b pairs rest
     cut_into ℕ.zero b pairs rest hb e h = uncut b pairs rest hb h
     cut_into (ℕ.suc k) b pairs rest hb e h =
         ⊎_elim (λ here. uncut b pairs rest hb here)

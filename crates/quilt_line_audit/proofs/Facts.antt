@@ -20,7 +20,7 @@ use Rattle.quilt_record.specs.Canonical.{FactFits, pair_fact}
 use Rattle.quilt_spell.specs.Catalogued.{kind_of}
 use Rattle.quilt_line_audit.specs.declared.pair.Pair.{Pair}
 use Rattle.quilt_line_audit.specs.Layers.{SpellsOne}
-use Rattle.quilt_line_audit.specs.Pairs.{none_on, pair_on, pairs_of, pairs_on}
+use Rattle.quilt_line_audit.specs.Pairs.{none_pair, pair_on, block_pairs, pairs_on}
 use Rattle.quilt_line_audit.specs.Runs.{pair_record, segment_record}
 
 -- ---- a layer of lines
@@ -43,15 +43,15 @@ map_twice : {X Y Z : Type 0} (f : Y → Z) (g : X → Y) (h : X → Z) → ((x :
 map_twice f g h e [] = refl
 map_twice f g h e (x ∷ xs) = ap (λ z. z ∷ map f (map g xs)) (e x) ∙ ap (λ l. h x ∷ l) (map_twice f g h e xs)
 
-facts_of_pairs : (b : Block) (es : List (ℕ × Seg)) → map fact_of (pairs_of b es) ≡ or_none (IsMetByNone b) (map (λ e. IsMetBy b e.0) es)
+facts_of_pairs : (b : Block) (es : List (ℕ × Seg)) → map fact_of (block_pairs b es) ≡ or_none (IsMetByNone b) (map (λ e. IsMetBy b e.0) es)
 facts_of_pairs b [] = refl
 facts_of_pairs b (e ∷ es) = ap (λ l. IsMetBy b e.0 ∷ l) (map_twice fact_of (pair_on b) (λ (d : ℕ × Seg). IsMetBy b d.0) (λ d. refl) es)
 
 pub pairs_facts : (segs : SegMap) (b : Block) → map fact_of (pairs_on (finmap.entries segs) b) ≡ line_facts segs b
 pairs_facts segs b = facts_of_pairs b (filter (λ (e : ℕ × Seg). meets e.1 (square b)) (finmap.entries segs))
 
-on_block : (b : Block) (es : List (ℕ × Seg)) (p : Pair) → Contains (pairs_of b es) p → p.block ≡ b
-on_block b [] p c = ⊎_elim (λ e. ap (λ (q : Pair). q.block) (sym e)) (λ d. absurd (Contains-nil p d)) (Contains-cons_cases (none_on b) [] p c)
+on_block : (b : Block) (es : List (ℕ × Seg)) (p : Pair) → Contains (block_pairs b es) p → p.block ≡ b
+on_block b [] p c = ⊎_elim (λ e. ap (λ (q : Pair). q.block) (sym e)) (λ d. absurd (Contains-nil p d)) (Contains-cons_cases (none_pair b) [] p c)
 on_block b (e ∷ es) p c = let m = Contains-map_from (pair_on b) (e ∷ es) p c in ap (λ (q : Pair). q.block) (sym m.2)
 
 pub pair_block : (segs : List (ℕ × Seg)) (b : Block) (p : Pair) → Contains (pairs_on segs b) p → p.block ≡ b
@@ -122,10 +122,10 @@ module _ (form n layer t : ℕ) (segs : SegMap) (cover : BlockSet) (rs : List Re
   pub inside : (e : ℕ × Seg) → Contains es e → is_in_square n e.1 ≡ true
   inside e c = All-contains (λ (d : ℕ × Seg). is_in_square n d.1 ≡ true) es e s.fits.inside c
 
-  fits_of : (b : Block) (ms : List (ℕ × Seg)) (p : Pair) → IsBlock n b → ((e : ℕ × Seg) → Contains ms e → e.0 < 2 ^ 32) → Contains (pairs_of b ms) p
+  fits_of : (b : Block) (ms : List (ℕ × Seg)) (p : Pair) → IsBlock n b → ((e : ℕ × Seg) → Contains ms e → e.0 < 2 ^ 32) → Contains (block_pairs b ms) p
       → FactFits n (fact_of p)
   fits_of b [] p hb small c =
-      ⊎_elim (λ e. subst (λ (q : Pair). FactFits n (fact_of q)) e hb) (λ d. absurd (Contains-nil p d)) (Contains-cons_cases (none_on b) [] p c)
+      ⊎_elim (λ e. subst (λ (q : Pair). FactFits n (fact_of q)) e hb) (λ d. absurd (Contains-nil p d)) (Contains-cons_cases (none_pair b) [] p c)
   fits_of b (m ∷ ms) p hb small c =
       let w = Contains-map_from (pair_on b) (m ∷ ms) p c in
       subst (λ (q : Pair). FactFits n (fact_of q)) w.2 (hb, small w.0 w.1)
@@ -139,6 +139,6 @@ module _ (form n layer t : ℕ) (segs : SegMap) (cover : BlockSet) (rs : List Re
 pub first_pair : (b : Block) (segs : List (ℕ × Seg)) → (p : Pair) × Contains (pairs_on segs b) p
 first_pair b segs = of_those (filter (λ (e : ℕ × Seg). meets e.1 (square b)) segs)
   where
-    of_those : (ms : List (ℕ × Seg)) → (p : Pair) × Contains (pairs_of b ms) p
-    of_those [] = (none_on b, Contains-here (none_on b) [])
+    of_those : (ms : List (ℕ × Seg)) → (p : Pair) × Contains (block_pairs b ms) p
+    of_those [] = (none_pair b, Contains-here (none_pair b) [])
     of_those (m ∷ ms) = (pair_on b m, Contains-here (pair_on b m) (map (pair_on b) ms))

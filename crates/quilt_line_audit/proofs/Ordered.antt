@@ -17,7 +17,7 @@ use Rattle.quilt_line_laws.specs.Merging.{blocks_in}
 use Rattle.quilt_line_laws.proofs.Descent.{only, same_size, quarterly, one_old, off, held}
 use Rattle.quilt_line_laws.proofs.Merges.{IsBlockCover}
 use Rattle.quilt_line_audit.specs.declared.pair.Pair.{Pair}
-use Rattle.quilt_line_audit.specs.Pairs.{pairs_on, InTurn, Begins}
+use Rattle.quilt_line_audit.specs.Pairs.{pairs_on, EachInTurn, BeginsWithPairs}
 use Rattle.quilt_line_audit.proofs.Begins.{quarter_side}
 use Rattle.quilt_line_audit.proofs.Cuts.{AreIn, one_block, four_blocks, on_join, on_one}
 
@@ -116,23 +116,23 @@ module _ (n : ℕ) (le : n ≤ 12) (cover : BlockSet) where
 
 -- ---- what the pairs begin with
 module _ (segs : List (ℕ × Seg)) where
-  turn_from : (k : ℕ) (f : Block → List Block) → ((q : Block) (rest : List Pair) → Begins segs k q (flat_map (pairs_on segs) (f q) ++ rest) rest)
-      → (qs : List Block) (rest : List Pair) → InTurn (Begins segs k) qs (flat_map (pairs_on segs) (flat_map f qs) ++ rest) rest
+  turn_from : (k : ℕ) (f : Block → List Block) → ((q : Block) (rest : List Pair) → BeginsWithPairs segs k q (flat_map (pairs_on segs) (f q) ++ rest) rest)
+      → (qs : List Block) (rest : List Pair) → EachInTurn (BeginsWithPairs segs k) qs (flat_map (pairs_on segs) (flat_map f qs) ++ rest) rest
   turn_from k f here [] rest = refl
   turn_from k f here (q ∷ qs) rest =
       let behind = flat_map (pairs_on segs) (flat_map f qs) ++ rest in (
         behind,
-        subst (λ (l : List Pair). Begins segs k q l behind) (sym (on_join segs (f q) (flat_map f qs) rest)) (here q behind),
+        subst (λ (l : List Pair). BeginsWithPairs segs k q l behind) (sym (on_join segs (f q) (flat_map f qs) rest)) (here q behind),
         turn_from k f here qs rest,
       )
 
   begins_step : (cover : BlockSet) (k : ℕ) (b : Block) (rest : List Pair)
-      → ((q : Block) (more : List Pair) → Begins segs k q (flat_map (pairs_on segs) (blocks_in cover k q) ++ more) more)
-      → (u : Bool) → Begins segs (ℕ.suc k) b
+      → ((q : Block) (more : List Pair) → BeginsWithPairs segs k q (flat_map (pairs_on segs) (blocks_in cover k q) ++ more) more)
+      → (u : Bool) → BeginsWithPairs segs (ℕ.suc k) b
       (flat_map (pairs_on segs) (cond {A = List Block} u (b ∷ []) (flat_map (blocks_in cover k) (quarters_of b))) ++ rest) rest
   begins_step cover k b rest below true = inl (on_one segs b rest)
   begins_step cover k b rest below false = inr (turn_from k (blocks_in cover k) below (quarters_of b) rest)
 
-  pub begins_in : (cover : BlockSet) (k : ℕ) (b : Block) (rest : List Pair) → Begins segs k b (flat_map (pairs_on segs) (blocks_in cover k b) ++ rest) rest
+  pub begins_in : (cover : BlockSet) (k : ℕ) (b : Block) (rest : List Pair) → BeginsWithPairs segs k b (flat_map (pairs_on segs) (blocks_in cover k b) ++ rest) rest
   begins_in cover ℕ.zero b rest = on_one segs b rest
   begins_in cover (ℕ.suc k) b rest = begins_step cover k b rest (λ q more. begins_in cover k q more) (finset.contains cover b)

@@ -5,13 +5,13 @@ use Rattle.quilt_types.specs.declared.plane.Block.{Block}
 use Rattle.quilt_types.specs.declared.plane.Seg.{Seg}
 use Rattle.quilt_types.specs.Segments.{square, meets}
 use Rattle.quilt_line_audit.specs.declared.pair.Pair.{Pair}
-use Rattle.quilt_line_audit.specs.Pairs.{near, none_on, pair_on, pairs_of}
+use Rattle.quilt_line_audit.specs.Pairs.{near, none_pair, pair_on, block_pairs}
 
-pub some_pairs : (b : Block) (segs : List (ℕ × Seg)) → 0 < length segs → pairs_of b segs ≡ map (pair_on b) segs
+pub some_pairs : (b : Block) (segs : List (ℕ × Seg)) → 0 < length segs → block_pairs b segs ≡ map (pair_on b) segs
 some_pairs b [] lt = absurd (omega arith)
 some_pairs b (d ∷ ds) lt = refl
 
-pub no_pairs : (b : Block) (segs : List (ℕ × Seg)) → length segs ≡ 0 → pairs_of b segs ≡ none_on b ∷ []
+pub no_pairs : (b : Block) (segs : List (ℕ × Seg)) → length segs ≡ 0 → block_pairs b segs ≡ none_pair b ∷ []
 no_pairs b [] e = refl
 no_pairs b (d ∷ ds) e = absurd (omega arith)
 

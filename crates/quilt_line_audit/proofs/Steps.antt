@@ -16,7 +16,7 @@ use Rattle.quilt_record.specs.Records.{record_of}
 use Rattle.quilt_record.specs.Canonical.{IsRecordOf, FactFits, pair_fact}
 use Rattle.quilt_line_audit.specs.declared.pair.Pair.{Pair}
 use Rattle.quilt_line_audit.specs.declared.run.LineRun.{LineRun}
-use Rattle.quilt_line_audit.specs.Layers.{Refuses}
+use Rattle.quilt_line_audit.specs.Layers.{RefusesRecord}
 use Rattle.quilt_line_audit.specs.Runs.{IsLineRun, pair_record, segment_record, is_of_part}
 use Rattle.quilt_line_audit.proofs.Keys.{filter_last, filter_without, part_true, part_false, pair_key, segment_is}
 use Rattle.quilt_line_audit.proofs.Facts.{with_lines, record_says, small_id, inside, pair_fits}
@@ -86,7 +86,7 @@ pair_is n layer some most b (Some id) f = record { least = some; most = most; fi
 pub unread_refused : (form n : ℕ) → n ≤ 12 → (rs : List Record) (t : ℕ) (r : Record) → 1 ≤ r.key.layer → r.key.layer ≤ 255
     → ((b : Block) (id : Option ℕ) → IsRecordOf n 0 r r.key.layer (pair_fact b id) → ⊥)
     → ((id : ℕ) (s : Seg) → IsRecordOf n 0 r r.key.layer (IsSegment id s) → is_in_square n s ≡ true → ⊥)
-    → Refuses form n rs r.key.layer (kinds.Lines t) r
+    → RefusesRecord form n rs r.key.layer (kinds.Lines t) r
 unread_refused form n le rs t r some most no_pair no_seg rest l kind up s =
     let layer = r.key.layer in
     let all = rs ++ r ∷ rest in

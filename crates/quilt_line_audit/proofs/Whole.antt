@@ -31,7 +31,7 @@ use Rattle.quilt_line_laws.proofs.SetLaws.{items-from_list}
 use Rattle.quilt_line_audit.specs.declared.pair.Pair.{Pair}
 use Rattle.quilt_line_audit.specs.declared.run.LineRun.{LineRun}
 use Rattle.quilt_line_audit.specs.Layers.{SpellsOne, IsLayerOf, IsShort}
-use Rattle.quilt_line_audit.specs.Pairs.{pairs_on, Begins}
+use Rattle.quilt_line_audit.specs.Pairs.{pairs_on, BeginsWithPairs}
 use Rattle.quilt_line_audit.specs.Runs.{pair_record, segment_record, is_of_part, IsLineRun, IsLined}
 use Rattle.quilt_line_audit.proofs.Keys.{filter_none, part_true, part_false, pair_alone, segment_alone, segments_by_id, map_alone}
 use Rattle.quilt_line_audit.proofs.Facts.{fact_of, pairs_facts, with_lines, pair_block, cover_block, small_id, inside}
@@ -207,8 +207,8 @@ module _ (form n : ℕ) (rs : List Record) (layer t : ℕ) (run : LineRun) (le :
 
     lined_here : IsLined n run
     lined_here =
-        subst (λ (l : List (ℕ × Seg)). Begins l n (whole n) run.pairs.items []) (sym segments_same)
-        (subst (λ (l : List Pair). Begins es n (whole n) l []) (append-nil (flat_map (pairs_on es) bs) ∙ sym pairs_same) (begins_in es cover n (whole n) []))
+        subst (λ (l : List (ℕ × Seg)). BeginsWithPairs l n (whole n) run.pairs.items []) (sym segments_same)
+        (subst (λ (l : List Pair). BeginsWithPairs es n (whole n) l []) (append-nil (flat_map (pairs_on es) bs) ∙ sym pairs_same) (begins_in es cover n (whole n) []))
 
   pub short_lines : (IsLined n run → ⊥) → IsShort form n rs layer (kinds.Lines t)
   short_lines none rest l kind past up s = with_lines form n (rs ++ rest) layer t ⊥ (λ segs cover u. none (lined_here segs cover rest past up u)) l kind s

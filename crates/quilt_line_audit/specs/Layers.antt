@@ -24,8 +24,8 @@ pub record IsLayerOf (form n : ℕ) (rs : List Record) (number : ℕ) (kind : Ki
   pub spelled : SpellsOne form n rs number layer
 
 -- no layer of this kind has these records first and then this one
-abbrev pub Refuses : ℕ → ℕ → List Record → ℕ → Kind → Record → Type 0
-Refuses form n rs number kind r =
+abbrev pub RefusesRecord : ℕ → ℕ → List Record → ℕ → Kind → Record → Type 0
+RefusesRecord form n rs number kind r =
     (rest : List Record) (layer : Layer) → kind_of layer ≡ kind → Rises by_key (rs ++ r ∷ rest)
     → SpellsOne form n (rs ++ r ∷ rest) number layer → ⊥
 

@@ -13,7 +13,7 @@ use Rattle.quilt_spell.specs.Written.{by_key}
 use Rattle.quilt_line_audit.specs.declared.pair.Pair.{Pair}
 use Rattle.quilt_line_audit.specs.declared.run.LineRun.{LineRun}
 use Rattle.quilt_line_audit.specs.Layers.{IsLayerOf, IsShort}
-use Rattle.quilt_line_audit.specs.Pairs.{Begins}
+use Rattle.quilt_line_audit.specs.Pairs.{BeginsWithPairs}
 
 -- the record of a pair of the layer with this number
 abbrev pub pair_record : ℕ → ℕ → Pair → Record
@@ -38,13 +38,13 @@ pub record IsLineRun (n : ℕ) (rs : List Record) (layer threshold : ℕ) (run :
   pub inside : (e : ℕ × Seg) → Contains run.segs.items e → (e.0 < 2 ^ 32) × (is_in_square n e.1 ≡ true)
 
 -- the run has no record
-pub record IsStart (run : LineRun) : Type 0 where
+pub record IsLineStart (run : LineRun) : Type 0 where
   pub pairs : run.pairs.items ≡ []
   pub segs : run.segs.items ≡ []
 
 -- the pairs are those of blocks that the whole square is cut into
 abbrev pub IsLined : ℕ → LineRun → Type 0
-IsLined n run = Begins run.segs.items n (whole n) run.pairs.items []
+IsLined n run = BeginsWithPairs run.segs.items n (whole n) run.pairs.items []
 
 -- such a run has the records of a line layer, where they rise
 abbrev pub WholeLaw : Type 0

@@ -1,9 +1,9 @@
 ghost use Rattle.std.specs.Prelude.{◌≡◌, ℕ, ◌+◌, ◌≤◌, ◌++◌, ◌∷◌, List, length, drop, map, true, false, IfOk, IfSome, IfNone};
 ghost use Rattle.quilt_types.specs.Plane.{IsBlock, side as side_of};
 ghost use Rattle.quilt_line_audit.specs.declared.pair.Pair.{Pair as AnyPair};
-ghost use Rattle.quilt_line_audit.specs.Pairs.{near as near_of, pair_on, pairs_on, Begins};
+ghost use Rattle.quilt_line_audit.specs.Pairs.{near as near_of, pair_on, pairs_on, BeginsWithPairs};
 
-use crate::meeting::{is_met, meeting};
+use crate::contact::{is_met, meeting};
 use crate::pair::Pair;
 use quilt_loc::quarters;
 use quilt_types::{Block, Seg};
@@ -21,9 +21,9 @@ pub(crate) fn end_in(
     requires block { IsBlock 12 square }
     requires at { at ≤ length pairs.now }
     ensures within { IfOk result (λ o. IfSome o (λ end. end ≤ length pairs.now)) }
-    ensures some { IfOk result (λ o. IfSome o (λ end. (k : ℕ) → square.side ≡ side_of k → Begins segs.now k square (drop at pairs.now) (drop end pairs.now))) }
+    ensures some { IfOk result (λ o. IfSome o (λ end. (k : ℕ) → square.side ≡ side_of k → BeginsWithPairs segs.now k square (drop at pairs.now) (drop end pairs.now))) }
     ensures none { IfOk result (λ o. IfNone o ((k : ℕ) (rest : List AnyPair) → square.side ≡ side_of k
-        → Begins segs.now k square (drop at pairs.now) rest → ⊥)) }
+        → BeginsWithPairs segs.now k square (drop at pairs.now) rest → ⊥)) }
 {
     if square.side == 1 || is_on(pairs, at, square) {
         return Ok(end_on(pairs, at, segs, square));

@@ -1,9 +1,9 @@
 //! The records of one line layer as they come in the order of their keys, and whether they are those of a layer.
 #![tactic(auto)]
 
+mod contact;
 mod descent;
 mod law;
-mod meeting;
 mod pair;
 mod run;
 

@@ -3,8 +3,8 @@ ghost use Rattle.std.specs.Bool.{OnTrue, OnFalse};
 ghost use Rattle.quilt_types.specs.declared.plane.Kind.TheVariants as kinds;
 ghost use Rattle.quilt_types.specs.Layers.{is_in_square as is_seg_in_square};
 ghost use Rattle.quilt_record.specs.declared.record.Record.{Record as AnyRecord};
-ghost use Rattle.quilt_line_audit.specs.Layers.{Refuses};
-ghost use Rattle.quilt_line_audit.specs.Runs.{IsStart, IsLineRun, IsLined};
+ghost use Rattle.quilt_line_audit.specs.Layers.{RefusesRecord};
+ghost use Rattle.quilt_line_audit.specs.Runs.{IsLineStart, IsLineRun, IsLined};
 
 use crate::descent::end_in;
 use crate::pair::Pair;
@@ -25,7 +25,7 @@ pub struct LineRun {
 impl LineRun {
     /// No record yet. It takes no memory, and keeps the allocator.
     pub fn new(alloc: Global) -> LineRun
-        ensures { IsStart result }
+        ensures { IsLineStart result }
     {
         LineRun {
             alloc,
@@ -41,7 +41,7 @@ impl LineRun {
         ensures taken { IfOk result (λ ok. (rs : List AnyRecord) (threshold : ℕ) → IsLineRun level rs r.now.key.layer threshold self.old
             → OnTrue ok (IsLineRun level (rs ++ r.now ∷ []) r.now.key.layer threshold self.new)) }
         ensures refused { IfOk result (λ ok. (form threshold : ℕ) (rs : List AnyRecord)
-            → OnFalse ok (Refuses form level rs r.now.key.layer (kinds.Lines threshold) r.now)) }
+            → OnFalse ok (RefusesRecord form level rs r.now.key.layer (kinds.Lines threshold) r.now)) }
     {
         if let Some((block, id)) = read_pair(r, level) {
             self.pairs.push(Pair { block, id })?;

@@ -22,7 +22,7 @@ use Rattle.quilt_loc.proofs.Quartered.{quarters_are, IsBlock-whole}
 use Rattle.quilt_line_laws.proofs.Merges.{IsBlockCover}
 use Rattle.quilt_line_laws.specs.Lines.{IsMet, none_on}
 use Rattle.quilt_line_laws.specs.Merging.{is_one, becomes_one, blocks_in, coming_in, going_in, staying_in}
-use Rattle.quilt_line_laws.specs.Counting.{gone_of_quarter, CountLaw, ThroughLaw, MergedLaw, FewerLaw}
+use Rattle.quilt_line_laws.specs.Counting.{gone_of_quarter, SegmentCountLaw, ThroughLaw, MergedLaw, FewerLaw}
 use Rattle.quilt_line_laws.proofs.Meeting.{meets_within, meets_quarter}
 use Rattle.quilt_line_laws.proofs.LineFacts.{entry, got, meeting, met_by}
 use Rattle.quilt_line_laws.proofs.Adding.{cover_of}
@@ -64,7 +64,7 @@ module _ (segs : SegMap) (b : Block) where
   unfolding first ids_of
   ids_number = length-map (filter (meeting b) (finmap.entries segs)) first ∙ length-filter (meeting b) (finmap.entries segs)
 
-pub count_law : CountLaw
+pub count_law : SegmentCountLaw
 count_law segs b ids apart are =
     same_length ids (ids_of segs b) apart (ids_apart segs b)
     (λ id. let w = ids_are segs b id in let v = are id in (λ c. w.1 (v.0 c), λ c. v.1 (w.0 c))) ∙ ids_number segs b

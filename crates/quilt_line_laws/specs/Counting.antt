@@ -13,8 +13,8 @@ use Rattle.quilt_line_laws.specs.Merging.{is_one, becomes_one, blocks_in, coming
 use Rattle.quilt_line_laws.specs.Removing.{facts_back, facts_gone}
 
 -- A list of the ids that meet a block, each once, is as long as the count says.
-abbrev pub CountLaw : Type 0
-CountLaw = (segs : SegMap) (b : Block) (ids : List ℕ) → Apart ids → ((id : ℕ) → Contains ids id ↔ IsMet segs b id) → length ids ≡ segs_meeting segs b
+abbrev pub SegmentCountLaw : Type 0
+SegmentCountLaw = (segs : SegMap) (b : Block) (ids : List ℕ) → Apart ids → ((id : ℕ) → Contains ids id ↔ IsMet segs b id) → length ids ≡ segs_meeting segs b
 
 -- The segments of a block that is one are those of the blocks of the set in it.
 abbrev pub ThroughLaw : Type 0

@@ -10,7 +10,7 @@ use Rattle.quilt_line_laws.specs.Merging.{is_one, becomes_one, coming_in, going_
 use Rattle.quilt_line_laws.specs.Counting.{gone_of_quarter}
 
 -- what a call of the recursion answers for a block of side 2 ^ k
-pub record IsSettled (t : ℕ) (segs : SegMap) (cover : BlockSet) (s : Seg) (k : ℕ) (b : Block) (one : Bool) (coming going staying : List Block) : Type 0 where
+pub record IsBlockSettled (t : ℕ) (segs : SegMap) (cover : BlockSet) (s : Seg) (k : ℕ) (b : Block) (one : Bool) (coming going staying : List Block) : Type 0 where
   pub is_one : one ≡ is_one t segs cover s k b
   pub come : coming ≡ coming_in t segs cover s k b
   pub go : going ≡ going_in t segs cover s k b
@@ -19,23 +19,23 @@ pub record IsSettled (t : ℕ) (segs : SegMap) (cover : BlockSet) (s : Seg) (k :
 module _ (t : ℕ) (segs : SegMap) (cover : BlockSet) (s : Seg) (k : ℕ) (b : Block) where
   -- a block of the set
   abbrev pub LeafStep : Type 0
-  LeafStep = finset.contains cover b ≡ true → IsSettled t segs cover s k b true [] [] (if meets s (square b) then b ∷ [] else [])
+  LeafStep = finset.contains cover b ≡ true → IsBlockSettled t segs cover s k b true [] [] (if meets s (square b) then b ∷ [] else [])
 
   -- a block that the segment does not meet, and none of the set
   abbrev pub UnmetStep : Type 0
-  UnmetStep = finset.contains cover b ≡ false → meets s (square b) ≡ false → IsSettled t segs cover s k b false [] [] []
+  UnmetStep = finset.contains cover b ≡ false → meets s (square b) ≡ false → IsBlockSettled t segs cover s k b false [] [] []
 
   -- four quarters that become one block
   abbrev pub MergeStep : Type 0
   MergeStep =
       finset.contains cover b ≡ false → becomes_one t segs cover s k b ≡ true
-      → IsSettled t segs cover s (ℕ.suc k) b true (b ∷ []) (flat_map (gone_of_quarter t segs cover s k) (quarters_of b)) []
+      → IsBlockSettled t segs cover s (ℕ.suc k) b true (b ∷ []) (flat_map (gone_of_quarter t segs cover s k) (quarters_of b)) []
 
   -- four quarters that do not
   abbrev pub CutStep : Type 0
   CutStep =
       finset.contains cover b ≡ false → meets s (square b) ≡ true → becomes_one t segs cover s k b ≡ false
-      → IsSettled t segs cover s (ℕ.suc k) b false (flat_map (coming_in t segs cover s k) (quarters_of b))
+      → IsBlockSettled t segs cover s (ℕ.suc k) b false (flat_map (coming_in t segs cover s k) (quarters_of b))
       (flat_map (going_in t segs cover s k) (quarters_of b)) (flat_map (staying_in t segs cover s k) (quarters_of b))
 
 -- All four steps hold, for each block and each set.

@@ -1,7 +1,7 @@
 //! The local laws of line layers: which facts and records an addition and a removal of a segment change.
 #![tactic(auto)]
 
-ghost use Rattle.quilt_line_laws.specs.Counting.{CountLaw, FewerLaw, MergedLaw, ThroughLaw};
+ghost use Rattle.quilt_line_laws.specs.Counting.{SegmentCountLaw, FewerLaw, MergedLaw, ThroughLaw};
 ghost use Rattle.quilt_line_laws.specs.Lawful.{AddedLaw, NewLaw, RemovedLaw};
 ghost use Rattle.quilt_line_laws.specs.Leads.{AddLeads, RemoveLeads};
 ghost use Rattle.quilt_line_laws.specs.Lines.{AddLaw};
@@ -38,7 +38,7 @@ pub fn removing_law()
 
 /// What is counted at a merge, and that a removal leaves fewer facts.
 pub fn counting_law()
-    ensures count { CountLaw }
+    ensures count { SegmentCountLaw }
     ensures through { ThroughLaw }
     ensures fewer { FewerLaw }
 {}

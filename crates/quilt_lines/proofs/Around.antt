@@ -45,10 +45,10 @@ use Rattle.quilt_btree.specs.Trees.{IsTree}
 use Rattle.quilt_world.specs.Tale.{Goes}
 use Rattle.quilt_lines.specs.Layers.{shown_facts, fact_record, SpellsLines, HasLines}
 use Rattle.quilt_lines.specs.Reads.{block_records}
-use Rattle.quilt_lines.specs.Said.{last_key}
-use Rattle.quilt_lines.specs.Searches.{one_pixel, pixel_key, IsLastAt, IsLastIn, IsLineSearch, is_before}
-use Rattle.quilt_lines.specs.declared.searching.Look.{Look}
-use Rattle.quilt_lines.specs.declared.searching.Search.{Search}
+use Rattle.quilt_lines.specs.Said.{last_block_key}
+use Rattle.quilt_lines.specs.Searches.{one_pixel, last_pixel_key, IsLastAt, IsLastIn, IsLineSearch, is_before}
+use Rattle.quilt_lines.specs.declared.search.Look.{Look}
+use Rattle.quilt_lines.specs.declared.search.Search.{Search}
 use Rattle.quilt_lines.proofs.Floors.{some_fact}
 use Rattle.quilt_lines.proofs.Found.{pixel_block, floor_there}
 use Rattle.quilt_lines.proofs.Keys.{item_key, by_item, le_item, in_range, range_alike}
@@ -66,7 +66,7 @@ same_keys a b l p c d i =
 
 -- no record of a block is behind those of its pixels
 pub under_pixel : (n layer : ℕ) (b : Block) (p : Pixel) → n ≤ 12 → IsBlock n b → in_block b p ≡ true
-    → is_le (key_cmp (last_key n layer b) (pixel_key n layer p)) ≡ true
+    → is_le (key_cmp (last_block_key n layer b) (last_pixel_key n layer p)) ≡ true
 under_pixel n layer b p le hb held =
     let one = one_pixel p in
     let h = pixel_block n b p hb held in
@@ -76,11 +76,11 @@ under_pixel n layer b p le hb held =
     let db = depth_is n b hb in
     let dp = depth_is n one h in
     let low = hb.low in
-    ⊎_elim (λ lt. ap is_le (less_code (last_key n layer b) (pixel_key n layer p) refl refl lt))
+    ⊎_elim (λ lt. ap is_le (less_code (last_block_key n layer b) (last_pixel_key n layer p) refl refl lt))
     (λ ge.
     let code : code_from b ≡ code_at p = omega arith in
-    ⊎_elim (λ lt. ap is_le (less_depth (last_key n layer b) (pixel_key n layer p) refl refl code lt))
-    (λ far. same_keys (last_key n layer b) (pixel_key n layer p) refl refl code (let d : depth n b ≡ depth n one = omega arith in d) refl)
+    ⊎_elim (λ lt. ap is_le (less_depth (last_block_key n layer b) (last_pixel_key n layer p) refl refl code lt))
+    (λ far. same_keys (last_block_key n layer b) (last_pixel_key n layer p) refl refl code (let d : depth n b ≡ depth n one = omega arith in d) refl)
     (cases_lt (depth n b) (depth n one)))
     (cases_lt (code_from b) (code_at p))
 
@@ -103,7 +103,7 @@ module _ (rs : List Record) (layer n t : ℕ) (segs : SegMap) (cover : BlockSet)
   highest = item_key lowest 4294967295
 
   abbrev limit : Key
-  limit = pixel_key n layer p
+  limit = last_pixel_key n layer p
 
   -- a block of the layer that begins in one of its is this one
   same_around : (c : Block) → finset.contains cover b ≡ true → Contains (finset.items cover) c → code_from b ≤ code_from c → code_from c ≤ code_at p → b ≡ c
@@ -311,10 +311,10 @@ pub near_read : (told : Option (List (List ℕ))) (tree : Tree) (layer n t : ℕ
     → ((rs : List Record) → IsTree told tree rs → (r.key.item ≡ 0 → low ≡ r.key) → items ≡ filter (is_before low r.key) rs ++ r ∷ [])
     → HasLines told tree layer n t segs cover → items ≡ block_records n layer segs cover b
 near_read told tree layer n t segs cover b low high o r items height le hb first last l is here read h =
-    let far = pixel_key n layer l.at in
+    let far = last_pixel_key n layer l.at in
     let up = tree_rises told tree h.records h.is_tree in
     let few = tree_few told tree h.records height h.is_tree in
-    let same : high ≡ last_key n layer b = last ∙ ap (λ (k : Key). item_key k 4294967295) first in
+    let same : high ≡ last_block_key n layer b = last ∙ ap (λ (k : Key). item_key k 4294967295) first in
     let under : is_le (key_cmp high far) ≡ true = ap (λ (k : Key). is_le (key_cmp k far)) same ∙ under_pixel n layer b l.at le hb l.holds in
     let floor = sym (l.last h.records h.is_tree) ∙ is in
     read h.records h.is_tree (zero_is n layer b low high r first last here) ∙ range_to h.records up few low high far r under floor here
@@ -329,7 +329,7 @@ pub near_none : (told : Option (List (List ℕ))) (tree : Tree) (layer n t : ℕ
     → IfSome o (λ r. is_from_to low high r ≡ false) → HasLines told tree layer n t segs cover → items ≡ block_records n layer segs cover b
 near_none told tree layer n t segs cover b low high o items empty le hb first last l away h =
     let up = tree_rises told tree h.records h.is_tree in
-    let same : high ≡ last_key n layer b = last ∙ ap (λ (k : Key). item_key k 4294967295) first in
+    let same : high ≡ last_block_key n layer b = last ∙ ap (λ (k : Key). item_key k 4294967295) first in
     let none = not_there h.records layer n t segs cover up h.spelled le b hb l.at l.holds o (l.last h.records h.is_tree)
     (subst (λ (k : Key). IfSome o (λ r. is_from_to (first_key n layer b) k r ≡ false)) same
     (subst (λ (k : Key). IfSome o (λ r. is_from_to k high r ≡ false)) first away)) in

@@ -12,7 +12,7 @@ use Rattle.quilt_record.specs.declared.record.Record.{Record}
 use Rattle.quilt_record.specs.Canonical.{FactFits}
 use Rattle.quilt_btree.specs.declared.tree.Tree.{Tree}
 use Rattle.quilt_btree.specs.Trees.{IsTree}
-use Rattle.quilt_btree.specs.Lists.{value_in, value_of}
+use Rattle.quilt_btree.specs.Lists.{value_in, value_at_key}
 use Rattle.quilt_spell.specs.Written.{by_key}
 use Rattle.quilt_edits.proofs.Lookups.{find_at, find_away}
 use Rattle.quilt_near.specs.Lines.{Lines}
@@ -32,14 +32,14 @@ if_some_at (Some y) P x e h = subst P (let same : y ≡ x = cc in same) h
 
 -- ---- values of keys
 module _ (rs : List Record) (layer n t : ℕ) (segs : SegMap) (cover : BlockSet) (up : Rises by_key rs) (spells : SpellsLines rs layer n t segs cover) where
-  pub value_there : (id : ℕ) (s : Seg) → finmap.get segs id ≡ Some s → value_of (segment_key layer id) rs ≡ Some (fact_record n layer (IsSegment id s)).value
-  unfolding value_of
+  pub value_there : (id : ℕ) (s : Seg) → finmap.get segs id ≡ Some s → value_at_key (segment_key layer id) rs ≡ Some (fact_record n layer (IsSegment id s)).value
+  unfolding value_at_key
   value_there id s h =
       ap value_in (find_at (segment_key layer id) rs (fact_record n layer (IsSegment id s)) up
       (spells.each (IsSegment id s) (segment_shown n layer t segs cover id s h)) refl)
 
-  pub value_away : (id : ℕ) → finmap.get segs id ≡ None → value_of (segment_key layer id) rs ≡ None
-  unfolding value_of
+  pub value_away : (id : ℕ) → finmap.get segs id ≡ None → value_at_key (segment_key layer id) rs ≡ None
+  unfolding value_at_key
   value_away id h =
       ap value_in (find_away (segment_key layer id) rs (λ r c e.
       let m = Contains-map_from (fact_record n layer) (shown_facts segs cover) r (spells.only r c (ap (λ (k : Key). k.layer) e)) in
@@ -64,9 +64,9 @@ pub record IsFound (segs : SegMap) (id : ℕ) (said : Option (ℕ × Seg)) : Typ
 
 module _ (told : Option (List (List ℕ))) (tree : Tree) (layer n t : ℕ) (segs : SegMap) (cover : BlockSet) (id : ℕ) (key : Key) (o : Option (List ℕ))
     (is : key ≡ segment_key layer id)
-    (value : (rs : List Record) → IsTree told tree rs → o ≡ value_of key rs) (h : HasLines told tree layer n t segs cover) where
-  value_is : o ≡ value_of (segment_key layer id) h.records
-  value_is = value h.records h.is_tree ∙ ap (λ (k : Key). value_of k h.records) is
+    (value : (rs : List Record) → IsTree told tree rs → o ≡ value_at_key key rs) (h : HasLines told tree layer n t segs cover) where
+  value_is : o ≡ value_at_key (segment_key layer id) h.records
+  value_is = value h.records h.is_tree ∙ ap (λ (k : Key). value_at_key k h.records) is
 
   rises : Rises by_key h.records
   rises = tree_rises told tree h.records h.is_tree

@@ -2,7 +2,7 @@
 use Rattle.std.proofs.Common.{◌≡◌, Result, Ok, Err, IfOk, OnOk, sym, ◌∙◌}
 use Rattle.quilt_types.specs.declared.stop.Stop.{Stop}
 use Rattle.quilt_types.specs.declared.stop.Stop.TheVariants.{Memory, Damaged}
-use Rattle.quilt_store.specs.Stops.{IsSound}
+use Rattle.quilt_store.specs.Stops.{IsNotDamage}
 
 pub on_ok_both : {T E : Type 0} (r : Result T E) (P Q R : Type 0) → (P → Q → R) → OnOk r P → OnOk r Q → OnOk r R
 on_ok_both (Ok v) P Q R f p q = f p q
@@ -21,5 +21,5 @@ on_ok_any (Ok x) P p = p
 on_ok_any (Err e) P p = tt
 
 -- no page is damaged where memory is wanting
-pub memory_sound : (e : Stop) → e ≡ Memory → IsSound e
+pub memory_sound : (e : Stop) → e ≡ Memory → IsNotDamage e
 memory_sound e is page damaged = let other : Memory ≡ Damaged page = sym is ∙ damaged in cc

@@ -9,10 +9,10 @@ use Rattle.quilt_types.specs.Facts.{IsSegment}
 use Rattle.quilt_loc.proofs.Members.{list_all-at}
 use Rattle.quilt_record.specs.declared.key.Key.{Key}
 use Rattle.quilt_record.specs.declared.record.Record.{Record}
-use Rattle.quilt_store.specs.Stops.{IsSound}
+use Rattle.quilt_store.specs.Stops.{IsNotDamage}
 use Rattle.quilt_btree.specs.declared.tree.Tree.{Tree}
 use Rattle.quilt_btree.specs.Trees.{IsTree}
-use Rattle.quilt_btree.specs.Lists.{value_of, range_of, is_from_to}
+use Rattle.quilt_btree.specs.Lists.{value_at_key, range_of, is_from_to}
 use Rattle.quilt_spell.proofs.Spelling.{all_from}
 use Rattle.quilt_lines.specs.Layers.{fact_record}
 use Rattle.quilt_lines.specs.Reads.{segment_key, none_of}
@@ -20,7 +20,7 @@ use Rattle.quilt_lines.specs.Said.{greatest, NamesZero, SaySegment, records_at, 
 use Rattle.quilt_lines.proofs.Keys.{range_alike}
 
 -- an answer that names no page names none but 0
-pub sound_zero : (e : Stop) → IsSound e → NamesZero e
+pub sound_zero : (e : Stop) → IsNotDamage e → NamesZero e
 sound_zero e h page is = absurd (h page is)
 
 pub tree_along : (old new : Option (List (List ℕ))) (tree : Tree) (rs : List Record) → new ≡ old → IsTree old tree rs → IsTree new tree rs
@@ -28,16 +28,16 @@ tree_along old new tree rs e is = subst (λ (z : Option (List (List ℕ))). IsTr
 
 -- a record that says a segment under the key of an id
 pub segment_at : (n layer : ℕ) (rs : List Record) (id : ℕ) (key : Key) (v : List ℕ) (o : Option (List ℕ)) (said : ℕ × Seg) → key ≡ segment_key layer id
-    → o ≡ value_of key rs → o ≡ Some v
+    → o ≡ value_at_key key rs → o ≡ Some v
     → (let r : Record = record { key = key; value = v } in r ≡ fact_record n key.layer (IsSegment said.0 said.1)) → SaySegment n layer rs id said.1
 segment_at n layer rs id key v o said is value some says =
     let same : v ≡ (fact_record n layer (IsSegment id said.1)).value = ap (λ (z : Record). z.value) says in
-    sym (ap (λ (k : Key). value_of k rs) is) ∙ sym value ∙ some ∙ ap Some same
+    sym (ap (λ (k : Key). value_at_key k rs) is) ∙ sym value ∙ some ∙ ap Some same
 
 -- none says one
-pub none_at : (layer : ℕ) (rs : List Record) (id : ℕ) (key : Key) (o : Option (List ℕ)) → key ≡ segment_key layer id → o ≡ value_of key rs → o ≡ None
-    → value_of (segment_key layer id) rs ≡ None
-none_at layer rs id key o is value none = sym (ap (λ (k : Key). value_of k rs) is) ∙ sym value ∙ none
+pub none_at : (layer : ℕ) (rs : List Record) (id : ℕ) (key : Key) (o : Option (List ℕ)) → key ≡ segment_key layer id → o ≡ value_at_key key rs → o ≡ None
+    → value_at_key (segment_key layer id) rs ≡ None
+none_at layer rs id key o is value none = sym (ap (λ (k : Key). value_at_key k rs) is) ∙ sym value ∙ none
 
 -- the records of a block that were read
 module _ (told : Option (List (List ℕ))) (tree : Tree) (items : List Record) (low high : Key)

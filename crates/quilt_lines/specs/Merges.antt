@@ -17,7 +17,7 @@ use Rattle.quilt_line_laws.specs.Lines.{IsMet, none_on}
 use Rattle.quilt_line_laws.specs.Merging.{is_one, coming_in, going_in, staying_in}
 use Rattle.quilt_line_laws.specs.Counting.{gone_of_quarter}
 use Rattle.quilt_lines.specs.declared.removal.Removal.{Removal}
-use Rattle.quilt_lines.specs.declared.merging.Settled.{Settled}
+use Rattle.quilt_lines.specs.declared.merge.Settled.{Settled}
 use Rattle.quilt_lines.specs.Layers.{fact_record}
 use Rattle.quilt_lines.specs.Reads.{ids_of}
 use Rattle.quilt_lines.specs.Plans.{IsLinePlan}

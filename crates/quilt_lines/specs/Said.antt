@@ -7,7 +7,7 @@ use Rattle.quilt_types.specs.declared.stop.Stop.TheVariants.{Damaged}
 use Rattle.quilt_types.specs.Facts.{IsSegment}
 use Rattle.quilt_record.specs.declared.key.Key.{Key}
 use Rattle.quilt_record.specs.declared.record.Record.{Record}
-use Rattle.quilt_btree.specs.Lists.{value_of, range_of}
+use Rattle.quilt_btree.specs.Lists.{value_at_key, range_of}
 use Rattle.quilt_near.specs.declared.part.Part.{Part}
 use Rattle.quilt_near.specs.declared.part.Part.TheVariants.{Split, Leaf}
 use Rattle.quilt_lines.specs.Layers.{fact_record}
@@ -22,13 +22,13 @@ abbrev pub NamesZero : Stop → Type 0
 NamesZero stop = (page : ℕ) → stop ≡ Damaged page → page ≡ 0
 
 -- the last key that a record of the block can have
-abbrev pub last_key : ℕ → ℕ → Block → Key
-last_key n layer b =
+abbrev pub last_block_key : ℕ → ℕ → Block → Key
+last_block_key n layer b =
     let k = (none_of n layer b).key in record { layer = k.layer; part = k.part; code = k.code; depth = k.depth; item = greatest }
 
 -- those of the records that have a key of the block's
 abbrev pub records_at : ℕ → ℕ → Block → List Record → List Record
-records_at n layer b rs = range_of (none_of n layer b).key (last_key n layer b) greatest rs
+records_at n layer b rs = range_of (none_of n layer b).key (last_block_key n layer b) greatest rs
 
 -- those of the records that have a key of a segment's
 abbrev pub segment_records : ℕ → List Record → List Record
@@ -41,11 +41,11 @@ SayIds n layer b records ids =
 
 -- one of the records is that of this segment under the id
 abbrev pub SaySegment : ℕ → ℕ → List Record → ℕ → Seg → Type 0
-SaySegment n layer rs id s = value_of (segment_key layer id) rs ≡ Some (fact_record n layer (IsSegment id s)).value
+SaySegment n layer rs id s = value_at_key (segment_key layer id) rs ≡ Some (fact_record n layer (IsSegment id s)).value
 
 -- none of the records has the key of the id's segment, or one is that of this segment
 abbrev pub SaySegmentAt : ℕ → ℕ → List Record → ℕ → Option Seg → Type 0
-SaySegmentAt n layer rs id None = value_of (segment_key layer id) rs ≡ None
+SaySegmentAt n layer rs id None = value_at_key (segment_key layer id) rs ≡ None
 SaySegmentAt n layer rs id (Some s) = SaySegment n layer rs id s
 
 -- The records have a segment's keys for these segments alone, and are the records of them.

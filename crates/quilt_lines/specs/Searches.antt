@@ -11,20 +11,20 @@ use Rattle.quilt_btree.specs.declared.tree.Tree.{Tree}
 use Rattle.quilt_btree.specs.Lists.{floor_of}
 use Rattle.quilt_btree.specs.Spots.{IsSpotIf}
 use Rattle.quilt_btree.specs.Trees.{IsTree}
-use Rattle.quilt_lines.specs.declared.searching.Search.{Search}
-use Rattle.quilt_lines.specs.Said.{last_key}
+use Rattle.quilt_lines.specs.declared.search.Search.{Search}
+use Rattle.quilt_lines.specs.Said.{last_block_key}
 
 -- the block of one pixel
 abbrev pub one_pixel : Pixel → Block
 one_pixel p = record { x = p.x; y = p.y; side = 1 }
 
 -- the last key that a record of a block can have that begins at the pixel
-abbrev pub pixel_key : ℕ → ℕ → Pixel → Key
-pixel_key n layer p = last_key n layer (one_pixel p)
+abbrev pub last_pixel_key : ℕ → ℕ → Pixel → Key
+last_pixel_key n layer p = last_block_key n layer (one_pixel p)
 
 -- the record is the last one whose key is at most the pixel's
 abbrev pub IsLastAt : Option (List (List ℕ)) → Tree → ℕ → ℕ → Pixel → Option Record → Type 0
-IsLastAt told t n layer p o = (rs : List Record) → IsTree told t rs → o ≡ floor_of (pixel_key n layer p) rs
+IsLastAt told t n layer p o = (rs : List Record) → IsTree told t rs → o ≡ floor_of (last_pixel_key n layer p) rs
 
 -- it is that of a pixel of the block
 pub record IsLastIn (told : Option (List (List ℕ))) (t : Tree) (n layer : ℕ) (b : Block) (o : Option Record) : Type 0 where

@@ -5,7 +5,7 @@ ghost use Rattle.quilt_types.specs.Plane.{in_block, IsBlock};
 ghost use Rattle.quilt_types.specs.Layers.{SegMap, BlockSet};
 ghost use Rattle.quilt_record.specs.declared.record.Record.{Record as AnyRecord};
 ghost use Rattle.quilt_store.specs.Calls.{OnlyReads};
-ghost use Rattle.quilt_store.specs.Stops.{IsSound};
+ghost use Rattle.quilt_store.specs.Stops.{IsNotDamage};
 ghost use Rattle.quilt_world.specs.Tale.{Goes};
 ghost use Rattle.quilt_btree.specs.Spots.{IsSpotIf};
 ghost use Rattle.quilt_btree.specs.Trees.{IsRooted, IsTree};
@@ -14,7 +14,7 @@ ghost use Rattle.quilt_lines.specs.Reads.{AreIdsAt};
 ghost use Rattle.quilt_lines.specs.Hints.{is_cut as is_cut_of, IsOfCover};
 ghost use Rattle.quilt_lines.specs.Said.{NamesZero};
 
-use crate::searching::Search;
+use crate::search::Search;
 use crate::view::LineView;
 use quilt_btree::Spot;
 use quilt_loc::covers;
@@ -85,7 +85,7 @@ impl LineView {
             → HasLines (S.told store.old) self.now.tree self.now.layer self.now.level t segs cover → IsOfCover cover hint.new.block) }
         ensures spot { OnOk result (IsSpotIf (S.told store.old) self.now.tree hint.new.spot) }
         ensures sound { IfErr result (λ e. (t : ℕ) (segs : SegMap) (cover : BlockSet)
-            → HasLines (S.told store.old) self.now.tree self.now.layer self.now.level t segs cover → IsSound e) }
+            → HasLines (S.told store.old) self.now.tree self.now.layer self.now.level t segs cover → IsNotDamage e) }
         ensures zero { IfErr result (λ e. (rs : List AnyRecord) → IsTree (S.told store.old) self.now.tree rs → NamesZero e) }
         ensures left { OnlyReads S.PageStore store.old store.new result }
         ensures reads { IfOk result (λ o. MatchOption o (Goes (λ old new. new ≤ old + 9) (S.reads store.old) (S.reads store.new))
@@ -123,7 +123,7 @@ impl LineView {
             → IsOfCover cover hint.new.block) }
         ensures spot { OnOk result (IsSpotIf (S.told store.old) self.now.tree hint.new.spot) }
         ensures sound { IfErr result (λ e. (t : ℕ) (segs : SegMap) (cover : BlockSet)
-            → HasLines (S.told store.old) self.now.tree self.now.layer self.now.level t segs cover → IsSound e) }
+            → HasLines (S.told store.old) self.now.tree self.now.layer self.now.level t segs cover → IsNotDamage e) }
         ensures zero { IfErr result (λ e. (rs : List AnyRecord) → IsTree (S.told store.old) self.now.tree rs → NamesZero e) }
         ensures left { OnlyReads S.PageStore store.old store.new result }
         ensures reads { IfOk result (λ o. MatchOption o (Goes (λ old new. new ≤ old + 12) (S.reads store.old) (S.reads store.new))

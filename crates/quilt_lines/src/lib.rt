@@ -2,26 +2,26 @@
 //! come when a segment does (PMR quadtrees, Nelson and Samet 1986).
 #![tactic(auto)]
 
-mod adding;
-mod beginning;
-mod counting;
+mod addition;
 mod hint;
+mod ids;
 mod laws;
-mod listing;
 mod marks;
-mod merging;
+mod merge;
 mod removal;
-mod removing;
+mod removal_plan;
 mod runs;
-mod searching;
+mod search;
 mod segments;
-mod settling;
+mod settlement;
+mod start;
+mod tally;
 mod view;
 
-pub use adding::plan_add;
-pub use beginning::first_record;
-pub use counting::block_counts;
+pub use addition::plan_add;
 pub use laws::lines_laws;
-pub use removing::plan_remove;
+pub use removal_plan::plan_remove;
 pub use segments::{scan, segment};
+pub use start::first_record;
+pub use tally::block_counts;
 pub use view::LineView;

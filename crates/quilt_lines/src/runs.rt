@@ -5,7 +5,7 @@ ghost use Rattle.quilt_record.specs.declared.record.Record.{Record as AnyRecord}
 ghost use Rattle.quilt_near.specs.Lines.{Lines};
 ghost use Rattle.quilt_near.specs.Knowing.{known_seg, many_known, Knows, StaysKnown};
 ghost use Rattle.quilt_store.specs.Calls.{OnlyReads};
-ghost use Rattle.quilt_store.specs.Stops.{IsSound};
+ghost use Rattle.quilt_store.specs.Stops.{IsNotDamage};
 ghost use Rattle.quilt_world.specs.Tale.{Goes};
 ghost use Rattle.quilt_btree.specs.Trees.{IsRooted, IsTree};
 ghost use Rattle.quilt_lines.specs.Marks.{IsMark};
@@ -114,7 +114,7 @@ impl LineView {
         ensures many { OnOk result (many_known known.new ≡ many_known known.old + (run.last + 1 - run.first)) }
         ensures zero { IfErr result (λ e. (rs : List AnyRecord) → IsTree (S.told store.old) self.now.tree rs → NamesZero e) }
         ensures sound { IfErr result (λ e. (l : Lines) → ShowsLines (S.told store.old) self.now.tree self.now.layer self.now.level l
-            → ((q : ℕ) → run.first ≤ q → q ≤ run.last → (s : AnySeg) × (finmap.get l.segs q ≡ Some s)) → IsSound e) }
+            → ((q : ℕ) → run.first ≤ q → q ≤ run.last → (s : AnySeg) × (finmap.get l.segs q ≡ Some s)) → IsNotDamage e) }
         ensures left { OnlyReads S.PageStore store.old store.new result }
         ensures reads { OnOk result (Goes (λ old new. new ≤ old + (6 + 3 * (run.last + 1 - run.first))) (S.reads store.old) (S.reads store.new)) }
     {
@@ -165,7 +165,7 @@ impl LineView {
         ensures stays { OnOk result (StaysKnown known.old known.new) }
         ensures zero { IfErr result (λ e. (rs : List AnyRecord) → IsTree (S.told store.old) self.now.tree rs → NamesZero e) }
         ensures sound { IfErr result (λ e. (l : Lines) → ShowsLines (S.told store.old) self.now.tree self.now.layer self.now.level l
-            → ((id : ℕ) → Contains ids.now id → (s : AnySeg) × (finmap.get l.segs id ≡ Some s)) → IsSound e) }
+            → ((id : ℕ) → Contains ids.now id → (s : AnySeg) × (finmap.get l.segs id ≡ Some s)) → IsNotDamage e) }
         ensures left { OnlyReads S.PageStore store.old store.new result }
         ensures reads { OnOk result (Goes (λ old new. new ≤ old + (6 + 3 * length ids.now)) (S.reads store.old) (S.reads store.new)) }
         ensures fresh { OnOk result (Goes (λ old new. new + 3 * many_known known.old ≤ old + 6 + 3 * many_known known.new)

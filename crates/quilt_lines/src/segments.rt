@@ -10,7 +10,7 @@ ghost use Rattle.quilt_loc.specs.Codes.{Rises};
 ghost use Rattle.quilt_record.specs.Canonical.{FactFits};
 ghost use Rattle.quilt_store.specs.Calls.{OnlyReads};
 ghost use Rattle.quilt_world.specs.Tale.{Goes};
-ghost use Rattle.quilt_store.specs.Stops.{IsSound};
+ghost use Rattle.quilt_store.specs.Stops.{IsNotDamage};
 ghost use Rattle.quilt_record.specs.declared.record.Record.{Record};
 ghost use Rattle.quilt_btree.specs.Spots.{IsSpotIf};
 ghost use Rattle.quilt_btree.specs.Trees.{IsRooted, IsTree};
@@ -48,7 +48,7 @@ pub fn segment<S: PageStore>(
         → o ≡ finmap.get segs id) }
     ensures inside { IfOk result (λ o. IfSome o (λ s. is_seg_in_square level s ≡ true)) }
     ensures said { IfOk result (λ o. (rs : List Record) → IsTree (S.told store.old) tree.now rs → SaySegmentAt level layer rs id o) }
-    ensures sound { IfErr result (λ e. (t : ℕ) (segs : SegMap) (cover : BlockSet) → HasLines (S.told store.old) tree.now layer level t segs cover → IsSound e) }
+    ensures sound { IfErr result (λ e. (t : ℕ) (segs : SegMap) (cover : BlockSet) → HasLines (S.told store.old) tree.now layer level t segs cover → IsNotDamage e) }
     ensures zero { IfErr result (λ e. (rs : List Record) → IsTree (S.told store.old) tree.now rs → NamesZero e) }
     ensures left { OnlyReads S.PageStore store.old store.new result }
     ensures reads { Goes (λ old new. new ≤ old + 3) (S.reads store.old) (S.reads store.new) }
@@ -79,7 +79,7 @@ pub fn scan<S: PageStore>(
     ensures inside { IfOk result (λ list. All (λ e. is_seg_in_square level e.1 ≡ true) list) }
     ensures order { IfOk result (λ list. Rises nat_cmp (ids_of list)) }
     ensures said { IfOk result (λ list. (rs : List Record) → IsTree (S.told store.old) tree.now rs → SaySegments level layer (segment_records layer rs) list) }
-    ensures sound { IfErr result (λ e. (t : ℕ) (segs : SegMap) (cover : BlockSet) → HasLines (S.told store.old) tree.now layer level t segs cover → IsSound e) }
+    ensures sound { IfErr result (λ e. (t : ℕ) (segs : SegMap) (cover : BlockSet) → HasLines (S.told store.old) tree.now layer level t segs cover → IsNotDamage e) }
     ensures zero { IfErr result (λ e. (rs : List Record) → IsTree (S.told store.old) tree.now rs → NamesZero e) }
     ensures left { OnlyReads S.PageStore store.old store.new result }
     ensures reads { IfOk result (λ list. Goes (λ old new. new ≤ old + 6 + 3 * length list) (S.reads store.old) (S.reads store.new)) }
@@ -130,7 +130,7 @@ impl LineView {
             SaySegmentAt self.now.level self.now.layer rs id o) }
         ensures zero { IfErr result (λ e. (rs : List Record) → IsTree (S.told store.old) self.now.tree rs → NamesZero e) }
         ensures sound { IfErr result (λ e. (t : ℕ) (segs : SegMap) (cover : BlockSet)
-            → HasLines (S.told store.old) self.now.tree self.now.layer self.now.level t segs cover → IsSound e) }
+            → HasLines (S.told store.old) self.now.tree self.now.layer self.now.level t segs cover → IsNotDamage e) }
         ensures left { OnlyReads S.PageStore store.old store.new result }
         ensures reads { Goes (λ old new. new ≤ old + 3) (S.reads store.old) (S.reads store.new) }
     {
@@ -155,7 +155,7 @@ impl LineView {
             SaySegmentAt self.now.level self.now.layer rs id o) }
         ensures zero { IfErr result (λ e. (rs : List Record) → IsTree (S.told store.old) self.now.tree rs → NamesZero e) }
         ensures sound { IfErr result (λ e. (t : ℕ) (segs : SegMap) (cover : BlockSet)
-            → HasLines (S.told store.old) self.now.tree self.now.layer self.now.level t segs cover → IsSound e) }
+            → HasLines (S.told store.old) self.now.tree self.now.layer self.now.level t segs cover → IsNotDamage e) }
         ensures left { OnlyReads S.PageStore store.old store.new result }
         ensures reads { Goes (λ old new. new ≤ old + 3) (S.reads store.old) (S.reads store.new) }
     {
@@ -200,7 +200,7 @@ impl LineView {
         ensures zero { IfErr result (λ e. (rs : List Record) → IsTree (S.told store.old) self.now.tree rs → NamesZero e) }
         ensures sound { IfErr result (λ e. (t : ℕ) (segs : SegMap) (cover : BlockSet)
             → HasLines (S.told store.old) self.now.tree self.now.layer self.now.level t segs cover
-            → ((id : ℕ) → Contains ids.now id → (s : AnySeg) × (finmap.get segs id ≡ Some s)) → IsSound e) }
+            → ((id : ℕ) → Contains ids.now id → (s : AnySeg) × (finmap.get segs id ≡ Some s)) → IsNotDamage e) }
         ensures left { OnlyReads S.PageStore store.old store.new result }
         ensures reads { IfOk result (λ list. Goes (λ old new. new ≤ old + 3 * length list) (S.reads store.old) (S.reads store.new)) }
     {
@@ -232,7 +232,7 @@ impl LineView {
             × ((rs : List Record) → IsTree (S.told store.old) self.now.tree rs → SaySegment self.now.level self.now.layer rs id s)) }
         ensures zero { IfErr result (λ e. (rs : List Record) → IsTree (S.told store.old) self.now.tree rs → NamesZero e) }
         ensures sound { IfErr result (λ e. (t : ℕ) (segs : SegMap) (cover : BlockSet)
-            → HasLines (S.told store.old) self.now.tree self.now.layer self.now.level t segs cover → (s : AnySeg) → finmap.get segs id ≡ Some s → IsSound e) }
+            → HasLines (S.told store.old) self.now.tree self.now.layer self.now.level t segs cover → (s : AnySeg) → finmap.get segs id ≡ Some s → IsNotDamage e) }
         ensures left { OnlyReads S.PageStore store.old store.new result }
         ensures reads { Goes (λ old new. new ≤ old + 3) (S.reads store.old) (S.reads store.new) }
     {
@@ -264,7 +264,7 @@ impl LineView {
         ensures stays { OnOk result (StaysKnown known.old known.new) }
         ensures zero { IfErr result (λ e. (rs : List Record) → IsTree (S.told store.old) self.now.tree rs → NamesZero e) }
         ensures sound { IfErr result (λ e. (l : Lines) → ShowsLines (S.told store.old) self.now.tree self.now.layer self.now.level l
-            → ((id : ℕ) → Contains ids.now id → (s : AnySeg) × (finmap.get l.segs id ≡ Some s)) → IsSound e) }
+            → ((id : ℕ) → Contains ids.now id → (s : AnySeg) × (finmap.get l.segs id ≡ Some s)) → IsNotDamage e) }
         ensures left { OnlyReads S.PageStore store.old store.new result }
         ensures reads { OnOk result (Goes (λ old new. new ≤ old + 3 * count_by (λ id. is_none (known_seg known.old id)) ids.now)
             (S.reads store.old) (S.reads store.new)) }
@@ -303,7 +303,7 @@ impl LineView {
         ensures stays { OnOk result (StaysKnown known.old known.new) }
         ensures zero { IfErr result (λ e. (rs : List Record) → IsTree (S.told store.old) self.now.tree rs → NamesZero e) }
         ensures sound { IfErr result (λ e. (l : Lines) → ShowsLines (S.told store.old) self.now.tree self.now.layer self.now.level l
-            → (s : AnySeg) → finmap.get l.segs id ≡ Some s → IsSound e) }
+            → (s : AnySeg) → finmap.get l.segs id ≡ Some s → IsNotDamage e) }
         ensures left { OnlyReads S.PageStore store.old store.new result }
         ensures reads { Goes (λ old new. new ≤ old + 3) (S.reads store.old) (S.reads store.new) }
         ensures again { is_none (known_seg known.old id) ≡ false → Goes (λ old new. new ≤ old) (S.reads store.old) (S.reads store.new) }
@@ -339,7 +339,7 @@ impl LineView {
         ensures many { IfOk result (λ list. length list ≡ length records.now) }
         ensures zero { IfErr result NamesZero }
         ensures sound { IfErr result (λ e. (t : ℕ) (segs : SegMap) (cover : BlockSet) → IsLineMap self.now.level t segs cover
-            → records.now ≡ map (fact_record self.now.level self.now.layer) (segment_facts segs) → IsSound e) }
+            → records.now ≡ map (fact_record self.now.level self.now.layer) (segment_facts segs) → IsNotDamage e) }
         ensures no_fault { IsErrOf result Device → ⊥ }
     {
         let mut list = SegList::new(alloc);

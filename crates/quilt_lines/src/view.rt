@@ -6,9 +6,9 @@ ghost use Rattle.quilt_types.specs.Quadtrees.{is_reached};
 ghost use Rattle.quilt_record.specs.declared.record.Record.{Record};
 ghost use Rattle.quilt_world.specs.Tale.{Goes};
 ghost use Rattle.quilt_store.specs.Calls.{OnlyReads};
-ghost use Rattle.quilt_store.specs.Stops.{IsSound};
+ghost use Rattle.quilt_store.specs.Stops.{IsNotDamage};
 ghost use Rattle.quilt_near.specs.Lines.{Lines};
-ghost use Rattle.quilt_near.specs.Parts.{IsPart, IsPartOf, pages_for};
+ghost use Rattle.quilt_near.specs.Parts.{IsPart, PartFits, pages_for};
 ghost use Rattle.quilt_near.specs.Knowing.{Knows, StaysKnown, many_known, block_pages};
 ghost use Rattle.quilt_btree.specs.Trees.{IsRooted, IsTree};
 ghost use Rattle.quilt_lines.specs.Marks.{IsMark};
@@ -90,11 +90,11 @@ impl<S: PageStore> SegBlocks<S> for LineView {
         requires block { IsBlock self.now.level b }
         requires reached { (l : Lines) → ShowsLines (S.told store.old) self.now.tree self.now.layer self.now.level l → is_reached l.cover b ≡ true }
         ensures part { IfOk result (λ part. (l : Lines) → ShowsLines (S.told store.old) self.now.tree self.now.layer self.now.level l → IsPart l b part) }
-        ensures part_of { IfOk result (λ part. IsPartOf self.now.level b part) }
+        ensures part_of { IfOk result (λ part. PartFits self.now.level b part) }
         ensures rooted { (IsRooted (S.size store.old) self.now.tree → ⊥) → result ≡ Err (Damaged 0) }
         ensures said { IfOk result (λ part. (rs : List Record) → IsTree (S.told store.old) self.now.tree rs →
             SayPart self.now.level self.now.layer rs b part) }
-        ensures sound { IfErr result (λ e. (l : Lines) → ShowsLines (S.told store.old) self.now.tree self.now.layer self.now.level l → IsSound e) }
+        ensures sound { IfErr result (λ e. (l : Lines) → ShowsLines (S.told store.old) self.now.tree self.now.layer self.now.level l → IsNotDamage e) }
         ensures zero { IfErr result (λ e. (rs : List Record) → IsTree (S.told store.old) self.now.tree rs → NamesZero e) }
         ensures left { OnlyReads S.PageStore store.old store.new result }
         ensures reads { IfOk result (λ part. Goes (λ old new. new ≤ old + pages_for part) (S.reads store.old) (S.reads store.new)) }
@@ -129,11 +129,11 @@ impl<S: PageStore> SegBlocks<S> for LineView {
         requires reached { (l : Lines) → ShowsLines (S.told store.old) self.now.tree self.now.layer self.now.level l → is_reached l.cover b ≡ true }
         requires known { Knows self.now.level (ShowsLines (S.told store.old) self.now.tree self.now.layer self.now.level) (IsMark (S.told store.old) self.now.tree) known.old }
         ensures part { IfOk result (λ part. (l : Lines) → ShowsLines (S.told store.old) self.now.tree self.now.layer self.now.level l → IsPart l b part) }
-        ensures part_of { IfOk result (λ part. IsPartOf self.now.level b part) }
+        ensures part_of { IfOk result (λ part. PartFits self.now.level b part) }
         ensures known { OnOk result (Knows self.now.level (ShowsLines (S.told store.old) self.now.tree self.now.layer self.now.level) (IsMark (S.told store.old) self.now.tree) known.new) }
         ensures stays { OnOk result (StaysKnown known.old known.new) }
         ensures rooted { (IsRooted (S.size store.old) self.now.tree → ⊥) → result ≡ Err (Damaged 0) }
-        ensures sound { IfErr result (λ e. (l : Lines) → ShowsLines (S.told store.old) self.now.tree self.now.layer self.now.level l → IsSound e) }
+        ensures sound { IfErr result (λ e. (l : Lines) → ShowsLines (S.told store.old) self.now.tree self.now.layer self.now.level l → IsNotDamage e) }
         ensures zero { IfErr result (λ e. (rs : List Record) → IsTree (S.told store.old) self.now.tree rs → NamesZero e) }
         ensures left { OnlyReads S.PageStore store.old store.new result }
         ensures reads { IfOk result (λ part. Goes (λ old new. new ≤ old + pages_for part) (S.reads store.old) (S.reads store.new)) }

@@ -9,12 +9,12 @@ use Rattle.quilt_journal.specs.Kept.{HasHome, published}
 use Rattle.quilt_replies.specs.Answers.{State}
 use Rattle.quilt_map.specs.declared.session.Session.{Session}
 use Rattle.quilt_map.proofs.states.Keeping.{book_leaves, book_seen, book_stands}
-use Rattle.quilt_map.specs.Sessions.{IsAt, world_of, format_of, level_of}
+use Rattle.quilt_map.specs.Sessions.{IsAt, session_world, format_of, level_of}
 
 module _ {W : Type 0} {D : disk.Ghosts W} (session : Session W D) (s : State) where
   -- the world tells its tale, each image that a stop may leave stands for the last edition, and so does the file as it reads
-  pub at_told : IsAt session s → (t : Tale) × (D.told (world_of session) ≡ Some t) × LeavesNow t (λ image. Stands image s.last) × Stands t.seen s.last
-  unfolding IsAt world_of
+  pub at_told : IsAt session s → (t : Tale) × (D.told (session_world session) ≡ Some t) × LeavesNow t (λ image. Stands image s.last) × Stands t.seen s.last
+  unfolding IsAt session_world
   at_told h =
       let at = h.at in
       let stands = λ (image : Pages) (has : HasHome session.book.journal.pages (published at.tale session.book.journal.pages) image).

@@ -12,7 +12,7 @@ use Rattle.quilt_world.specs.Tale.{Goes}
 use Rattle.quilt_spell.specs.Catalogued.{kind_of}
 use Rattle.quilt_spell.specs.Written.{number_of}
 use Rattle.quilt_pool.specs.Views.{entries_of}
-use Rattle.quilt_edition.specs.Keeping.{reads_of}
+use Rattle.quilt_edition.specs.Keeping.{tale_reads}
 use Rattle.quilt_edition.specs.declared.book.Book.{Book}
 use Rattle.quilt_replies.specs.Answers.{State, Outcome, Refused, unless, unknown, unless_region}
 use Rattle.quilt_map.specs.Sessions.{IsLaterBook, told_of, free_of, changed_of}
@@ -66,11 +66,11 @@ module _ {W : Type 0} {D : disk.Ghosts W} where
 module _ {W : Type 0} {D : disk.Ghosts W} where
   -- how often the disk was read, and the pages that are held, the last used first
   abbrev pub reads_in : Book W D → Option ℕ
-  reads_in b = reads_of (D.told b.world)
+  reads_in b = tale_reads (D.told b.world)
 
   -- the pages that the pool holds, the last used first
-  abbrev pub held_of : Book W D → Option (List ℕ)
-  held_of b = Some (keys_of (entries_of b.pool))
+  abbrev pub pages_held : Book W D → Option (List ℕ)
+  pages_held b = Some (keys_of (entries_of b.pool))
 
   -- the disk is not read
   abbrev pub ReadsNothing : Book W D → Book W D → Type 0

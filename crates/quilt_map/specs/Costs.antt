@@ -26,12 +26,12 @@ abbrev pub cut_pages : ℕ → Grid → ℕ → Window → ℕ
 cut_pages n g side w = show_pages n g side w + (6 + 6 * length (leaves_by_code n (cut_to n g w)))
 
 -- the blocks of a layer: all leaves of a region, a look for each block of points, and one for each block of lines and each larger one around it
-abbrev pub block_pages : ℕ → Layer → ℕ
-block_pages n (Region g) = 6 + 3 * length (leaves_by_code n g)
-block_pages n (Points capacity points) = 6 * length (point_blocks n capacity points)
-block_pages n (Lines threshold segs cover) = pages_in cover n (whole n)
+abbrev pub layer_block_pages : ℕ → Layer → ℕ
+layer_block_pages n (Region g) = 6 + 3 * length (leaves_by_code n g)
+layer_block_pages n (Points capacity points) = 6 * length (point_blocks n capacity points)
+layer_block_pages n (Lines threshold segs cover) = pages_in cover n (whole n)
 
 -- the same where there may be no layer
 abbrev pub block_pages_in : ℕ → Option Layer → ℕ
 block_pages_in n None = 0
-block_pages_in n (Some l) = block_pages n l
+block_pages_in n (Some l) = layer_block_pages n l

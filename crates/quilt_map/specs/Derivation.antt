@@ -24,6 +24,6 @@ derived (commands.Buffer a r c) n g = buffered n g r
 derived command n g = g
 
 -- the window of the command, where it has one, lies in the square
-abbrev pub is_inside : ℕ → Command → Bool
-is_inside n (commands.Window a w c) = is_window n w
-is_inside n command = true
+abbrev pub window_is_inside : ℕ → Command → Bool
+window_is_inside n (commands.Window a w c) = is_window n w
+window_is_inside n command = true

@@ -15,8 +15,8 @@ abbrev pub refused : State → Code → Outcome
 refused s code = record { reply = Refused code; work = s.work; published = None }
 
 -- the layer stands under the name, unless the quota refuses it
-abbrev pub placed : State → List ℕ → Layer → Outcome
-placed s name layer = makes s [] name layer
+abbrev pub layer_placed : State → List ℕ → Layer → Outcome
+layer_placed s name layer = makes s [] name layer
 
 module _ {W : Type 0} {D : disk.Ghosts W} where
   -- the reply, the state and the count of changes are those of the outcome, which gives no edition

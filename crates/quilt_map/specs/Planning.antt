@@ -17,7 +17,7 @@ use Rattle.quilt_map.specs.declared.session.Session.{Session}
 use Rattle.quilt_map.specs.Sessions.{IsAtWith, IsAtState, last_count}
 
 -- the records that go and come, each in the order of keys, make the layer under the name the new one, or none
-pub record IsPlan (s : State) (numbers : Numbering) (name : List ℕ) (number : ℕ) (new : Option Layer) (removed added : List Record) : Type 0 where
+pub record IsLayerPlan (s : State) (numbers : Numbering) (name : List ℕ) (number : ℕ) (new : Option Layer) (removed added : List Record) : Type 0 where
   pub step : IsStep s.last.format s.last.level s.work numbers name number new removed added
   pub some : finmap.get s.work name ≡ None → new ≡ None → ⊥
   pub removed_ascend : is_ascending (keys_of removed) ≡ true
@@ -26,7 +26,7 @@ pub record IsPlan (s : State) (numbers : Numbering) (name : List ℕ) (number : 
 -- the records that go and come make the layer under the name the new one, and the entries stay those of the map
 pub record IsAmendment (s : State) (numbers : Numbering) (entries : List Entry) (name : List ℕ) (number : ℕ) (new : Layer)
     (removed added : List Record) : Type 0 where
-  pub plan : IsPlan s numbers name number (Some new) removed added
+  pub plan : IsLayerPlan s numbers name number (Some new) removed added
   pub catalog : IsCatalogOf (with_layer s.work name (Some new)) (with_number numbers name number (Some new)) entries
 
 -- the state with the layer under the name changed

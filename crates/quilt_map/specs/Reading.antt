@@ -10,7 +10,7 @@ use Rattle.quilt_replies.specs.Answers.{State, layer, capacity_in, grid_in, poin
 use Rattle.quilt_replies.specs.declared.reply.Reply.{Reply}
 use Rattle.quilt_map.specs.Asking.{warm_after}
 use Rattle.quilt_map.specs.Costs.{within_pages, show_pages, cut_pages, block_pages_in}
-use Rattle.quilt_map.specs.Selecting.{HasFound, IsAnswered, pages_for}
+use Rattle.quilt_map.specs.Selecting.{HasFound, IsAnswered, pages_for_answer}
 
 -- it is answered, and not refused
 abbrev pub IsAnsweredOk : Result Reply Stop → Type 0
@@ -44,10 +44,10 @@ pages_most s (commands.At a p) = 6
 pages_most s (commands.Find p at) = if capacity_in (layer s p) == 1 then 6 else 9
 pages_most s (commands.Within p w) = within_pages s.last.level (capacity_in (layer s p)) (points_in (layer s p)) w
 pages_most s (commands.Blocks a) = block_pages_in s.last.level (layer s a)
-pages_most s (commands.Cross l w) = pages_for s.last.level (commands.Cross l w) (segs_in (layer s l)) (cover_in (layer s l))
-pages_most s (commands.Clip l w) = pages_for s.last.level (commands.Clip l w) (segs_in (layer s l)) (cover_in (layer s l))
-pages_most s (commands.Nearest l at) = pages_for s.last.level (commands.Nearest l at) (segs_in (layer s l)) (cover_in (layer s l))
-pages_most s (commands.Rank l at k) = pages_for s.last.level (commands.Rank l at k) (segs_in (layer s l)) (cover_in (layer s l))
+pages_most s (commands.Cross l w) = pages_for_answer s.last.level (commands.Cross l w) (segs_in (layer s l)) (cover_in (layer s l))
+pages_most s (commands.Clip l w) = pages_for_answer s.last.level (commands.Clip l w) (segs_in (layer s l)) (cover_in (layer s l))
+pages_most s (commands.Nearest l at) = pages_for_answer s.last.level (commands.Nearest l at) (segs_in (layer s l)) (cover_in (layer s l))
+pages_most s (commands.Rank l at k) = pages_for_answer s.last.level (commands.Rank l at k) (segs_in (layer s l)) (cover_in (layer s l))
 pages_most s command = 0
 
 -- It reads no more pages than that. A window of a region is read by blocks of one side: the least power of two that is no less than the

@@ -95,8 +95,8 @@ IsAnswered (given.Ok text) = Unit {0}
 IsAnswered (given.No code) = ⊥
 
 -- how many pages the answer may cost, at this level
-abbrev pub pages_for : ℕ → Command → SegMap → BlockSet → ℕ
-pages_for n command segs cover = reach n segs cover (is_asked command segs)
+abbrev pub pages_for_answer : ℕ → Command → SegMap → BlockSet → ℕ
+pages_for_answer n command segs cover = reach n segs cover (is_asked command segs)
 
 -- where the tests of a line layer and a region layer come first, they refuse with the code
 abbrev pub AreNotLinesAndRegion : State → List ℕ → List ℕ → Code → Type 0

@@ -17,8 +17,8 @@ use Rattle.quilt_map.specs.declared.session.Session.{Session}
 
 module _ {W : Type 0} {D : disk.Ghosts W} where
   -- the pages of this pixel are among the first that are held
-  abbrev pub IsHeldIn : Option (List ℕ × Pixel) → Session W D → Type 0
-  IsHeldIn warm s = IsHeldWarm warm s.catalog (told_of s.book) s.book.work (keys_of (entries_of s.book.pool))
+  abbrev pub IsLastPixelIn : Option (List ℕ × Pixel) → Session W D → Type 0
+  IsLastPixelIn warm s = IsHeldWarm warm s.catalog (told_of s.book) s.book.work (keys_of (entries_of s.book.pool))
 
   -- an `at` of the pixel that was asked for last reads no page
   abbrev pub ReadsNoneAgain : Command → Session W D → Session W D → Type 0
@@ -29,5 +29,5 @@ module _ {W : Type 0} {D : disk.Ghosts W} where
   -- all that is promised of the answer, and what is held behind it for the next `at`
   pub record IsServed (command : Command) (old new : Session W D) (r : Result Reply Stop) : Type 0 where
     pub applied : IsAppliedBy IsAtState command old new r
-    pub held : IsHeldIn (warm_left command r) new
+    pub held : IsLastPixelIn (warm_left command r) new
     pub again : ReadsNoneAgain command old new

@@ -26,22 +26,22 @@ use Rattle.quilt_spell.specs.Catalogued.{IsCatalogOf}
 use Rattle.quilt_edition.specs.declared.book.Book.{Book}
 use Rattle.quilt_edition.specs.Books as books
 use Rattle.quilt_edition.specs.Keeping.{told_pages, is_free, marked_count, IsLater}
-use Rattle.quilt_edition.specs.Keeping.{reads_of as disk_reads}
+use Rattle.quilt_edition.specs.Keeping.{tale_reads as disk_reads}
 use Rattle.quilt_pool.specs.Views.{entries_of}
 use Rattle.quilt_replies.specs.Answers.{State}
 use Rattle.quilt_map.specs.declared.session.Session.{Session}
 
 -- a capacity is 1 to 16, and a threshold is 1 to 32
-abbrev pub KindFits : Kind → Type 0
-KindFits kinds.Region = Unit {0}
-KindFits (kinds.Points bucket) = (1 ≤ bucket) × (bucket ≤ 16)
-KindFits (kinds.Lines threshold) = (1 ≤ threshold) × (threshold ≤ 32)
+abbrev pub KindInRange : Kind → Type 0
+KindInRange kinds.Region = Unit {0}
+KindInRange (kinds.Points bucket) = (1 ≤ bucket) × (bucket ≤ 16)
+KindInRange (kinds.Lines threshold) = (1 ≤ threshold) × (threshold ≤ 32)
 
 -- The numbers of a catalog's entries are from 1 to 255 and differ, each capacity is 1 to 16, and each threshold 1 to 32.
 pub record IsNumbered (entries : List Entry) : Type 0 where
   pub least : All (λ e. 1 ≤ e.number) entries
   pub differ : IsDistinct nat_eq (map (λ (e : Entry). e.number) entries)
-  pub kinds : All (λ e. KindFits e.kind) entries
+  pub kinds : All (λ e. KindInRange e.kind) entries
 
 -- the tree of a header
 abbrev pub tree_in : Head → Tree
@@ -111,8 +111,8 @@ first_state pages e = record { quota = quota pages; last = e; work = e.layers }
 
 module _ {W : Type 0} {D : disk.Ghosts W} where
   -- the world that its file is in
-  unfoldable pub world_of : Session W D → W
-  world_of s = s.book.world
+  unfoldable pub session_world : Session W D → W
+  session_world s = s.book.world
 
   -- the format of the last edition
   unfoldable pub format_of : Session W D → ℕ
@@ -127,8 +127,8 @@ module _ {W : Type 0} {D : disk.Ghosts W} where
   head_of s = s.book.work
 
   -- no publish has failed behind its first write
-  unfoldable pub IsReady : Session W D → Type 0
-  IsReady s = books.IsReady s.book
+  unfoldable pub IsSessionReady : Session W D → Type 0
+  IsSessionReady s = books.IsReady s.book
 
   -- how many records were removed and added since the file was opened or since the last edition or revert
   unfoldable pub changes_of : Session W D → ℕ

@@ -22,12 +22,12 @@ abbrev pub StandsFor : State → Command → Pages → Type 0
 StandsFor s command image = Stands image s.last ⊎ StandsForNew (answer s command).published image
 
 -- At each event since, a stop leaves the last edition, or the one that the command gives.
-pub record Leaves (s : State) (command : Command) (old new : Tale) : Type 0 where
+pub record LeavesEdition (s : State) (command : Command) (old new : Tale) : Type 0 where
   pub since : Since old new (StandsFor s command)
 
 -- A command that gives an edition writes at most 18 pages for each record that was changed, and 8 more.
-abbrev pub WritesFew : State → Command → ℕ → Tale → Tale → Type 0
-WritesFew s command changed old new = is_some (answer s command).published ≡ true → Writing (18 * changed + 8) old new
+abbrev pub CommandWritesFew : State → Command → ℕ → Tale → Tale → Type 0
+CommandWritesFew s command changed old new = is_some (answer s command).published ≡ true → Writing (18 * changed + 8) old new
 
 -- the commands that give an edition
 abbrev pub gives_edition : Command → Bool

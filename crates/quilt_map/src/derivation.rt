@@ -4,7 +4,7 @@ ghost use Rattle.quilt_types.specs.declared.plane.Window.{Window as AnyWindow};
 ghost use Rattle.quilt_words.specs.declared.command.Command.TheVariants as commands;
 ghost use Rattle.quilt_words.specs.Fitting.{IsFitting};
 ghost use Rattle.quilt_world.specs.Tale.{Goes};
-ghost use Rattle.quilt_store.specs.Stops.{HasStopCause, IsSound};
+ghost use Rattle.quilt_store.specs.Stops.{HasStopCause, IsNotDamage};
 ghost use Rattle.quilt_region.specs.Covers.{IsSideOver};
 ghost use Rattle.quilt_region.specs.Regions.{HasRegion};
 ghost use Rattle.quilt_edition.specs.Books as books;
@@ -12,12 +12,12 @@ ghost use Rattle.quilt_replies.specs.Answers.{State, layer as layer_of, grid_in}
 ghost use Rattle.quilt_map.specs.Asking.{IsStill, reads_in};
 ghost use Rattle.quilt_map.specs.Commanding.{Answered, Refuses};
 ghost use Rattle.quilt_map.specs.Costs.{show_pages, cut_pages};
-ghost use Rattle.quilt_map.specs.Derivation.{layers_derived, derived, is_inside};
-ghost use Rattle.quilt_map.specs.Making.{AnsweredBy, placed};
+ghost use Rattle.quilt_map.specs.Derivation.{layers_derived, derived, window_is_inside};
+ghost use Rattle.quilt_map.specs.Making.{AnsweredBy, layer_placed};
 ghost use Rattle.quilt_map.specs.Painting.{IsRegionIn};
 ghost use Rattle.quilt_map.specs.Sessions.{IsAtState, told_of, tree_in};
 
-use crate::asking::has_window;
+use crate::queries::has_window;
 use crate::refusals::why_not_new;
 use crate::regions::{read_part, read_region, region_number};
 use crate::session::Session;
@@ -35,7 +35,7 @@ use std::alloc::{AllocError, Global};
 /// Whether the window of the command, where it has one, lies in the square.
 fn has_its_window(level: u8, command: &Command) -> bool
     requires { level ≤ 12 }
-    ensures { result ≡ is_inside level command.now }
+    ensures { result ≡ window_is_inside level command.now }
 {
     match command {
         Command::Window { w, .. } => has_window(level, *w),
@@ -46,7 +46,7 @@ fn has_its_window(level: u8, command: &Command) -> bool
 /// The leaves that a command makes of those of a layer.
 fn derived_list(alloc: Global, list: &LeafList, command: &Command) -> Result<LeafList, AllocError>
     requires derives { is_some (layers_derived command.now) ≡ true }
-    requires inside { is_inside list.now.level command.now ≡ true }
+    requires inside { window_is_inside list.now.level command.now ≡ true }
     ensures { IfOk result (λ made. made ≡ record { level = list.now.level; grid = derived command.now list.now.level list.now.grid }) }
 {
     match command {
@@ -66,13 +66,13 @@ fn read_derived<W: Disk>(
     number: u8,
     command: &Command,
 ) -> Result<LeafList, Stop>
-    requires inside { is_inside (books.work_of book.old).level command.now ≡ true }
+    requires inside { window_is_inside (books.work_of book.old).level command.now ≡ true }
     ensures list { IfOk result (λ list. (g : Grid) → HasRegion (told_of book.old) (tree_in (books.work_of book.old)) number (books.work_of book.old).level g
         → derived command.now (books.work_of book.old).level list.grid ≡ derived command.now (books.work_of book.old).level g) }
     ensures level { IfOk result (λ list. list.level ≡ (books.work_of book.old).level) }
     ensures number { OnOk result (1 ≤ number) }
     ensures sound { IfErr result (λ e. (g : Grid) → 1 ≤ number
-        → HasRegion (told_of book.old) (tree_in (books.work_of book.old)) number (books.work_of book.old).level g → IsSound e) }
+        → HasRegion (told_of book.old) (tree_in (books.work_of book.old)) number (books.work_of book.old).level g → IsNotDamage e) }
     ensures still { IsStill book.old book.new }
     ensures cause { HasStopCause (W.faults (books.world_of book.old)) (W.faults (books.world_of book.new)) result }
     ensures reads { IfOk result (λ list. (g : Grid) (side : ℕ) (a c : List ℕ) (w : AnyWindow) → command.now ≡ commands.Window a w c → IsSideOver w side
@@ -91,13 +91,13 @@ impl<W: World> Session<W> {
         requires few { length self.old.catalog < 255 }
         requires new { All (λ e. e.name ≢ into.now) self.old.catalog }
         requires derives { is_some (layers_derived command.now) ≡ true }
-        requires inside { is_inside (books.work_of self.old.book).level command.now ≡ true }
+        requires inside { window_is_inside (books.work_of self.old.book).level command.now ≡ true }
         ensures made { IfOk result (λ reply. (s : State) → IsAtState self.old s → (name : List ℕ) (g : Grid)
             → IsRegionIn s.work self.old.catalog name number g →
             IsFitting s.last.format s.last.level command.now
-            → AnsweredBy s (placed s into.now (Region (derived command.now s.last.level g))) self.old self.new reply) }
+            → AnsweredBy s (layer_placed s into.now (Region (derived command.now s.last.level g))) self.old self.new reply) }
         ensures sound { IfErr result (λ e. (s : State) → IsAtState self.old s → (name : List ℕ) (g : Grid) → IsRegionIn s.work self.old.catalog name number g →
-            IsFitting s.last.format s.last.level command.now → IsSound e) }
+            IsFitting s.last.format s.last.level command.now → IsNotDamage e) }
         ensures refused { IfOk result (Refuses self.old self.new) }
         ensures goes_on { books.GoesOn self.old.book self.new.book }
         ensures cause { HasStopCause (W.faults (books.world_of self.old.book)) (W.faults (books.world_of self.new.book)) result }
@@ -126,7 +126,7 @@ impl<W: World> Session<W> {
         requires { layers_derived command.now ≡ Some (name.now, into.now) }
         ensures answer { IfOk result (λ reply. (s : State) → IsAtState self.old s → IsFitting s.last.format s.last.level command.now
             → Answered s command.now self.old self.new reply) }
-        ensures sound { IfErr result (λ e. (s : State) → IsAtState self.old s → IsFitting s.last.format s.last.level command.now → IsSound e) }
+        ensures sound { IfErr result (λ e. (s : State) → IsAtState self.old s → IsFitting s.last.format s.last.level command.now → IsNotDamage e) }
         ensures refused { IfOk result (Refuses self.old self.new) }
         ensures goes_on { books.GoesOn self.old.book self.new.book }
         ensures cause { HasStopCause (W.faults (books.world_of self.old.book)) (W.faults (books.world_of self.new.book)) result }

@@ -16,7 +16,7 @@ use quilt_world::{Disk, Fault, World};
 
 impl<W: World> Session<W> {
     /// Makes the work the next edition, in the format of the work's header. After an Err the session is only given up.
-    pub(crate) fn renew(&mut self) -> Result<(), Stop>
+    pub(crate) fn commit(&mut self) -> Result<(), Stop>
         requires ready { books.IsReady self.old.book }
         requires number { (books.last_of self.old.book).edition < 4294967295 }
         ensures renewed { OnOk result ((s : State) (e : Edition) → CanPublish self.old s e → IsRenewed self.new s e) }

@@ -7,17 +7,17 @@ ghost use Rattle.quilt_types.specs.Plane.{side};
 ghost use Rattle.quilt_types.specs.Quadtrees.{after_add, after_remove};
 ghost use Rattle.quilt_record.specs.Records.{Numbering};
 ghost use Rattle.quilt_world.specs.Tale.{Goes};
-ghost use Rattle.quilt_store.specs.Stops.{HasStopCause, IsSound};
-ghost use Rattle.quilt_edits.specs.Edits.{AreInOrder};
+ghost use Rattle.quilt_store.specs.Stops.{HasStopCause, IsNotDamage};
+ghost use Rattle.quilt_edits.specs.Edits.{EditsAscend};
 ghost use Rattle.quilt_lines.specs.Plans.{IsLinePlan};
 ghost use Rattle.quilt_spell.specs.Catalogued.{IsCatalogOf};
 ghost use Rattle.quilt_edition.specs.Books.{world_of, work_of};
 ghost use Rattle.quilt_replies.specs.Answers.{State};
 ghost use Rattle.quilt_map.specs.Asking.{IsStill, reads_in};
-ghost use Rattle.quilt_map.specs.Costs.{block_pages};
+ghost use Rattle.quilt_map.specs.Costs.{layer_block_pages};
 ghost use Rattle.quilt_map.specs.LineLayers.{IsLinesAt, IsNoLines, HoldsLines};
 
-use crate::changing::DAMAGED;
+use crate::change::DAMAGED;
 use crate::regions::{layer_under, tree_of};
 use quilt_edition::Book;
 use quilt_lines::{block_counts, plan_add, plan_remove};
@@ -68,8 +68,8 @@ pub(crate) fn plan_addition<W: Disk>(
         IsLinePlan (work_of book.old).level layer.number layer.threshold segs (finmap.insert segs id s) cover
         (after_add layer.threshold (finmap.insert segs id s) cover s) edits)) }
     ensures none { IfOk result (λ o. (segs : SegMap) (cover : BlockSet) → HoldsLines book.old layer segs cover → IsNone o ↔ IsSome (finmap.get segs id)) }
-    ensures order { IfOk result (λ o. IfSome o AreInOrder) }
-    ensures sound { IfErr result (λ e. (segs : SegMap) (cover : BlockSet) → 1 ≤ layer.number → HoldsLines book.old layer segs cover → IsSound e) }
+    ensures order { IfOk result (λ o. IfSome o EditsAscend) }
+    ensures sound { IfErr result (λ e. (segs : SegMap) (cover : BlockSet) → 1 ≤ layer.number → HoldsLines book.old layer segs cover → IsNotDamage e) }
     ensures still { IsStill book.old book.new }
     ensures cause { HasStopCause (W.faults (world_of book.old)) (W.faults (world_of book.new)) result }
 {
@@ -104,8 +104,8 @@ pub(crate) fn plan_removal<W: Disk>(
     ensures none { IfOk result (λ o. (segs : SegMap) (cover : BlockSet) → HoldsLines book.old layer segs cover → IsNone o ↔ IsNone (finmap.get segs id)) }
     ensures fewer { IfOk result (λ o. IfSome o (λ edits. (segs : SegMap) (cover : BlockSet) →
         HoldsLines book.old layer segs cover → length edits.add < length edits.remove)) }
-    ensures order { IfOk result (λ o. IfSome o AreInOrder) }
-    ensures sound { IfErr result (λ e. (segs : SegMap) (cover : BlockSet) → 1 ≤ layer.number → HoldsLines book.old layer segs cover → IsSound e) }
+    ensures order { IfOk result (λ o. IfSome o EditsAscend) }
+    ensures sound { IfErr result (λ e. (segs : SegMap) (cover : BlockSet) → 1 ≤ layer.number → HoldsLines book.old layer segs cover → IsNotDamage e) }
     ensures still { IsStill book.old book.new }
     ensures cause { HasStopCause (W.faults (world_of book.old)) (W.faults (world_of book.new)) result }
 {
@@ -128,11 +128,11 @@ pub(crate) fn plan_removal<W: Disk>(
 pub(crate) fn line_counts<W: Disk>(book: &mut Book<W>, layer: LineLayer) -> Result<[u32; 13], Stop>
     ensures counts { IfOk result (λ counts. (segs : SegMap) (cover : BlockSet) → HoldsLines book.old layer segs cover →
         (k : ℕ) → k ≤ 12 → slice_index counts k ≡ count_by (λ b. b.side == side k) (finset.items cover)) }
-    ensures sound { IfErr result (λ e. (segs : SegMap) (cover : BlockSet) → 1 ≤ layer.number → HoldsLines book.old layer segs cover → IsSound e) }
+    ensures sound { IfErr result (λ e. (segs : SegMap) (cover : BlockSet) → 1 ≤ layer.number → HoldsLines book.old layer segs cover → IsNotDamage e) }
     ensures still { IsStill book.old book.new }
     ensures cause { HasStopCause (W.faults (world_of book.old)) (W.faults (world_of book.new)) result }
     ensures reads { IfOk result (λ counts. (segs : SegMap) (cover : BlockSet) → HoldsLines book.old layer segs cover →
-        Goes (λ old new. new ≤ old + block_pages (work_of book.old).level (Lines layer.threshold segs cover)) (reads_in book.old) (reads_in book.new)) }
+        Goes (λ old new. new ≤ old + layer_block_pages (work_of book.old).level (Lines layer.threshold segs cover)) (reads_in book.old) (reads_in book.new)) }
 {
     if !can_be(layer) {
         return Err(DAMAGED);

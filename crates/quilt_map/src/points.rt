@@ -6,18 +6,18 @@ ghost use Rattle.quilt_types.specs.Plane.{side, is_pixel, is_window, in_window};
 ghost use Rattle.quilt_types.specs.Quadtrees.{point_blocks};
 ghost use Rattle.quilt_record.specs.Records.{Numbering};
 ghost use Rattle.quilt_world.specs.Tale.{Goes};
-ghost use Rattle.quilt_store.specs.Stops.{HasStopCause, IsSound};
-ghost use Rattle.quilt_edits.specs.Edits.{AreInOrder};
-ghost use Rattle.quilt_points.specs.Layers.{entries_of};
-ghost use Rattle.quilt_points.specs.Plans.{IsPlan, AreNew, with_points};
+ghost use Rattle.quilt_store.specs.Stops.{HasStopCause, IsNotDamage};
+ghost use Rattle.quilt_edits.specs.Edits.{EditsAscend};
+ghost use Rattle.quilt_points.specs.Layers.{point_entries};
+ghost use Rattle.quilt_points.specs.Plans.{IsPointPlan, AreNew, points_with};
 ghost use Rattle.quilt_spell.specs.Catalogued.{IsCatalogOf};
 ghost use Rattle.quilt_edition.specs.Books.{world_of, last_of, work_of};
 ghost use Rattle.quilt_replies.specs.Answers.{State};
 ghost use Rattle.quilt_map.specs.Asking.{IsStill, reads_in};
-ghost use Rattle.quilt_map.specs.Costs.{within_pages, block_pages};
+ghost use Rattle.quilt_map.specs.Costs.{within_pages, layer_block_pages};
 ghost use Rattle.quilt_map.specs.PointLayers.{IsPointsAt, IsNoPoints, HoldsPoints};
 
-use crate::changing::DAMAGED;
+use crate::change::DAMAGED;
 use crate::regions::{layer_under, tree_of};
 use quilt_edition::Book;
 use quilt_points::{block_counts, find, plan_del, plan_put, plan_scatter, within};
@@ -66,10 +66,10 @@ pub(crate) fn plan_point<W: Disk>(
     requires in_y { at.y < side (last_of book.old).level }
     ensures plan { IfOk result
         (λ o. IfSome o (λ edits. (points : PointMap) → HoldsPoints book.old layer points
-        → IsPlan (work_of book.old).level layer.number layer.bucket points (finmap.insert points at label) edits)) }
+        → IsPointPlan (work_of book.old).level layer.number layer.bucket points (finmap.insert points at label) edits)) }
     ensures none { IfOk result (λ o. (points : PointMap) → HoldsPoints book.old layer points → IsNone o ↔ IsSome (finmap.get points at)) }
-    ensures order { IfOk result (λ o. IfSome o AreInOrder) }
-    ensures sound { IfErr result (λ e. (points : PointMap) → 1 ≤ layer.number → HoldsPoints book.old layer points → IsSound e) }
+    ensures order { IfOk result (λ o. IfSome o EditsAscend) }
+    ensures sound { IfErr result (λ e. (points : PointMap) → 1 ≤ layer.number → HoldsPoints book.old layer points → IsNotDamage e) }
     ensures still { IsStill book.old book.new }
     ensures cause { HasStopCause (W.faults (world_of book.old)) (W.faults (world_of book.new)) result }
 {
@@ -101,10 +101,10 @@ pub(crate) fn plan_removal<W: Disk>(
     requires in_y { at.y < side (last_of book.old).level }
     ensures plan { IfOk result
         (λ o. IfSome o (λ edits. (points : PointMap) → HoldsPoints book.old layer points
-        → IsPlan (work_of book.old).level layer.number layer.bucket points (finmap.remove points at) edits)) }
+        → IsPointPlan (work_of book.old).level layer.number layer.bucket points (finmap.remove points at) edits)) }
     ensures none { IfOk result (λ o. (points : PointMap) → HoldsPoints book.old layer points → IsNone o ↔ IsNone (finmap.get points at)) }
-    ensures order { IfOk result (λ o. IfSome o AreInOrder) }
-    ensures sound { IfErr result (λ e. (points : PointMap) → 1 ≤ layer.number → HoldsPoints book.old layer points → IsSound e) }
+    ensures order { IfOk result (λ o. IfSome o EditsAscend) }
+    ensures sound { IfErr result (λ e. (points : PointMap) → 1 ≤ layer.number → HoldsPoints book.old layer points → IsNotDamage e) }
     ensures still { IsStill book.old book.new }
     ensures cause { HasStopCause (W.faults (world_of book.old)) (W.faults (world_of book.new)) result }
 {
@@ -133,7 +133,7 @@ pub(crate) fn read_label<W: Disk>(
     requires in_x { at.x < side (last_of book.old).level }
     requires in_y { at.y < side (last_of book.old).level }
     ensures label { IfOk result (λ label. (points : PointMap) → HoldsPoints book.old layer points → label ≡ finmap.get points at) }
-    ensures sound { IfErr result (λ e. (points : PointMap) → 1 ≤ layer.number → HoldsPoints book.old layer points → IsSound e) }
+    ensures sound { IfErr result (λ e. (points : PointMap) → 1 ≤ layer.number → HoldsPoints book.old layer points → IsNotDamage e) }
     ensures still { IsStill book.old book.new }
     ensures cause { HasStopCause (W.faults (world_of book.old)) (W.faults (world_of book.new)) result }
     ensures reads { Goes (λ old new. new ≤ old + (if layer.bucket == 1 then 6 else 9)) (reads_in book.old) (reads_in book.new) }
@@ -161,8 +161,8 @@ pub(crate) fn read_points<W: Disk>(
 ) -> Result<PointList, Stop>
     requires window { is_window (work_of book.old).level w ≡ true }
     ensures points { IfOk result (λ list. (points : PointMap) → HoldsPoints book.old layer points
-        → entries_of list ≡ filter (λ e. in_window w e.0) (finmap.entries points)) }
-    ensures sound { IfErr result (λ e. (points : PointMap) → 1 ≤ layer.number → HoldsPoints book.old layer points → IsSound e) }
+        → point_entries list ≡ filter (λ e. in_window w e.0) (finmap.entries points)) }
+    ensures sound { IfErr result (λ e. (points : PointMap) → 1 ≤ layer.number → HoldsPoints book.old layer points → IsNotDamage e) }
     ensures still { IsStill book.old book.new }
     ensures cause { HasStopCause (W.faults (world_of book.old)) (W.faults (world_of book.new)) result }
     ensures reads { IfOk result (λ list. (points : PointMap) → HoldsPoints book.old layer points
@@ -194,10 +194,10 @@ pub(crate) fn plan_points<W: Disk>(
     requires pixels { All (λ p. is_pixel (work_of book.old).level p.at ≡ true) points.now }
     ensures plan { IfOk result
         (λ o. IfSome o (λ edits. (held : PointMap) → HoldsPoints book.old layer held
-        → IsPlan (work_of book.old).level layer.number layer.bucket held (with_points held points.now) edits)) }
+        → IsPointPlan (work_of book.old).level layer.number layer.bucket held (points_with held points.now) edits)) }
     ensures none { IfOk result (λ o. (held : PointMap) → HoldsPoints book.old layer held → IsNone o ↔ (AreNew held points.now → ⊥)) }
-    ensures order { IfOk result (λ o. IfSome o AreInOrder) }
-    ensures sound { IfErr result (λ e. (held : PointMap) → 1 ≤ layer.number → HoldsPoints book.old layer held → IsSound e) }
+    ensures order { IfOk result (λ o. IfSome o EditsAscend) }
+    ensures sound { IfErr result (λ e. (held : PointMap) → 1 ≤ layer.number → HoldsPoints book.old layer held → IsNotDamage e) }
     ensures still { IsStill book.old book.new }
     ensures cause { HasStopCause (W.faults (world_of book.old)) (W.faults (world_of book.new)) result }
 {
@@ -223,11 +223,11 @@ pub(crate) fn point_counts<W: Disk>(
 ) -> Result<[u32; 13], Stop>
     ensures counts { IfOk result (λ counts. (points : PointMap) → HoldsPoints book.old layer points →
         (k : ℕ) → k ≤ 12 → slice_index counts k ≡ count_by (λ b. b.side == side k) (point_blocks (work_of book.old).level layer.bucket points)) }
-    ensures sound { IfErr result (λ e. (points : PointMap) → 1 ≤ layer.number → HoldsPoints book.old layer points → IsSound e) }
+    ensures sound { IfErr result (λ e. (points : PointMap) → 1 ≤ layer.number → HoldsPoints book.old layer points → IsNotDamage e) }
     ensures still { IsStill book.old book.new }
     ensures cause { HasStopCause (W.faults (world_of book.old)) (W.faults (world_of book.new)) result }
     ensures reads { IfOk result (λ counts. (points : PointMap) → HoldsPoints book.old layer points
-        → Goes (λ old new. new ≤ old + block_pages (work_of book.old).level (Points layer.bucket points)) (reads_in book.old) (reads_in book.new)) }
+        → Goes (λ old new. new ≤ old + layer_block_pages (work_of book.old).level (Points layer.bucket points)) (reads_in book.old) (reads_in book.new)) }
 {
     if !can_be(layer) {
         return Err(DAMAGED);

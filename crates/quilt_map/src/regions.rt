@@ -8,19 +8,19 @@ ghost use Rattle.quilt_record.specs.declared.record.Record.{Record as AnyRecord}
 ghost use Rattle.quilt_record.specs.Records.{Numbering};
 ghost use Rattle.quilt_world.specs.Tale.{Goes};
 ghost use Rattle.quilt_btree.specs.Floors.{HoldsFirst, ReadsNone};
-ghost use Rattle.quilt_store.specs.Stops.{HasStopCause, IsSound};
+ghost use Rattle.quilt_store.specs.Stops.{HasStopCause, IsNotDamage};
 ghost use Rattle.quilt_btree.specs.Trees.{IsTree};
 ghost use Rattle.quilt_region.specs.Regions.{HasRegion};
-ghost use Rattle.quilt_region.specs.Plans.{LeadsTo};
+ghost use Rattle.quilt_region.specs.Plans.{ReplacesGrid};
 ghost use Rattle.quilt_region.specs.Covers.{AgreesIn, IsSideOver};
 ghost use Rattle.quilt_spell.specs.Catalogued.{IsCatalogOf};
 ghost use Rattle.quilt_edition.specs.Books.{world_of, last_of, work_of};
 ghost use Rattle.quilt_replies.specs.Answers.{State};
-ghost use Rattle.quilt_map.specs.Asking.{IsLayerUnder, IsRegionAt, IsRefusedFirst, IsStill, reads_in, held_of};
-ghost use Rattle.quilt_map.specs.Costs.{show_pages, block_pages};
+ghost use Rattle.quilt_map.specs.Asking.{IsLayerUnder, IsRegionAt, IsRefusedFirst, IsStill, reads_in, pages_held};
+ghost use Rattle.quilt_map.specs.Costs.{show_pages, layer_block_pages};
 ghost use Rattle.quilt_map.specs.Sessions.{told_of, tree_in, pages_asked};
 
-use crate::changing::DAMAGED;
+use crate::change::DAMAGED;
 use crate::entries::index_of;
 use quilt_blocks::LeafList;
 use quilt_btree::Tree;
@@ -77,11 +77,11 @@ pub(crate) fn read_region<W: Disk>(
     ensures level { IfOk result (λ list. list.level ≡ (work_of book.old).level) }
     ensures number { OnOk result (1 ≤ number) }
     ensures sound { IfErr result (λ e. (g : Grid) → 1 ≤ number
-        → HasRegion (told_of book.old) (tree_in (work_of book.old)) number (work_of book.old).level g → IsSound e) }
+        → HasRegion (told_of book.old) (tree_in (work_of book.old)) number (work_of book.old).level g → IsNotDamage e) }
     ensures still { IsStill book.old book.new }
     ensures cause { HasStopCause (W.faults (world_of book.old)) (W.faults (world_of book.new)) result }
     ensures reads { IfOk result (λ list. (g : Grid) → HasRegion (told_of book.old) (tree_in (work_of book.old)) number (work_of book.old).level g
-        → Goes (λ old new. new ≤ old + block_pages (work_of book.old).level (Region g)) (reads_in book.old) (reads_in book.new)) }
+        → Goes (λ old new. new ≤ old + layer_block_pages (work_of book.old).level (Region g)) (reads_in book.old) (reads_in book.new)) }
 {
     if number == 0 {
         return Err(DAMAGED);
@@ -95,11 +95,11 @@ pub(crate) fn region_counts<W: Disk>(book: &mut Book<W>, number: u8) -> Result<[
     ensures counts { IfOk result (λ counts. (g : Grid) → HasRegion (told_of book.old) (tree_in (work_of book.old)) number (work_of book.old).level g
         → (k : ℕ) → k ≤ 12 → slice_index counts k ≡ count_by (λ e. e.0.side == side k) (leaves (work_of book.old).level g)) }
     ensures sound { IfErr result (λ e. (g : Grid) → 1 ≤ number
-        → HasRegion (told_of book.old) (tree_in (work_of book.old)) number (work_of book.old).level g → IsSound e) }
+        → HasRegion (told_of book.old) (tree_in (work_of book.old)) number (work_of book.old).level g → IsNotDamage e) }
     ensures still { IsStill book.old book.new }
     ensures cause { HasStopCause (W.faults (world_of book.old)) (W.faults (world_of book.new)) result }
     ensures reads { IfOk result (λ counts. (g : Grid) → HasRegion (told_of book.old) (tree_in (work_of book.old)) number (work_of book.old).level g
-        → Goes (λ old new. new ≤ old + block_pages (work_of book.old).level (Region g)) (reads_in book.old) (reads_in book.new)) }
+        → Goes (λ old new. new ≤ old + layer_block_pages (work_of book.old).level (Region g)) (reads_in book.old) (reads_in book.new)) }
 {
     if number == 0 {
         return Err(DAMAGED);
@@ -122,7 +122,7 @@ pub(crate) fn read_part<W: Disk>(
     ensures level { IfOk result (λ list. list.level ≡ (work_of book.old).level) }
     ensures number { OnOk result (1 ≤ number) }
     ensures sound { IfErr result (λ e. (g : Grid) → 1 ≤ number
-        → HasRegion (told_of book.old) (tree_in (work_of book.old)) number (work_of book.old).level g → IsSound e) }
+        → HasRegion (told_of book.old) (tree_in (work_of book.old)) number (work_of book.old).level g → IsNotDamage e) }
     ensures still { IsStill book.old book.new }
     ensures cause { HasStopCause (W.faults (world_of book.old)) (W.faults (world_of book.new)) result }
     ensures reads { IfOk result (λ list. (g : Grid) (s : ℕ) → HasRegion (told_of book.old) (tree_in (work_of book.old)) number (work_of book.old).level g
@@ -146,16 +146,16 @@ pub(crate) fn read_colour<W: Disk>(
     ensures colour { IfOk result (λ c. (g : Grid) → HasRegion (told_of book.old) (tree_in (work_of book.old)) number (work_of book.old).level g
         → c.0 ≡ colour_in (work_of book.old).level g at) }
     ensures sound { IfErr result (λ e. (g : Grid) → 1 ≤ number
-        → HasRegion (told_of book.old) (tree_in (work_of book.old)) number (work_of book.old).level g → IsSound e) }
+        → HasRegion (told_of book.old) (tree_in (work_of book.old)) number (work_of book.old).level g → IsNotDamage e) }
     ensures still { IsStill book.old book.new }
     ensures cause { HasStopCause (W.faults (world_of book.old)) (W.faults (world_of book.new)) result }
     ensures reads { Goes (λ old new. new ≤ old + 6) (reads_in book.old) (reads_in book.new) }
 
     // The pages that it reads are then among the first eight that are held, and where they were, none is read.
     ensures held { OnOk result ((rs : List AnyRecord) → IsTree (told_of book.old) (tree_in (work_of book.old)) rs
-        → HoldsFirst (pages_asked number at (work_of book.old)) (told_of book.old) (held_of book.old) (held_of book.new)) }
+        → HoldsFirst (pages_asked number at (work_of book.old)) (told_of book.old) (pages_held book.old) (pages_held book.new)) }
     ensures again { (rs : List AnyRecord) → IsTree (told_of book.old) (tree_in (work_of book.old)) rs
-        → ReadsNone (pages_asked number at (work_of book.old)) (told_of book.old) (held_of book.old) (reads_in book.old) (reads_in book.new) }
+        → ReadsNone (pages_asked number at (work_of book.old)) (told_of book.old) (pages_held book.old) (reads_in book.old) (reads_in book.new) }
 {
     if number == 0 {
         return Err(DAMAGED);
@@ -174,9 +174,9 @@ pub(crate) fn plan_paint<W: Disk>(
 ) -> Result<Edits, Stop>
     requires window { is_window (work_of book.old).level w ≡ true }
     ensures plan { IfOk result (λ edits. (g : Grid) → HasRegion (told_of book.old) (tree_in (work_of book.old)) number (work_of book.old).level g →
-        LeadsTo (work_of book.old).level number g (painted (work_of book.old).level g w c.0) edits) }
+        ReplacesGrid (work_of book.old).level number g (painted (work_of book.old).level g w c.0) edits) }
     ensures sound { IfErr result (λ e. (g : Grid) → 1 ≤ number
-        → HasRegion (told_of book.old) (tree_in (work_of book.old)) number (work_of book.old).level g → IsSound e) }
+        → HasRegion (told_of book.old) (tree_in (work_of book.old)) number (work_of book.old).level g → IsNotDamage e) }
     ensures still { IsStill book.old book.new }
     ensures cause { HasStopCause (W.faults (world_of book.old)) (W.faults (world_of book.new)) result }
 {
@@ -196,9 +196,9 @@ pub(crate) fn plan_redraw<W: Disk>(
 ) -> Result<Edits, Stop>
     requires level { new.now.level ≡ (work_of book.old).level }
     ensures plan { IfOk result (λ edits. (g : Grid) → HasRegion (told_of book.old) (tree_in (work_of book.old)) number (work_of book.old).level g →
-        LeadsTo (work_of book.old).level number g new.now.grid edits) }
+        ReplacesGrid (work_of book.old).level number g new.now.grid edits) }
     ensures sound { IfErr result (λ e. (g : Grid) → 1 ≤ number
-        → HasRegion (told_of book.old) (tree_in (work_of book.old)) number (work_of book.old).level g → IsSound e) }
+        → HasRegion (told_of book.old) (tree_in (work_of book.old)) number (work_of book.old).level g → IsNotDamage e) }
     ensures still { IsStill book.old book.new }
     ensures cause { HasStopCause (W.faults (world_of book.old)) (W.faults (world_of book.new)) result }
 {

@@ -1,7 +1,7 @@
 ghost use Rattle.std.specs.Prelude.{◌≡◌, ◌≤◌, true, List, ℕ, IfOk, IfErr};
 ghost use Rattle.quilt_types.specs.Layers.{SegMap, BlockSet, is_in_square as is_seg_in_square};
 ghost use Rattle.quilt_words.specs.declared.command.Command.TheVariants as commands;
-ghost use Rattle.quilt_store.specs.Stops.{HasStopCause, IsSound};
+ghost use Rattle.quilt_store.specs.Stops.{HasStopCause, IsNotDamage};
 ghost use Rattle.quilt_edition.specs.Books as books;
 ghost use Rattle.quilt_replies.specs.Answers.{State};
 ghost use Rattle.quilt_map.specs.Commanding.{Answered, Refuses};
@@ -9,8 +9,8 @@ ghost use Rattle.quilt_map.specs.LineLayers.{IsLinesIn, segment_put, segment_tak
 ghost use Rattle.quilt_map.specs.Making.{AnsweredBy};
 ghost use Rattle.quilt_map.specs.Sessions.{IsAtState};
 
-use crate::asking::has_pixel;
 use crate::lines::{LineLayer, line_number, plan_addition, plan_removal};
+use crate::queries::has_pixel;
 use crate::session::Session;
 use quilt_replies::{Reply, done_text};
 use quilt_types::{Code, Name, Pixel, Seg, Stop};
@@ -34,7 +34,7 @@ impl<W: World> Session<W> {
             IsLinesIn now.work self.old.catalog name layer segs cover →
             AnsweredBy now (segment_put now name layer.threshold segs cover id s) self.old self.new reply) }
         ensures sound { IfErr result (λ e. (now : State) → IsAtState self.old now → (name : List ℕ) (segs : SegMap) (cover : BlockSet) →
-            IsLinesIn now.work self.old.catalog name layer segs cover → IsSound e) }
+            IsLinesIn now.work self.old.catalog name layer segs cover → IsNotDamage e) }
         ensures refused { IfOk result (Refuses self.old self.new) }
         ensures goes_on { books.GoesOn self.old.book self.new.book }
         ensures cause { HasStopCause (W.faults (books.world_of self.old.book)) (W.faults (books.world_of self.new.book)) result }
@@ -52,7 +52,7 @@ impl<W: World> Session<W> {
     /// Puts a segment under an id into the line layer.
     pub(crate) fn line(&mut self, name: &Name, id: u32, s: Seg) -> Result<Reply, Stop>
         ensures answer { IfOk result (λ reply. (now : State) → IsAtState self.old now → Answered now (commands.Line name.now id s) self.old self.new reply) }
-        ensures sound { IfErr result (λ e. (now : State) → IsAtState self.old now → IsSound e) }
+        ensures sound { IfErr result (λ e. (now : State) → IsAtState self.old now → IsNotDamage e) }
         ensures refused { IfOk result (Refuses self.old self.new) }
         ensures goes_on { books.GoesOn self.old.book self.new.book }
         ensures cause { HasStopCause (W.faults (books.world_of self.old.book)) (W.faults (books.world_of self.new.book)) result }
@@ -74,7 +74,7 @@ impl<W: World> Session<W> {
             IsLinesIn s.work self.old.catalog name layer segs cover →
             AnsweredBy s (segment_taken s name layer.threshold segs cover id) self.old self.new reply) }
         ensures sound { IfErr result (λ e. (s : State) → IsAtState self.old s → (name : List ℕ) (segs : SegMap) (cover : BlockSet) →
-            IsLinesIn s.work self.old.catalog name layer segs cover → IsSound e) }
+            IsLinesIn s.work self.old.catalog name layer segs cover → IsNotDamage e) }
         ensures refused { IfOk result (Refuses self.old self.new) }
         ensures goes_on { books.GoesOn self.old.book self.new.book }
         ensures cause { HasStopCause (W.faults (books.world_of self.old.book)) (W.faults (books.world_of self.new.book)) result }
@@ -93,7 +93,7 @@ impl<W: World> Session<W> {
     /// Takes the segment of an id from the line layer.
     pub(crate) fn unline(&mut self, name: &Name, id: u32) -> Result<Reply, Stop>
         ensures answer { IfOk result (λ reply. (s : State) → IsAtState self.old s → Answered s (commands.Unline name.now id) self.old self.new reply) }
-        ensures sound { IfErr result (λ e. (s : State) → IsAtState self.old s → IsSound e) }
+        ensures sound { IfErr result (λ e. (s : State) → IsAtState self.old s → IsNotDamage e) }
         ensures refused { IfOk result (Refuses self.old self.new) }
         ensures goes_on { books.GoesOn self.old.book self.new.book }
         ensures cause { HasStopCause (W.faults (books.world_of self.old.book)) (W.faults (books.world_of self.new.book)) result }

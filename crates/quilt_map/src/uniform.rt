@@ -2,7 +2,7 @@ ghost use Rattle.std.specs.Prelude.{◌≡◌, ℕ, ◌<◌, ◌≤◌, IfOk, If
 ghost use Rattle.quilt_types.specs.Algebra.{uniform};
 ghost use Rattle.quilt_types.specs.Layers.{colours};
 ghost use Rattle.quilt_words.specs.declared.command.Command.TheVariants as commands;
-ghost use Rattle.quilt_store.specs.Stops.{HasStopCause, IsSound};
+ghost use Rattle.quilt_store.specs.Stops.{HasStopCause, IsNotDamage};
 ghost use Rattle.quilt_edition.specs.Books as books;
 ghost use Rattle.quilt_replies.specs.Answers.{State};
 ghost use Rattle.quilt_map.specs.Commanding.{Answered, Refuses};
@@ -33,7 +33,7 @@ impl<W: World> Session<W> {
     pub(crate) fn region(&mut self, name: &Name, c: Colour) -> Result<Reply, Stop>
         ensures answer { IfOk result (λ reply. (s : State) → IsAtState self.old s → c.0 < colours s.last.format
             → Answered s (commands.Region name.now c) self.old self.new reply) }
-        ensures sound { IfErr result (λ e. (s : State) → IsAtState self.old s → c.0 < colours s.last.format → IsSound e) }
+        ensures sound { IfErr result (λ e. (s : State) → IsAtState self.old s → c.0 < colours s.last.format → IsNotDamage e) }
         ensures refused { IfOk result (Refuses self.old self.new) }
         ensures goes_on { books.GoesOn self.old.book self.new.book }
         ensures cause { HasStopCause (W.faults (books.world_of self.old.book)) (W.faults (books.world_of self.new.book)) result }

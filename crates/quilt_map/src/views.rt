@@ -5,17 +5,17 @@ ghost use Rattle.quilt_types.specs.declared.stop.Stop.TheVariants as stops;
 ghost use Rattle.quilt_types.specs.Layers.{SegMap, BlockSet, is_in_square};
 ghost use Rattle.quilt_near.specs.Lines.{Lines};
 ghost use Rattle.quilt_world.specs.Tale.{Goes};
-ghost use Rattle.quilt_store.specs.Stops.{HasStopCause, IsSound};
+ghost use Rattle.quilt_store.specs.Stops.{HasStopCause, IsNotDamage};
 ghost use Rattle.quilt_edition.specs.Books.{world_of, work_of};
 ghost use Rattle.quilt_replies.specs.States.{Tells};
 ghost use Rattle.quilt_map.specs.Asking.{IsStill, reads_in};
 ghost use Rattle.quilt_map.specs.LineLayers.{HoldsLines};
-ghost use Rattle.quilt_map.specs.Selecting.{layer_asked, is_place, AsksSome, HasFound, IsAnswered, pages_for, selected, selected_over, crossed as crossed_of};
+ghost use Rattle.quilt_map.specs.Selecting.{layer_asked, is_place, AsksSome, HasFound, IsAnswered, pages_for_answer, selected, selected_over, crossed as crossed_of};
 ghost use Rattle.quilt_map.specs.Selecting.{Shows};
 
-use crate::asking::told;
-use crate::changing::DAMAGED;
+use crate::change::DAMAGED;
 use crate::lines::LineLayer;
+use crate::queries::told;
 use crate::regions::tree_of;
 use quilt_blocks::LeafList;
 use quilt_edition::Book;
@@ -57,8 +57,8 @@ fn select<W: Disk>(
     requires some { AsksSome command.now }
     ensures reply { IfOk result (λ reply. (l : Lines) → Shows book.old view.now l → Tells reply (selected command.now l.segs)) }
     ensures reads { IfOk result (λ reply. (l : Lines) → Shows book.old view.now l → HasFound command.now l.segs → IsAnswered reply →
-        Goes (λ old new. new ≤ old + pages_for view.now.level command.now l.segs l.cover) (reads_in book.old) (reads_in book.new)) }
-    ensures sound { IfErr result (λ e. (l : Lines) → Shows book.old view.now l → IsSound e) }
+        Goes (λ old new. new ≤ old + pages_for_answer view.now.level command.now l.segs l.cover) (reads_in book.old) (reads_in book.new)) }
+    ensures sound { IfErr result (λ e. (l : Lines) → Shows book.old view.now l → IsNotDamage e) }
     ensures still { IsStill book.old book.new }
     ensures cause { HasStopCause (W.faults (world_of book.old)) (W.faults (world_of book.new)) result }
 {
@@ -102,8 +102,8 @@ pub(crate) fn select_in<W: Disk>(
     ensures reply { IfOk result (λ reply. (segs : SegMap) (cover : BlockSet) → HoldsLines book.old layer segs cover → Tells reply (selected command.now segs)) }
     ensures reads { IfOk result (λ reply. (segs : SegMap) (cover : BlockSet) → HoldsLines book.old layer segs cover → HasFound command.now segs →
         IsAnswered reply →
-        Goes (λ old new. new ≤ old + pages_for (work_of book.old).level command.now segs cover) (reads_in book.old) (reads_in book.new)) }
-    ensures sound { IfErr result (λ e. (segs : SegMap) (cover : BlockSet) → 1 ≤ layer.number → HoldsLines book.old layer segs cover → IsSound e) }
+        Goes (λ old new. new ≤ old + pages_for_answer (work_of book.old).level command.now segs cover) (reads_in book.old) (reads_in book.new)) }
+    ensures sound { IfErr result (λ e. (segs : SegMap) (cover : BlockSet) → 1 ≤ layer.number → HoldsLines book.old layer segs cover → IsNotDamage e) }
     ensures still { IsStill book.old book.new }
     ensures cause { HasStopCause (W.faults (world_of book.old)) (W.faults (world_of book.new)) result }
 {
@@ -123,7 +123,7 @@ pub(crate) fn select_over<W: Disk>(
     requires { list.now.level ≡ (work_of book.old).level }
     ensures reply { IfOk result (λ reply. (segs : SegMap) (cover : BlockSet) → HoldsLines book.old layer segs cover →
         Tells reply (selected_over list.now.level list.now.grid segs)) }
-    ensures sound { IfErr result (λ e. (segs : SegMap) (cover : BlockSet) → 1 ≤ layer.number → HoldsLines book.old layer segs cover → IsSound e) }
+    ensures sound { IfErr result (λ e. (segs : SegMap) (cover : BlockSet) → 1 ≤ layer.number → HoldsLines book.old layer segs cover → IsNotDamage e) }
     ensures still { IsStill book.old book.new }
     ensures cause { HasStopCause (W.faults (world_of book.old)) (W.faults (world_of book.new)) result }
 {
@@ -145,7 +145,7 @@ pub(crate) fn read_segments<W: Disk>(
     ensures segments { IfOk result (λ list. (segs : SegMap) (cover : BlockSet) → HoldsLines book.old layer segs cover → list ≡ finmap.entries segs) }
     ensures inside { IfOk result (λ list. All (λ e. is_in_square (work_of book.old).level e.1 ≡ true) list) }
     ensures order { IfOk result (λ list. IsStrictlyIncreasing (map (λ e. e.0) list)) }
-    ensures sound { IfErr result (λ e. (segs : SegMap) (cover : BlockSet) → 1 ≤ layer.number → HoldsLines book.old layer segs cover → IsSound e) }
+    ensures sound { IfErr result (λ e. (segs : SegMap) (cover : BlockSet) → 1 ≤ layer.number → HoldsLines book.old layer segs cover → IsNotDamage e) }
     ensures still { IsStill book.old book.new }
     ensures cause { HasStopCause (W.faults (world_of book.old)) (W.faults (world_of book.new)) result }
 {
@@ -194,7 +194,7 @@ pub(crate) fn crossed_with<W: Disk, R: Threads + Sync>(
     requires ends { All (λ e. is_in_square (work_of book.old).level e.1 ≡ true) a.now }
     ensures reply { IfOk result (λ reply. (first second : SegMap) (cover : BlockSet) → finmap.entries first ≡ a.now → HoldsLines book.old layer second cover →
         Tells reply (crossed_of first second)) }
-    ensures sound { IfErr result (λ e. (segs : SegMap) (cover : BlockSet) → 1 ≤ layer.number → HoldsLines book.old layer segs cover → IsSound e) }
+    ensures sound { IfErr result (λ e. (segs : SegMap) (cover : BlockSet) → 1 ≤ layer.number → HoldsLines book.old layer segs cover → IsNotDamage e) }
     ensures still { IsStill book.old book.new }
     ensures cause { HasStopCause (W.faults (world_of book.old)) (W.faults (world_of book.new)) result }
 {

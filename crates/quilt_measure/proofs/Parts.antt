@@ -19,7 +19,7 @@ use Rattle.quilt_loc.proofs.Rows.{Contains-pixels, Contains-pixels_from, grid_of
 use Rattle.quilt_loc.proofs.Rising.{Rises-filter, Rises-map, Rises-flat_map, Rises-range, nat_less, nat_less_from, same_rising}
 use Rattle.quilt_loc.proofs.Intervals.{side_squared}
 use Rattle.quilt_blocks.specs.Cutting.{leaves_by_code, leaf_cmp}
-use Rattle.quilt_blocks.specs.Walk.{size_of}
+use Rattle.quilt_blocks.specs.Walk.{pixel_count}
 use Rattle.quilt_blocks.specs.Listing.{Follows}
 use Rattle.quilt_blocks.proofs.Chains.{pixels_in, size_of-cons, member_pos, one_holds}
 use Rattle.quilt_blocks.proofs.Cuts.{IsLeaf, leaf_is, leaves_members, leaves_run, leaves_rise, leaf_total}
@@ -117,7 +117,7 @@ area_is n g c le long =
     times false v = omega arith
 
 -- there are no more leaves than pixels
-pub few_leaves : (n at : ℕ) (es : List (Block × ℕ)) → Follows n at es → length es ≤ size_of es
+pub few_leaves : (n at : ℕ) (es : List (Block × ℕ)) → Follows n at es → length es ≤ pixel_count es
 few_leaves n at [] h = omega arith
 few_leaves n at (e ∷ es) h =
     let s = size_of-cons e es in

@@ -19,7 +19,7 @@ use Rattle.quilt_loc.proofs.Rows.{length-pixels}
 use Rattle.quilt_blocks.specs.Mosaic.{HasColour}
 use Rattle.quilt_blocks.specs.Cutting.{leaves_by_code}
 use Rattle.quilt_blocks.proofs.Listed.{held_in}
-use Rattle.quilt_measure.specs.declared.bounding.Side.TheVariants.{Left, Right, Top, Bottom}
+use Rattle.quilt_measure.specs.declared.boundary.Side.TheVariants.{Left, Right, Top, Bottom}
 use Rattle.quilt_measure.specs.Edges.{pixel_from, place, differs, bare_side}
 use Rattle.quilt_measure.proofs.Sums.{sum_by-same, sum_by-plus, sum_by-constant, sum_by-filter_is, sum_by-map_is, sum_by-flat_map_is}
 use Rattle.quilt_measure.proofs.Ranges.{below_same, below_constant, below_only}

@@ -11,8 +11,8 @@ use Rattle.quilt_types.specs.Layers.{Grid}
 use Rattle.quilt_loc.proofs.Nesting.{side_pos}
 use Rattle.quilt_loc.proofs.Quartered.{IsQuarter, quarters_are, Within-whole}
 use Rattle.quilt_blocks.specs.Mosaic.{HasColour}
-use Rattle.quilt_measure.specs.declared.bounding.Side.{Side}
-use Rattle.quilt_measure.specs.declared.bounding.Side.TheVariants.{Left, Right, Top, Bottom}
+use Rattle.quilt_measure.specs.declared.boundary.Side.{Side}
+use Rattle.quilt_measure.specs.declared.boundary.Side.TheVariants.{Left, Right, Top, Bottom}
 use Rattle.quilt_measure.specs.Edges.{pixel_from, block, place, differs, bare_side, behind_of, opposite_of, halves_of}
 use Rattle.quilt_measure.proofs.Ranges.{below_same, below_constant, below_split}
 

@@ -4,8 +4,8 @@ use Rattle.quilt_types.specs.declared.plane.Pixel.{Pixel}
 use Rattle.quilt_types.specs.declared.plane.Block.{Block}
 use Rattle.quilt_types.specs.Plane.{side}
 use Rattle.quilt_types.specs.Layers.{Grid, colour_at}
-use Rattle.quilt_measure.specs.declared.bounding.Side.{Side}
-use Rattle.quilt_measure.specs.declared.bounding.Side.TheVariants.{Left, Right, Top, Bottom}
+use Rattle.quilt_measure.specs.declared.boundary.Side.{Side}
+use Rattle.quilt_measure.specs.declared.boundary.Side.TheVariants.{Left, Right, Top, Bottom}
 
 -- the side across from this one
 abbrev pub opposite_of : Side → Side

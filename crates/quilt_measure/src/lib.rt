@@ -1,8 +1,8 @@
 //! Measures of region layers by their leaves: areas, leaves by size, and perimeters. They take no memory.
 #![tactic(auto)]
 
-mod bounding;
-mod counting;
+mod boundary;
+mod counts;
 
-pub use bounding::perimeter;
-pub use counting::{area, exponent_of, histogram};
+pub use boundary::perimeter;
+pub use counts::{area, exponent_of, histogram};

@@ -4,7 +4,7 @@ use Rattle.std.proofs.lemmas.Bool.{cases_lt}
 use Rattle.std.proofs.lemmas.List.{length-take, take_all, drop_all}
 use Rattle.quilt_host.specs.declared.act.Act.TheVariants.{Took}
 use Rattle.quilt_host.specs.Bytes.{padded}
-use Rattle.quilt_host.specs.Calls.{Takes}
+use Rattle.quilt_host.specs.Calls.{TakesInput}
 use Rattle.quilt_host.specs.Story.{Story}
 
 take_min : (n m : ℕ) (f : List ℕ) → m ≡ min n (length f) → take m f ≡ take n f
@@ -29,10 +29,10 @@ drop_min n m f is = elim (cases_lt n (length f)) [
 ]
 
 pub takes_some : (x rest : List ℕ) (old new : Story) → 0 < length x → old.input ≡ x ++ rest → new ≡ record old { input = rest; acts = Took x ∷ old.acts }
-    → Takes x old new
+    → TakesInput x old new
 takes_some [] rest old new some next now = absurd (omega arith)
 takes_some (b ∷ x) rest old new some next now = record { rest = rest; next = next; end = λ none. absurd (cc); now = now }
 
 pub takes_as : (x y rest : List ℕ) (old new : Story) → y ≡ x → 0 < length x → old.input ≡ x ++ rest
-    → new ≡ record old { input = rest; acts = Took x ∷ old.acts } → Takes y old new
-takes_as x y rest old new is some next now = subst (λ (l : List ℕ). Takes l old new) (sym is) (takes_some x rest old new some next now)
+    → new ≡ record old { input = rest; acts = Took x ∷ old.acts } → TakesInput y old new
+takes_as x y rest old new is some next now = subst (λ (l : List ℕ). TakesInput l old new) (sym is) (takes_some x rest old new some next now)

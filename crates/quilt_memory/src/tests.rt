@@ -1,5 +1,5 @@
 ghost use Rattle.std.specs.Prelude.{IfOk, IfSome};
-ghost use Rattle.quilt_host.specs.Worlds.{IsFresh};
+ghost use Rattle.quilt_host.specs.Worlds.{IsUnasked};
 
 use crate::Memory;
 use quilt_host::{HostWorld, System};
@@ -9,7 +9,7 @@ use std::test::Fail;
 
 /// A world over a system in memory with no file, a signal at every third call that one can interrupt, and short pieces.
 fn rough(alloc: Global) -> Result<Memory, AllocError>
-    ensures { IfOk result (λ m. IfSome (⟦<Memory as System>⟧.told m) IsFresh) }
+    ensures { IfOk result (λ m. IfSome (⟦<Memory as System>⟧.told m) IsUnasked) }
 {
     let mut system = Memory::new(alloc, &["quilt"], "m", None, b"ab")?;
     system.interrupt_every(3);

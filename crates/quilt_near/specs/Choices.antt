@@ -17,9 +17,9 @@ abbrev pub better_seg : Pixel → Option (ℕ × Fraction) → ℕ × Seg → Op
 better_seg p best e = better best (e.0, square_distance p e.1)
 
 -- a whole distance is greater than that of the best so far
-abbrev pub is_past : Option (ℕ × Fraction) → ℕ → Bool
-is_past None d = false
-is_past (Some best) d = nat_lt best.1.num (d * best.1.den)
+abbrev pub is_farther : Option (ℕ × Fraction) → ℕ → Bool
+is_farther None d = false
+is_farther (Some best) d = nat_lt best.1.num (d * best.1.den)
 
 -- a block with its distance
 abbrev pub placed_at : Pixel → Block → ℕ × Block

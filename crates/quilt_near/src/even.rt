@@ -3,7 +3,7 @@ ghost use Rattle.quilt_types.specs.Layers.{is_in_square};
 ghost use Rattle.quilt_types.specs.Segments.{meets as meets_of, square};
 ghost use Rattle.quilt_types.specs.declared.stop.Stop.TheVariants.{Memory};
 ghost use Rattle.quilt_near.specs.Evens.{ShowsEven};
-ghost use Rattle.quilt_store.specs.Stops.{HasStopCause, IsSound};
+ghost use Rattle.quilt_store.specs.Stops.{HasStopCause, IsNotDamage};
 
 use crate::blocks::SegBlocks;
 use crate::known::Known;

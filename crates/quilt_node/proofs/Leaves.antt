@@ -18,7 +18,7 @@ use Rattle.std.proofs.lemmas.Bool.Decides.{nat_tests}
 use Rattle.std.proofs.lemmas.Bool.{le-leb}
 use Rattle.quilt_record.specs.declared.record.Record.{Record}
 use Rattle.quilt_record.specs.Records.{record_bytes}
-use Rattle.quilt_record.specs.Fits.{IsFitting, AllFit}
+use Rattle.quilt_record.specs.Fits.{RecordFits, AllFit}
 use Rattle.quilt_node.specs.Pages.{short_at, record_at, read_leaf, leaf_bytes, leaf_of, is_ascending}
 use Rattle.quilt_node.specs.Nodes.{IsLeaf, IsLeafPage, keys_of, leaf_head}
 use Rattle.quilt_node.proofs.Rows.{HasArea, area, row_stands, cut_front, put_row, take_row, add_rows, cut_rows, rows_from, set_row, wide_length, length_insert}
@@ -71,7 +71,7 @@ count_is bytes rs p =
     let small : length rs < 2 ^ 16 = omega (arith, p.is_leaf.most) in
     ap (λ l. short_at l 2) (has_records bytes rs p).shape ∙ from_be_bytes-to_be_bytes_2 (length rs) small
 
-fit_at : (rs : List Record) (i : ℕ) (d : Record) → AllFit rs → i < length rs → IsFitting (get_or rs i d)
+fit_at : (rs : List Record) (i : ℕ) (d : Record) → AllFit rs → i < length rs → RecordFits (get_or rs i d)
 fit_at [] i d f lt = absurd (omega arith)
 fit_at (r ∷ rs) zero d f lt = f.0
 fit_at (r ∷ rs) (suc i) d f lt = fit_at rs i d f.1 (omega arith)
@@ -128,7 +128,7 @@ pub fit_append : (rs ss : List Record) → AllFit rs → AllFit ss → AllFit (r
 fit_append [] ss f g = g
 fit_append (r ∷ rs) ss f g = (f.0, fit_append rs ss f.1 g)
 
-pub leaf_insert : (rs : List Record) (i : ℕ) (r : Record) → IsLeaf rs → IsFitting r → length rs < 144
+pub leaf_insert : (rs : List Record) (i : ℕ) (r : Record) → IsLeaf rs → RecordFits r → length rs < 144
     → is_ascending (keys_of (insert rs i r)) ≡ true → IsLeaf (insert rs i r)
 leaf_insert rs i r leaf f room order =
     let more = length_insert rs i r in
@@ -174,7 +174,7 @@ leaf_drop rs n leaf lt =
     }
 
 -- A record is put in.
-pub insert_page : (bytes mid new piece : List ℕ) (rs : List Record) (i n : ℕ) (r : Record) → IsLeafPage bytes rs → n ≡ length rs → IsFitting r
+pub insert_page : (bytes mid new piece : List ℕ) (rs : List Record) (i n : ℕ) (r : Record) → IsLeafPage bytes rs → n ≡ length rs → RecordFits r
     → i ≤ length rs → length rs < 144 → is_ascending (keys_of (insert rs i r)) ≡ true → piece ≡ record_bytes r
     → mid ≡ take (64 + 28 * i) bytes ++ (piece ++ (slice_range bytes (64 + 28 * i) (64 + 28 * n) ++ drop (64 + 28 * n + length piece) bytes))
     → new ≡ take 2 mid ++ (to_be_bytes w16 (n + 1) ++ drop 4 mid) → IsLeafPage new (insert rs i r)
@@ -200,13 +200,13 @@ remove_page bytes mid new rs i n p count place some made counts =
     (take_row record_bytes 28 4032 (leaf_head (length rs)) [] bytes mid rs i (64 + 28 * i) (64 + 28 * n) nothing (has_records bytes rs p) place refl
     (ap (λ m. 64 + 28 * m) many) made) counts)
 
-fit_set : (rs : List Record) (i : ℕ) (r : Record) → AllFit rs → IsFitting r → AllFit (set rs i r)
+fit_set : (rs : List Record) (i : ℕ) (r : Record) → AllFit rs → RecordFits r → AllFit (set rs i r)
 fit_set [] i r f g = f
 fit_set (x ∷ rs) zero r f g = (g, f.1)
 fit_set (x ∷ rs) (suc i) r f g = (f.0, fit_set rs i r f.1 g)
 
 -- A record takes the place of another.
-pub replace_page : (bytes new piece : List ℕ) (rs : List Record) (i : ℕ) (r : Record) → IsLeafPage bytes rs → IsFitting r → i < length rs
+pub replace_page : (bytes new piece : List ℕ) (rs : List Record) (i : ℕ) (r : Record) → IsLeafPage bytes rs → RecordFits r → i < length rs
     → is_ascending (keys_of (set rs i r)) ≡ true → piece ≡ record_bytes r
     → new ≡ take (64 + 28 * i) bytes ++ (piece ++ drop (64 + 28 * i + length piece) bytes) → IsLeafPage new (set rs i r)
 replace_page bytes new piece rs i r p f place order row made =
@@ -382,5 +382,5 @@ past ss n e = drop_of_length-le ss {i = suc n} (omega (arith, e))
 pub remove_last : {X : Type 0} (ss : List X) (n : ℕ) → suc n ≡ length ss → remove ss n ≡ take n ss
 remove_last ss n e = ap (λ l. take n ss ++ l) (past ss n e) ∙ append-nil (take n ss)
 
-pub one_leaf : (r : Record) → IsFitting r → IsLeaf (r ∷ [])
+pub one_leaf : (r : Record) → RecordFits r → IsLeaf (r ∷ [])
 one_leaf r f = record { fit = (f, tt); least = omega arith; most = omega arith; ascends = refl }

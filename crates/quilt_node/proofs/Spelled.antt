@@ -8,7 +8,7 @@ use Rattle.std.proofs.lemmas.Nat.{from_be_bytes-to_be_bytes_2, from_be_bytes-to_
 use Rattle.quilt_record.specs.declared.key.Key.{Key}
 use Rattle.quilt_record.specs.declared.record.Record.{Record}
 use Rattle.quilt_record.specs.Records.{key_bytes, record_bytes}
-use Rattle.quilt_record.specs.Fits.{KeyFits, IsFitting, AllFit}
+use Rattle.quilt_record.specs.Fits.{KeyFits, RecordFits, AllFit}
 use Rattle.quilt_node.specs.Pages.{short_at, word_at, key_at, record_at}
 use Rattle.quilt_node.proofs.Rows.{Stands, slice_stands, Wide}
 
@@ -45,7 +45,7 @@ pub key_stands : (k : Key) (bytes : List ℕ) (at : ℕ) → KeyFits k → Stand
 key_stands k bytes at f s =
     ap (λ l. key_at l at) s.shape ∙ key_behind s.before (key_bytes k ++ s.behind) at s.place ∙ written_key k s.behind f
 
-pub record_stands : (r : Record) (bytes : List ℕ) (at : ℕ) → IsFitting r → Stands (record_bytes r) bytes at → record_at bytes at ≡ r
+pub record_stands : (r : Record) (bytes : List ℕ) (at : ℕ) → RecordFits r → Stands (record_bytes r) bytes at → record_at bytes at ≡ r
 record_stands r bytes at f s =
     let key : key_at bytes at ≡ r.key =
     key_stands r.key bytes at f.key (record { before = s.before; behind = r.value ++ s.behind; shape = s.shape; place = s.place }) in
@@ -161,7 +161,7 @@ key_fits bytes at f room =
     ∙ key_behind (take at bytes) (drop at bytes) at (sym (length-take-le at bytes (omega arith)))))
     (front_fits (drop at bytes) (are_behind bytes at f) (omega (arith, length-drop at bytes)))
 
-pub record_fits : (bytes : List ℕ) (at : ℕ) → AreBytes bytes → at + 28 ≤ length bytes → IsFitting (record_at bytes at)
+pub record_fits : (bytes : List ℕ) (at : ℕ) → AreBytes bytes → at + 28 ≤ length bytes → RecordFits (record_at bytes at)
 record_fits bytes at f room =
     let n : at + 28 - (at + 12) ≡ 16 = omega arith in
     record {

@@ -18,8 +18,8 @@ abbrev pub keys_of : List Record → List Key
 keys_of rs = map (λ r. r.key) rs
 
 -- the records that stand in the bytes of a page, as many as its count says and a leaf can hold
-abbrev pub records_of : List ℕ → List Record
-records_of bytes = map (λ i. record_at bytes (64 + 28 * i)) (below (if nat_lt 144 (short_at bytes 2) then 144 else short_at bytes 2))
+abbrev pub page_records : List ℕ → List Record
+page_records bytes = map (λ i. record_at bytes (64 + 28 * i)) (below (if nat_lt 144 (short_at bytes 2) then 144 else short_at bytes 2))
 
 -- the records of a leaf page: 1 to 144, with keys that ascend
 pub record IsLeaf (rs : List Record) : Type 0 where

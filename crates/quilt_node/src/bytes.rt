@@ -1,7 +1,7 @@
 ghost use Rattle.std.specs.Prelude.{◌≡◌, ◌+◌, ◌-◌, ◌*◌, ◌≤◌, ◌<◌, ◌++◌, take, drop, slice_range, length, replicate, map};
 ghost use Rattle.std.specs.Int.{to_be_bytes, from_be_bytes, w16, w64};
 ghost use Rattle.std.specs.Str.{bytes_eq};
-ghost use Rattle.quilt_record.specs.Fits.{IsFitting, KeyFits};
+ghost use Rattle.quilt_record.specs.Fits.{RecordFits, KeyFits};
 ghost use Rattle.quilt_record.specs.Records.{record_bytes};
 ghost use Rattle.quilt_node.specs.Pages.{short_at, word_at, key_at, record_at};
 ghost use Rattle.quilt_node.specs.KeysIn.{key_number, FieldsFit};
@@ -144,7 +144,7 @@ pub fn number_of(k: &Key) -> u128
 /// A record as its 28 bytes.
 pub fn record_piece(r: &Record) -> [u8; 28]
     ensures bytes { result ≡ record_bytes r.now }
-    ensures fits { IsFitting r.now }
+    ensures fits { RecordFits r.now }
 {
     let mut piece = [0; 28];
     piece[..12].copy_from_slice(&key_bytes(&r.key));

@@ -9,7 +9,7 @@ ghost use Rattle.quilt_node.specs.Pages.{leaf_bytes, is_ascending, short_at};
 ghost use Rattle.quilt_node.specs.Nodes.{IsLeaf, IsFound, IsGap, keys_of, leaf_head};
 
 use crate::bytes::{clear, count_in, is_clear, put_over, record_in, record_piece, set_count};
-use crate::editing::{insert_in, remove_in};
+use crate::edits::{insert_in, remove_in};
 use crate::keys::{find_key, keys_ascend};
 use crate::sizes::{LEAST_RECORDS, MOST_RECORDS};
 use quilt_record::{Key, Record};

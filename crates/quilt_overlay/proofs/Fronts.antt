@@ -9,13 +9,13 @@ use Rattle.quilt_types.specs.Algebra.{grid_of}
 use Rattle.quilt_loc.specs.Codes.{code_from, code_to}
 use Rattle.quilt_blocks.specs.declared.leaf.Leaf.{Leaf}
 use Rattle.quilt_blocks.specs.Mosaic.{HasColour}
-use Rattle.quilt_blocks.specs.Walk.{Walk}
+use Rattle.quilt_blocks.specs.Walk.{LeafWalk}
 use Rattle.quilt_blocks.proofs.Inside.{smaller_inside, codes_inside}
 use Rattle.quilt_blocks.proofs.Paired.{zip_some, zip_none}
 use Rattle.quilt_overlay.specs.declared.operation.Op.{Op}
 use Rattle.quilt_overlay.specs.declared.operation.Op.TheVariants.{Union, Inter, Diff}
 use Rattle.quilt_overlay.specs.Combining.{combined, overlaid}
-use Rattle.quilt_overlay.specs.Fronts.{HasCode, StandsAt, IsPassed}
+use Rattle.quilt_overlay.specs.Fronts.{HasCode, StandsAtCode, IsPassed}
 
 -- it begins at the code where one of the two does
 pub smaller_begins : (n : ℕ) (a b : Block) (at : ℕ) → n ≤ 12 → IsBlock n a → IsBlock n b → a.side ≤ b.side → code_from a ≤ at → at < code_to a
@@ -26,7 +26,7 @@ smaller_begins n a b at le ha hb small af at' bf bt start =
     let low = r.0 in
     ⊎_elim (λ e. e) (λ e. omega arith) start
 
-colour_in : (w : Walk) (n : ℕ) (g : Grid) {code next : ℕ} (l : Leaf) → w.level ≡ n → w.grid ≡ g → HasCode n g code next l
+colour_in : (w : LeafWalk) (n : ℕ) (g : Grid) {code next : ℕ} (l : Leaf) → w.level ≡ n → w.grid ≡ g → HasCode n g code next l
     → HasColour w.level w.grid l.block l.colour.0
 colour_in w n g l el eg h =
     subst (λ (i : Grid). HasColour w.level i l.block l.colour.0) (sym eg) (subst (λ (k : ℕ). HasColour k g l.block l.colour.0) (sym el) h.colour)
@@ -73,8 +73,8 @@ module _ (n : ℕ) (at : ℕ) (a b : Block) (le : n ≤ 12) (ha : IsBlock n a) (
       (λ e. let k = ap (λ (z : Block). z.side) e in subst (IsStep n at a b) (sym e) (second_is (omega arith))) one
 
 -- what a step of the walks over two grids is
-module _ (n : ℕ) (ga gb : Grid) (at : ℕ) (first second : Option Leaf) (wa wb : Walk) (le : n ≤ 12) (fa : StandsAt n ga at first wa)
-    (fb : StandsAt n gb at second wb)
+module _ (n : ℕ) (ga gb : Grid) (at : ℕ) (first second : Option Leaf) (wa wb : LeafWalk) (le : n ≤ 12) (fa : StandsAtCode n ga at first wa)
+    (fb : StandsAtCode n gb at second wb)
     (starts : (p q : Leaf) → first ≡ Some p → second ≡ Some q → (code_from p.block ≡ at) ⊎ (code_from q.block ≡ at)) where
   module _ (p q : Leaf) (z : option_zip first second ≡ Some (p, q)) where
     pub at_first : HasCode n ga at wa.at p
@@ -139,9 +139,9 @@ module _ (n : ℕ) (ga gb : Grid) (at : ℕ) (first second : Option Leaf) (wa wb
   both_over z = ⊎_elim fa.over fb.over (zip_none first second z)
 
 -- the same with equal numbers
-pub IsFront-at : (n m : ℕ) (g h : Grid) (k j : ℕ) (leaf : Option Leaf) (w : Walk) → n ≡ m → g ≡ h → k ≡ j → StandsAt n g k leaf w → StandsAt m h j leaf w
+pub IsFront-at : (n m : ℕ) (g h : Grid) (k j : ℕ) (leaf : Option Leaf) (w : LeafWalk) → n ≡ m → g ≡ h → k ≡ j → StandsAtCode n g k leaf w → StandsAtCode m h j leaf w
 IsFront-at n m g h k j leaf w en eg ek f =
-    subst (λ (i : ℕ). StandsAt m h i leaf w) ek (subst (λ (i : Grid). StandsAt m i k leaf w) eg (subst (λ (i : ℕ). StandsAt i g k leaf w) en f))
+    subst (λ (i : ℕ). StandsAtCode m h i leaf w) ek (subst (λ (i : Grid). StandsAtCode m i k leaf w) eg (subst (λ (i : ℕ). StandsAtCode i g k leaf w) en f))
 
 -- the grid pixel by pixel
 pub overlaid_is : (op : Op) (n : ℕ) (a b : Grid) → grid_of n (λ p. combined op (colour_at n a p) (colour_at n b p)) ≡ overlaid op n a b

@@ -5,10 +5,10 @@ use Rattle.quilt_types.specs.Layers.{Grid}
 use Rattle.quilt_loc.specs.Codes.{code_from, code_to}
 use Rattle.quilt_blocks.specs.declared.leaf.Leaf.{Leaf}
 use Rattle.quilt_blocks.specs.Mosaic.{HasColour}
-use Rattle.quilt_blocks.specs.Walk.{Walk}
+use Rattle.quilt_blocks.specs.Walk.{LeafWalk}
 
 -- the last leaf of a walk, which begins at the code or before and ends at it or behind
-pub record IsPassed (w : Walk) (code : ℕ) (l : Leaf) : Type 0 where
+pub record IsPassed (w : LeafWalk) (code : ℕ) (l : Leaf) : Type 0 where
   pub most : w.level ≤ 12
   pub block : IsBlock w.level l.block
   pub from : code_from l.block ≤ code
@@ -25,7 +25,7 @@ pub record HasCode (n : ℕ) (g : Grid) (code next : ℕ) (l : Leaf) : Type 0 wh
   pub colour : HasColour n g l.block l.colour.0
 
 -- the last leaf of a walk over the leaves of a grid has the code, or there is none and the code is that behind the square
-pub record StandsAt (n : ℕ) (g : Grid) (code : ℕ) (leaf : Option Leaf) (w : Walk) : Type 0 where
+pub record StandsAtCode (n : ℕ) (g : Grid) (code : ℕ) (leaf : Option Leaf) (w : LeafWalk) : Type 0 where
   pub level : w.level ≡ n
   pub grid : w.grid ≡ g
   pub over : leaf ≡ None → code ≡ 4 ^ n

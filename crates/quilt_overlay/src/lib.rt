@@ -1,10 +1,10 @@
 //! Map algebra on lists of leaves: two maps laid over each other, and a map with other colours.
 #![tactic(auto)]
 
+mod colours;
+mod combination;
 mod operation;
-mod overlaying;
-mod recolouring;
 
+pub use colours::recolour;
+pub use combination::overlay;
 pub use operation::Op;
-pub use overlaying::overlay;
-pub use recolouring::recolour;

@@ -12,7 +12,7 @@ use Rattle.quilt_loc.proofs.Quartered.{Within-whole}
 use Rattle.quilt_blocks.specs.Raster.{Raster}
 use Rattle.quilt_blocks.specs.Walk.{IsLeafAt}
 use Rattle.quilt_blocks.specs.Painting.{Painted}
-use Rattle.quilt_blocks.specs.Adding.{Adds}
+use Rattle.quilt_blocks.specs.Adding.{AddsColours}
 use Rattle.quilt_blocks.proofs.Adding.{Adds-then, Adds-push}
 use Rattle.quilt_par.specs.declared.part.Part.TheVariants.{Leaves}
 use Rattle.quilt_par.specs.Parts.{moved_colour}
@@ -117,16 +117,16 @@ moved_is n k b r le hb wide hr =
 
 -- one leaf more of a square that is put down as a block
 pub Adds-moved : (n : ℕ) (b : Block) (list : Raster) (r : Block) (c at : ℕ) (old m new : Painted) → n ≤ 12 → IsBlock n b → b.side ≡ side list.level
-    → IsLeafAt list.level list.grid at (r, c) → code_from b ≡ length old.colours → Adds n (moved_colour b (Leaves list)) (code_from b + at) old m
+    → IsLeafAt list.level list.grid at (r, c) → code_from b ≡ length old.colours → AddsColours n (moved_colour b (Leaves list)) (code_from b + at) old m
     → new ≡ record { level = m.level; colours = m.colours ++ replicate (r.side * r.side) c }
-    → Adds n (moved_colour b (Leaves list)) (code_from b + (at + r.side * r.side)) old new
+    → AddsColours n (moved_colour b (Leaves list)) (code_from b + (at + r.side * r.side)) old new
 Adds-moved n b list r c at old m new le hb wide leaf next before is =
     let f : Pixel → ℕ = moved_colour b (Leaves list) in
     let mv = moved_is n list.level b r le hb wide leaf.block in
     let from = mv.from in
     let begins = leaf.from in
     let long = before.long in
-    let step : Adds n f (code_to (moved b r)) m new =
+    let step : AddsColours n f (code_to (moved b r)) m new =
     Adds-push n f m new (moved b r) c le mv.block (omega arith)
     (λ p h.
     let l = h.left in
@@ -136,4 +136,4 @@ Adds-moved n b list r c at old m new le hb wide leaf next before is =
     leaf.colour.each (record { x = p.x - b.x; y = p.y - b.y })
     (record { left = omega arith; right = omega arith; top = omega arith; bottom = omega arith })) is in
     let end : code_to (moved b r) ≡ code_from b + (at + r.side * r.side) = omega arith in
-    Adds-then n f (code_from b + at) (code_from b + (at + r.side * r.side)) old m new (omega arith) before (subst (λ (k : ℕ). Adds n f k m new) end step)
+    Adds-then n f (code_from b + at) (code_from b + (at + r.side * r.side)) old m new (omega arith) before (subst (λ (k : ℕ). AddsColours n f k m new) end step)

@@ -12,7 +12,7 @@ use Rattle.quilt_loc.proofs.Blocks.{side_most}
 use Rattle.quilt_loc.proofs.Quartered.{IsQuarter, IsBlock-whole, quarters_are}
 use Rattle.quilt_loc.proofs.Intervals.{origin_code, half_codes, held_code}
 use Rattle.quilt_blocks.specs.Raster.{Raster}
-use Rattle.quilt_blocks.specs.Adding.{Adds}
+use Rattle.quilt_blocks.specs.Adding.{AddsColours}
 use Rattle.quilt_blocks.specs.Painting.{Painted, grid_by_code}
 use Rattle.quilt_blocks.proofs.Painting.{code_in, colour_at-grid_by_code}
 use Rattle.quilt_blocks.proofs.Adding.{part_at, Adds-then, Adds-change}
@@ -65,7 +65,7 @@ half_side n k s is half =
 -- a finished square shows the quadrant
 pub Shows-square : (n k : ℕ) (g : Grid) (b : Block) (list : Raster) (m : Painted) → n ≡ suc k → n ≤ 12 → 2 * b.side ≡ side n
     → list ≡ record { level = k; grid = grid_by_code k m.colours }
-    → Adds k (from_corner n g (corner b)) (4 ^ k) (record { level = k; colours = [] }) m → ShowsBlock n g b (Leaves list)
+    → AddsColours k (from_corner n g (corner b)) (4 ^ k) (record { level = k; colours = [] }) m → ShowsBlock n g b (Leaves list)
 Shows-square n k g b list m is most half made adds =
     let colours = m.colours in
     let s = half_side n k b.side is half in
@@ -140,8 +140,8 @@ part_found parts i j part four lt at is = is ∙ ap (λ k. get_or parts k part) 
 
 -- one quadrant more
 pub Adds-quadrant : (n i : ℕ) (g : Grid) (part : Part) (old m new : Painted) → 1 ≤ n → n ≤ 12 → i < 4 → length old.colours ≡ 0
-    → ShowsBlock n g (quadrant_at n i) part → Adds n (colour_at n g) (i * (side n / 2 * (side n / 2))) old m
-    → Adds n (moved_colour (quadrant_at n i) part) (code_to (quadrant_at n i)) m new → Adds n (colour_at n g) ((i + 1) * (side n / 2 * (side n / 2))) old new
+    → ShowsBlock n g (quadrant_at n i) part → AddsColours n (colour_at n g) (i * (side n / 2 * (side n / 2))) old m
+    → AddsColours n (moved_colour (quadrant_at n i) part) (code_to (quadrant_at n i)) m new → AddsColours n (colour_at n g) ((i + 1) * (side n / 2 * (side n / 2))) old new
 Adds-quadrant n i g part old m new some most lt none shows before step =
     let q = quadrant_at n i in
     let h = (quadrant_is n i some lt).block in
@@ -152,8 +152,8 @@ Adds-quadrant n i g part old m new some most lt none shows before step =
     let big = side_most n most in
     let ix = h.in_x in
     let iy = h.in_y in
-    let changed : Adds n (colour_at n g) (code_to q) m new =
+    let changed : AddsColours n (colour_at n g) (code_to q) m new =
     Adds-change n (moved_colour q part) (colour_at n g) (code_to q) m new
     (λ p hx hy low high. shows.each p (held_code n q p h most (omega arith) (omega arith) (omega arith) (omega arith) (omega arith) high)) step in
     Adds-then n (colour_at n g) (i * (side n / 2 * (side n / 2))) ((i + 1) * (side n / 2 * (side n / 2))) old m new (omega arith) before
-    (subst (λ (k : ℕ). Adds n (colour_at n g) k m new) to changed)
+    (subst (λ (k : ℕ). AddsColours n (colour_at n g) k m new) to changed)

@@ -2,11 +2,11 @@ ghost use Rattle.std.specs.Prelude.{◌≡◌, ℕ, ◌+◌, ◌*◌, ◌≤◌,
 ghost use Rattle.quilt_types.specs.Plane.{side as side_of, IsBlock};
 ghost use Rattle.quilt_types.specs.Layers.{Grid};
 ghost use Rattle.quilt_loc.specs.Codes.{code_from, code_to};
-ghost use Rattle.quilt_blocks.specs.Adding.{Adds};
+ghost use Rattle.quilt_blocks.specs.Adding.{AddsColours};
 ghost use Rattle.quilt_par.specs.declared.part.Part.TheVariants.{Leaves};
 ghost use Rattle.quilt_par.specs.Parts.{width_of, moved_colour, part_in, ShowAll};
 
-use crate::reading::quadrant;
+use crate::square::quadrant;
 use quilt_blocks::{Cursor, LeafList, Maker};
 use quilt_types::{Block, Colour};
 use std::alloc::{AllocError, Global};
@@ -46,7 +46,7 @@ fn put(maker: &mut Maker, b: Block, part: &Part) -> Result<(), AllocError>
     requires valid { IsBlock maker.old.level b }
     requires wide { b.side ≡ width_of part.now }
     requires next { code_from b ≡ length maker.old.colours }
-    ensures { OnOk result (Adds maker.old.level (moved_colour b part.now) (code_to b) maker.old maker.new) }
+    ensures { OnOk result (AddsColours maker.old.level (moved_colour b part.now) (code_to b) maker.old maker.new) }
 {
     match part {
         Part::Single(colour) => maker.push(b, *colour),
@@ -60,7 +60,7 @@ fn put_leaves(maker: &mut Maker, b: Block, list: &LeafList) -> Result<(), AllocE
     requires valid { IsBlock maker.old.level b }
     requires wide { b.side ≡ side_of list.now.level }
     requires next { code_from b ≡ length maker.old.colours }
-    ensures { OnOk result (Adds maker.old.level (moved_colour b (Leaves list.now)) (code_to b) maker.old maker.new) }
+    ensures { OnOk result (AddsColours maker.old.level (moved_colour b (Leaves list.now)) (code_to b) maker.old maker.new) }
 {
     let mut leaves = Cursor::new(list);
     while let Some(leaf) = leaves.next() {

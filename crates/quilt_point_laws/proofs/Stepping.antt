@@ -9,7 +9,7 @@ use Rattle.quilt_types.specs.Quadtrees.{holds_few, point_blocks}
 use Rattle.quilt_record.specs.declared.record.Record.{Record}
 use Rattle.quilt_record.specs.Records.{Numbering, record_of}
 use Rattle.quilt_spell.specs.Written.{number_of}
-use Rattle.quilt_spell.specs.Changing.{IsKept, LeadsTo}
+use Rattle.quilt_spell.specs.Changing.{KeepsCapacity, LeadsTo}
 use Rattle.quilt_spell.specs.Stepping.{IsPlaced, IsStep}
 use Rattle.quilt_point_laws.specs.Climbing.{climb}
 use Rattle.quilt_point_laws.specs.Plans.{without_it, with_it}
@@ -26,7 +26,7 @@ module _ (form n : ℕ) (layers : Map) (numbers : Numbering) (name : List ℕ) (
       let number = number_of numbers name in
       let new : Option Layer = Some (Points capacity after) in record {
         fits = fits;
-        kept = subst (λ (o : Option Layer). IsKept o new) (sym here) refl;
+        kept = subst (λ (o : Option Layer). KeepsCapacity o new) (sym here) refl;
         placed = subst (λ (o : Option Layer). IsPlaced layers numbers name number o) (sym here) refl;
         leads = subst (λ (o : Option Layer). LeadsTo n name number o new removed added) (sym here) leads;
       }

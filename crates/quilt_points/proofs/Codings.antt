@@ -18,7 +18,7 @@ use Rattle.quilt_loc.proofs.Rising.{Rises-map, nat_less, nat_less_from}
 use Rattle.quilt_spell.specs.Apart.{Apart}
 use Rattle.quilt_edits.proofs.Lists.{member_at, take_next, taken_there}
 use Rattle.quilt_edits.proofs.Ascents.{permuted, Apart-permuted}
-use Rattle.quilt_points.specs.declared.coding.Coded.{Coded}
+use Rattle.quilt_points.specs.declared.coded.Coded.{Coded}
 use Rattle.quilt_points.specs.Coding.{by_code, coded, IsStepwise, HasFall}
 use Rattle.quilt_points.proofs.Finds.{pixel_in}
 use Rattle.quilt_points.proofs.Windows.{steps_rise}

@@ -23,7 +23,7 @@ use Rattle.quilt_record.specs.declared.key.Key.{Key}
 use Rattle.quilt_record.specs.declared.record.Record.{Record}
 use Rattle.quilt_record.specs.Records.{point_item}
 use Rattle.quilt_record.specs.Canonical.{IsRecordOf, point_fact}
-use Rattle.quilt_btree.specs.Lists.{value_in, value_of}
+use Rattle.quilt_btree.specs.Lists.{value_in, value_at_key}
 use Rattle.quilt_btree.specs.declared.tree.Tree.{Tree}
 use Rattle.quilt_btree.specs.Lists.{floor_of}
 use Rattle.quilt_btree.specs.Trees.{IsTree}
@@ -33,7 +33,7 @@ use Rattle.quilt_edits.proofs.Lookups.{find_away, find_at}
 use Rattle.quilt_spell.proofs.Maps.{entry_from_get, get_from_entry}
 use Rattle.quilt_spell.proofs.facts.FactKeys.{pixel_same}
 use Rattle.quilt_point_laws.proofs.OnBlocks.{OfBlock}
-use Rattle.quilt_points.specs.Layers.{block_facts, block_record, pixel_key, SpellsPoints, HasPoints}
+use Rattle.quilt_points.specs.Layers.{block_facts, block_record, point_pixel_key, SpellsPoints, HasPoints}
 use Rattle.quilt_points.specs.Reads.{IsBlockRead, IsRow, IsLabelIn, label_key, label_at}
 use Rattle.quilt_points.proofs.Shapes.{block_is, block_fact_from, block_fact_is, shaped, point_record_is, block_from}
 use Rattle.quilt_points.proofs.Records.{fact_there, fact_at}
@@ -48,7 +48,7 @@ false_true e = cc
 
 -- ---- the block of a pixel, as it is read
 pub block_read : (told : Option (List (List ℕ))) (t : Tree) (layer n capacity : ℕ) (points : PointMap) (p : Pixel) (k : Key) (found : Option Record)
-    → n ≤ 12 → p.x < side n → p.y < side n → k ≡ pixel_key layer p
+    → n ≤ 12 → p.x < side n → p.y < side n → k ≡ point_pixel_key layer p
     → ((rs : List Record) → IsTree told t rs → found ≡ floor_of k rs) → HasPoints told t layer n capacity points → IsAround n capacity layer points p found
 block_read told t layer n capacity points p k found le hx hy key is h =
     let a = floor_around h.records layer n capacity points le (tree_rises told t h.records h.tree) h.spelled p hx hy k key in
@@ -64,7 +64,7 @@ pub record IsRead (n capacity : ℕ) (points : PointMap) (p : Pixel) (read : Opt
 
 pub around_read : (told : Option (List (List ℕ))) (t : Tree) (layer n capacity : ℕ) (points : PointMap) (p : Pixel) (k : Key) (found : Option Record)
     (r : Record) (read : Option (Block × Option Point))
-    → 1 ≤ layer → layer ≤ 255 → n ≤ 12 → p.x < side n → p.y < side n → k ≡ pixel_key layer p
+    → 1 ≤ layer → layer ≤ 255 → n ≤ 12 → p.x < side n → p.y < side n → k ≡ point_pixel_key layer p
     → ((rs : List Record) → IsTree told t rs → found ≡ floor_of k rs) → found ≡ Some r
     → ((b : Block) (held : Option Point) → IsRecordOf n capacity r layer (point_fact b held) → read ≡ Some (b, held))
     → HasPoints told t layer n capacity points → IsRead n capacity points p read
@@ -162,12 +162,12 @@ module _ (n : ℕ) (points : PointMap) (b : Block) (at : Pixel) (holds : in_bloc
   one_found_at capacity held e r = one_found held (subst (λ (z : ℕ). IsBlockRead n z points b held) e r)
 
 -- ---- a bucket of more
-value_none : (k : Key) (rs : List Record) → ((r : Record) → Contains rs r → r.key ≡ k → ⊥) → value_of k rs ≡ None
-unfolding value_of
+value_none : (k : Key) (rs : List Record) → ((r : Record) → Contains rs r → r.key ≡ k → ⊥) → value_at_key k rs ≡ None
+unfolding value_at_key
 value_none k rs away = ap value_in (find_away k rs away)
 
-value_some : (k : Key) (rs : List Record) (r : Record) → Rises by_key rs → Contains rs r → r.key ≡ k → value_of k rs ≡ Some r.value
-unfolding value_of
+value_some : (k : Key) (rs : List Record) (r : Record) → Rises by_key rs → Contains rs r → r.key ≡ k → value_at_key k rs ≡ Some r.value
+unfolding value_at_key
 value_some k rs r up c e = ap value_in (find_at k rs r up c e)
 
 -- what a search for the key of the pixel in its block has to give
@@ -205,7 +205,7 @@ module _ (rs : List Record) (layer n capacity : ℕ) (points : PointMap) (le : n
   by_fact l f w e = absurd (w.on)
 
   -- no record where there is no point
-  pub absent : (k : Key) → k ≡ (block_record n capacity layer (here 0)).key → finmap.get points at ≡ None → value_of k rs ≡ None
+  pub absent : (k : Key) → k ≡ (block_record n capacity layer (here 0)).key → finmap.get points at ≡ None → value_at_key k rs ≡ None
   absent k is none =
       value_none k rs (λ r c e.
       let f = fact_at rs layer n capacity points spells r c (ap (λ (z : Key). z.layer) (e ∙ is)) in
@@ -218,7 +218,7 @@ module _ (rs : List Record) (layer n capacity : ℕ) (points : PointMap) (le : n
 
   -- the record of the point that is there
   pub present : (k : Key) (l : ℕ) → k ≡ (block_record n capacity layer (here 0)).key → finmap.get points at ≡ Some l
-      → value_of k rs ≡ Some (block_record n capacity layer (here l)).value
+      → value_at_key k rs ≡ Some (block_record n capacity layer (here l)).value
   present k l is some =
       value_some k rs (block_record n capacity layer (here l)) up (fact_there rs layer n capacity points spells (here l) (fact_here l some)) (sym is)
 
@@ -230,7 +230,7 @@ pub record IsLabelRead (points : PointMap) (at : Pixel) (read : Option Point) : 
 
 module _ (told : Option (List (List ℕ))) (t : Tree) (layer n capacity : ℕ) (points : PointMap) (b : Block) (at : Pixel) (k : Key) (found : Option (List ℕ))
     (least : 1 ≤ layer) (most : layer ≤ 255) (le : n ≤ 12) (more : 1 < capacity) (key : k ≡ (block_record n capacity layer (HoldsPoint b at 0)).key)
-    (is : (rs : List Record) → IsTree told t rs → found ≡ value_of k rs) (h : HasPoints told t layer n capacity points)
+    (is : (rs : List Record) → IsTree told t rs → found ≡ value_at_key k rs) (h : HasPoints told t layer n capacity points)
     (mb : Contains (point_blocks n capacity points) b) (on : is_pixel n at ≡ true) (holds : in_block b at ≡ true) where
   abbrev up : Rises by_key h.records
   up = tree_rises told t h.records h.tree
@@ -291,17 +291,17 @@ row_of n capacity number r b None h = tt
 row_of n capacity number r b (Some p) h = (b, h)
 
 pub label_none : (n capacity number : ℕ) (rs : List Record) (b : Block) (p : Pixel) (k : Key) (read : Option (List ℕ)) (label : Option ℕ)
-    → label ≡ None → k ≡ label_key n capacity number b p → read ≡ value_of k rs → read ≡ None → IsLabelIn n capacity number rs b p label
+    → label ≡ None → k ≡ label_key n capacity number b p → read ≡ value_at_key k rs → read ≡ None → IsLabelIn n capacity number rs b p label
 label_none n capacity number rs b p k read label absent key is none =
-    let e : value_of (label_key n capacity number b p) rs ≡ None = ap (λ (j : Key). value_of j rs) (sym key) ∙ sym is ∙ none in
+    let e : value_at_key (label_key n capacity number b p) rs ≡ None = ap (λ (j : Key). value_at_key j rs) (sym key) ∙ sym is ∙ none in
     subst (λ (o : Option (List ℕ)). MatchOption o (label ≡ None) (λ v. (d : Block) × (q : Point)
     × IsRow n capacity number d (Some q) (record { key = label_key n capacity number b p; value = v }) × (label ≡ Some q.label))) (sym e) absent
 
 pub label_some : (n capacity number : ℕ) (rs : List Record) (b : Block) (p : Pixel) (k : Key) (read : Option (List ℕ)) (v : List ℕ) (q : Point)
-    → k ≡ label_key n capacity number b p → read ≡ value_of k rs → read ≡ Some v
+    → k ≡ label_key n capacity number b p → read ≡ value_at_key k rs → read ≡ Some v
     → ((d : Block) × IsRow n capacity number d (Some q) (record { key = k; value = v })) → IsLabelIn n capacity number rs b p (Some q.label)
 label_some n capacity number rs b p k read v q key is some row =
-    let e : value_of (label_key n capacity number b p) rs ≡ Some v = ap (λ (j : Key). value_of j rs) (sym key) ∙ sym is ∙ some in
+    let e : value_at_key (label_key n capacity number b p) rs ≡ Some v = ap (λ (j : Key). value_at_key j rs) (sym key) ∙ sym is ∙ some in
     subst (λ (o : Option (List ℕ)). MatchOption o (Some q.label ≡ None) (λ v. (d : Block) × (s : Point)
     × IsRow n capacity number d (Some s) (record { key = label_key n capacity number b p; value = v }) × (Some q.label ≡ Some s.label))) (sym e)
     (row.0, q, subst (λ (j : Key). IsRow n capacity number row.0 (Some q) (record { key = j; value = v })) key row.1, refl)

@@ -28,7 +28,7 @@ use Rattle.quilt_point_laws.proofs.Narrowing.{one_maximal}
 use Rattle.quilt_point_laws.proofs.Counts.{few_down}
 use Rattle.quilt_point_laws.proofs.OnBlocks.{OfBlock}
 use Rattle.quilt_point_laws.proofs.Plans.{block_around}
-use Rattle.quilt_points.specs.Layers.{pixel_key, block_record, SpellsPoints}
+use Rattle.quilt_points.specs.Layers.{point_pixel_key, block_record, SpellsPoints}
 use Rattle.quilt_points.proofs.Shapes.{key_is}
 use Rattle.quilt_points.proofs.Records.{fact_there, fact_at, some_on}
 
@@ -55,7 +55,7 @@ pub record IsAround (n capacity layer : ℕ) (points : PointMap) (p : Pixel) (fo
 
 module _ (rs : List Record) (layer n capacity : ℕ) (points : PointMap) (le : n ≤ 12) (up : Rises by_key rs)
     (spells : SpellsPoints rs layer n capacity points) where
-  module _ (p : Pixel) (hx : p.x < side n) (hy : p.y < side n) (k : Key) (key : k ≡ pixel_key layer p) where
+  module _ (p : Pixel) (hx : p.x < side n) (hy : p.y < side n) (k : Key) (key : k ≡ point_pixel_key layer p) where
     at_most : (f : Fact) → (w : OfBlock n capacity points f) → code_from (w.block) ≤ code_at p → is_le (key_cmp (block_record n capacity layer f).key k) ≡ true
     at_most f w from =
         let r = (block_record n capacity layer f).key in

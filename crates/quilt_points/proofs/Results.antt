@@ -2,7 +2,7 @@
 use Rattle.std.proofs.Common.{◌≡◌, Result, Ok, Err, IfOk, sym, ◌∙◌}
 use Rattle.quilt_types.specs.declared.stop.Stop.{Stop}
 use Rattle.quilt_types.specs.declared.stop.Stop.TheVariants.{Memory, Damaged}
-use Rattle.quilt_store.specs.Stops.{IsSound}
+use Rattle.quilt_store.specs.Stops.{IsNotDamage}
 
 -- where two things are said of what is answered
 pub if_ok_both : {T E : Type 0} (r : Result T E) (P Q R : T → Type 0) → ((x : T) → P x → Q x → R x) → IfOk r P → IfOk r Q → IfOk r R
@@ -10,5 +10,5 @@ if_ok_both (Ok x) P Q R f p q = f x p q
 if_ok_both (Err e) P Q R f p q = tt
 
 -- no page is damaged where memory is wanting
-pub memory_sound : (e : Stop) → e ≡ Memory → IsSound e
+pub memory_sound : (e : Stop) → e ≡ Memory → IsNotDamage e
 memory_sound e is page damaged = let other : Memory ≡ Damaged page = sym is ∙ damaged in cc

@@ -22,7 +22,7 @@ use Rattle.quilt_spell.proofs.Written.{by_key_total}
 use Rattle.quilt_spell.specs.Written.{by_key}
 use Rattle.quilt_point_laws.specs.Laws.{AreIn}
 use Rattle.quilt_point_laws.proofs.OnBlocks.{IsOn, on_from, on_is}
-use Rattle.quilt_points.specs.Layers.{entry_of, entries_of, block_record}
+use Rattle.quilt_points.specs.Layers.{point_entry, point_entries, block_record}
 use Rattle.quilt_points.specs.Reads.{AreRecordsOf, IsHeld, IsRow, AreSaid}
 use Rattle.quilt_points.proofs.Shapes.{block_is, shaped_on, point_record_is}
 use Rattle.quilt_points.proofs.Records.{some_on}
@@ -105,18 +105,18 @@ module _ (n capacity number : ℕ) (points : PointMap) (b : Block) (least : 1 �
             (point_record_is n capacity number b s.held least most s.fits),
       )
 
-  entry_back : (p : Point) → IsOn points b (point_fact b (Some p)) → Contains (filter (λ e. in_block b e.0) (finmap.entries points)) (entry_of p)
-  entry_back p o = Contains-filter (λ (e : Pixel × ℕ). in_block b e.0) (finmap.entries points) (entry_of p) o.1 o.2
+  entry_back : (p : Point) → IsOn points b (point_fact b (Some p)) → Contains (filter (λ e. in_block b e.0) (finmap.entries points)) (point_entry p)
+  entry_back p o = Contains-filter (λ (e : Pixel × ℕ). in_block b e.0) (finmap.entries points) (point_entry p) o.1 o.2
 
   pub said_are : n ≤ 12 → (records : List Record) (ps : List Point) → Contains (point_blocks n capacity points) b
-      → AreRecordsOf n capacity number points b records → AreSaid n capacity number b records ps → AreIn points b (entries_of ps)
+      → AreRecordsOf n capacity number points b records → AreSaid n capacity number b records ps → AreIn points b (point_entries ps)
   said_are le records ps mb rows said = record {
-    once = Apart-map entry_of ps (λ p q _ _ e. let at : p.at ≡ q.at = ap (λ (z : Pixel × ℕ). z.0) e in let label : p.label ≡ q.label =
+    once = Apart-map point_entry ps (λ p q _ _ e. let at : p.at ≡ q.at = ap (λ (z : Pixel × ℕ). z.0) e in let label : p.label ≡ q.label =
         ap (λ (z : Pixel × ℕ). z.1) e in λ i. record { at = at i; label = label i })
         (said.once (Apart-rises by_key by_key_total records rows.rises));
     members = λ e. (
       λ c.
-          let p = Contains-map_from entry_of ps e c in
+          let p = Contains-map_from point_entry ps e c in
           let r = said.from p.0 p.1 in
           let m = ((rows.members r.0).0 r.1).1 in
           let f = Contains-map_from (block_record n capacity number) (point_facts points b) r.0 m in
@@ -135,7 +135,7 @@ module _ (n capacity number : ℕ) (points : PointMap) (b : Block) (least : 1 �
           subst (λ (z : Option Point). IsRow n capacity number b z (block_record n capacity number f)) (held_same w.0 p w.1) w.2 in
           let there = (rows.members (block_record n capacity number f)).1
           (mb, Contains-map (block_record n capacity number) (point_facts points b) f (on_is points b f o)) in
-          Contains-map entry_of ps p (said.to (block_record n capacity number f) p there row),
+          Contains-map point_entry ps p (said.to (block_record n capacity number f) p there row),
     );
   }
     where

@@ -28,10 +28,10 @@ use Rattle.quilt_btree.specs.Trees.{IsTree}
 use Rattle.quilt_point_laws.specs.Laws.{AreIn}
 use Rattle.quilt_point_laws.proofs.Counts.{few_down}
 use Rattle.quilt_point_laws.proofs.Narrowing.{one_maximal}
-use Rattle.quilt_points.specs.Layers.{entries_of, pixel_key, HasPoints}
+use Rattle.quilt_points.specs.Layers.{point_entries, point_pixel_key, HasPoints}
 use Rattle.quilt_btree.specs.Spots.{IsSpotIf}
 use Rattle.quilt_btree.specs.declared.spot.Spot.{Spot}
-use Rattle.quilt_points.specs.declared.searching.Search.{Search}
+use Rattle.quilt_points.specs.declared.search.Search.{Search}
 use Rattle.quilt_points.specs.Reads.{IsHeld, IsBlockRead, IsBlockRow}
 use Rattle.quilt_points.specs.Searches.{IsSeen, IsSearch}
 use Rattle.quilt_points.specs.Windows.{meets_window}
@@ -43,7 +43,7 @@ module _ (n : ℕ) (points : PointMap) (b : Block) where
   abbrev here : Pixel × ℕ → Bool
   here e = in_block b e.0
 
-  one_are : (held : Option Point) → IsBlockRead n 1 points b held → AreIn points b (entries_of (option_to_list held))
+  one_are : (held : Option Point) → IsBlockRead n 1 points b held → AreIn points b (point_entries (option_to_list held))
   one_are None r =
       let w = block_fact_from n 1 points (HoldsNoPoint b) r.fact in
       let same = (w.on).0 in
@@ -78,7 +78,7 @@ module _ (n : ℕ) (points : PointMap) (b : Block) where
 
   -- the points of a block that was read, where a block holds one at most
   pub one_held : (capacity : ℕ) (held : Option Point) → capacity ≡ 1 → IsBlockRead n capacity points b held
-      → AreIn points b (entries_of (option_to_list held))
+      → AreIn points b (point_entries (option_to_list held))
   one_held capacity held e r = one_are held (subst (λ (z : ℕ). IsBlockRead n z points b held) e r)
 
 -- ---- two blocks around a pixel
@@ -129,11 +129,11 @@ floor_there k rs r e =
 
 -- a block whose last record is the floor of a pixel's key
 pub seen_at : (result : Result (Block × Option Point) Stop) (told : Option (List (List ℕ))) (t : Tree) (n capacity number : ℕ) (at : Pixel) (found : Option Record)
-    → ((rs : List Record) → IsTree told t rs → found ≡ floor_of (pixel_key number at) rs)
+    → ((rs : List Record) → IsTree told t rs → found ≡ floor_of (point_pixel_key number at) rs)
     → IfOk result (λ v. IsBlock n v.0)
-    → IfOk result (λ v. (rs : List Record) → found ≡ floor_of (pixel_key number at) rs → IsBlockRow n capacity number rs at v.0 v.1)
+    → IfOk result (λ v. (rs : List Record) → found ≡ floor_of (point_pixel_key number at) rs → IsBlockRow n capacity number rs at v.0 v.1)
     → IfOk result (λ v. (told : Option (List (List ℕ))) (t : Tree) (points : PointMap)
-    → ((rs : List Record) → IsTree told t rs → found ≡ floor_of (pixel_key number at) rs) → HasPoints told t number n capacity points
+    → ((rs : List Record) → IsTree told t rs → found ≡ floor_of (point_pixel_key number at) rs) → HasPoints told t number n capacity points
     → IsBlockRead n capacity points v.0 v.1)
     → IfOk result (λ v. IsSeen told t n capacity number v.0 v.1)
 seen_at (Err e) told t n capacity number at found is block row read = tt
@@ -141,7 +141,7 @@ seen_at (Ok v) told t n capacity number at found is block row read = record {
   block = block;
   row = λ rs tree.
       let r = row rs (is rs tree) in
-      record { held = v.1; row = r.row; there = floor_there (pixel_key number at) rs r.row r.is_floor; is_row = r.is_row };
+      record { held = v.1; row = r.row; there = floor_there (point_pixel_key number at) rs r.row r.is_floor; is_row = r.is_row };
   read = λ points h. read told t points is h;
 }
 

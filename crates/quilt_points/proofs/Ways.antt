@@ -19,7 +19,7 @@ use Rattle.quilt_point_laws.specs.Laws.{AreIn}
 use Rattle.quilt_point_laws.proofs.Counts.{Comes, del_comes, few_down, few_narrows}
 use Rattle.quilt_point_laws.proofs.Merging.{siblings, AreIn-same}
 use Rattle.quilt_point_laws.proofs.Plans.{AreIn-length}
-use Rattle.quilt_points.specs.Layers.{entry_of, entries_of}
+use Rattle.quilt_points.specs.Layers.{point_entry, point_entries}
 use Rattle.quilt_points.specs.Climbing.{IsOnWay}
 use Rattle.quilt_points.proofs.Shapes.{block_is, block_from}
 use Rattle.quilt_edits.proofs.Lists.{take_next, member_at}
@@ -63,14 +63,14 @@ module _ (n capacity : ℕ) (points : PointMap) (p : Pixel) (label : ℕ) (some 
         way.base (block_is n capacity points way.base way.base_block) way.base_holds x way.block way.within lt u q c (quarter_out q c other))
 
     -- their points stay
-    pub sibling_stays : (q : Block) → Contains (quarters_of (parent_of x)) q → (q ≡ x → ⊥) → (here : List Point) → AreIn points q (entries_of here)
-        → AreIn (finmap.remove points p) q (entries_of here)
-    sibling_stays q c other here are = AreIn-same (finmap.remove points p) points p label comes q (quarter_out q c other) (entries_of here) are
+    pub sibling_stays : (q : Block) → Contains (quarters_of (parent_of x)) q → (q ≡ x → ⊥) → (here : List Point) → AreIn points q (point_entries here)
+        → AreIn (finmap.remove points p) q (point_entries here)
+    sibling_stays q c other here are = AreIn-same (finmap.remove points p) points p label comes q (quarter_out q c other) (point_entries here) are
 
-    long : (all : List Point) → AreIn (finmap.remove points p) (parent_of x) (entries_of all) → length all ≡ points_in (finmap.remove points p) (parent_of x)
-    long all are = sym (length-map all entry_of) ∙ AreIn-length (finmap.remove points p) (parent_of x) (entries_of all) are
+    long : (all : List Point) → AreIn (finmap.remove points p) (parent_of x) (point_entries all) → length all ≡ points_in (finmap.remove points p) (parent_of x)
+    long all are = sym (length-map all point_entry) ∙ AreIn-length (finmap.remove points p) (parent_of x) (point_entries all) are
 
-    pub way_up : (all : List Point) → AreIn (finmap.remove points p) (parent_of x) (entries_of all) → length all ≤ capacity
+    pub way_up : (all : List Point) → AreIn (finmap.remove points p) (parent_of x) (point_entries all) → length all ≤ capacity
         → IsOnWay n capacity points p (parent_of x) all
     way_up all are few = record {
       base = way.base;
@@ -82,7 +82,7 @@ module _ (n capacity : ℕ) (points : PointMap) (p : Pixel) (label : ℕ) (some 
       are = are;
     }
 
-    pub way_many : (all : List Point) → AreIn (finmap.remove points p) (parent_of x) (entries_of all) → capacity < length all
+    pub way_many : (all : List Point) → AreIn (finmap.remove points p) (parent_of x) (point_entries all) → capacity < length all
         → holds_few capacity (finmap.remove points p) (parent_of x) ≡ false
     way_many all are many =
         let l = long all are in
@@ -92,34 +92,34 @@ module _ (n capacity : ℕ) (points : PointMap) (p : Pixel) (label : ℕ) (some 
     -- the next quarter's points, which are known where it is the block
     pub way_next : (qs : List Block) → qs ≡ quarters_of (parent_of x) → (i : ℕ) (d : Block) → i < 4 → (all new : List Point)
         → (get_or qs i d ≡ x → new ≡ all ++ held)
-        → ((get_or qs i d ≡ x → ⊥) → (here : List Point) × (new ≡ all ++ here) × AreIn points (get_or qs i d) (entries_of here))
-        → AreOfAll (finmap.remove points p) (λ q. true) (take i qs) (entries_of all)
-        → AreOfAll (finmap.remove points p) (λ q. true) (take (i + 1) qs) (entries_of new)
+        → ((get_or qs i d ≡ x → ⊥) → (here : List Point) × (new ≡ all ++ here) × AreIn points (get_or qs i d) (point_entries here))
+        → AreOfAll (finmap.remove points p) (λ q. true) (take i qs) (point_entries all)
+        → AreOfAll (finmap.remove points p) (λ q. true) (take (i + 1) qs) (point_entries new)
     way_next qs are i d four all new here_is other h =
         let pos = side_pos n x way.block in
         let q = get_or qs i d in
         let four_of = ap length are in
         let c : Contains (quarters_of (parent_of x)) q = subst (λ (l : List Block). Contains l q) are (member_at qs i d (omega arith)) in
         let apart = quarter_before n (parent_of x) qs i d up_block (omega arith) are four in
-        let add : (here : List Point) → new ≡ all ++ here → AreIn (finmap.remove points p) q (entries_of here)
-        → AreOfAll (finmap.remove points p) (λ q. true) (take (i + 1) qs) (entries_of new) = λ here is are_in.
-        subst (λ (l : List Block). AreOfAll (finmap.remove points p) (λ q. true) l (entries_of new)) (sym (take_next qs i d (omega arith)))
-        (subst (AreOfAll (finmap.remove points p) (λ q. true) (take i qs ++ q ∷ [])) (sym (ap entries_of is ∙ map-append entry_of all here))
-        (all_next (finmap.remove points p) (λ q. true) (take i qs) q (entries_of all) (entries_of here) h
-        (of_from (finmap.remove points p) q (entries_of here) are_in) apart)) in
+        let add : (here : List Point) → new ≡ all ++ here → AreIn (finmap.remove points p) q (point_entries here)
+        → AreOfAll (finmap.remove points p) (λ q. true) (take (i + 1) qs) (point_entries new) = λ here is are_in.
+        subst (λ (l : List Block). AreOfAll (finmap.remove points p) (λ q. true) l (point_entries new)) (sym (take_next qs i d (omega arith)))
+        (subst (AreOfAll (finmap.remove points p) (λ q. true) (take i qs ++ q ∷ [])) (sym (ap point_entries is ∙ map-append point_entry all here))
+        (all_next (finmap.remove points p) (λ q. true) (take i qs) q (point_entries all) (point_entries here) h
+        (of_from (finmap.remove points p) q (point_entries here) are_in) apart)) in
         ⊎_elim
-        (λ same. add held (here_is same) (subst (λ (z : Block). AreIn (finmap.remove points p) z (entries_of held)) (sym same) way.are))
+        (λ same. add held (here_is same) (subst (λ (z : Block). AreIn (finmap.remove points p) z (point_entries held)) (sym same) way.are))
         (λ differ. let o = other differ in add o.0 o.1 (sibling_stays q c differ o.0 o.2))
         (same_or_not block_cmp block_total block_same q x)
 
     pub way_all : (qs : List Block) → qs ≡ quarters_of (parent_of x) → (i : ℕ) → 4 ≤ i → (all : List Point)
-        → AreOfAll (finmap.remove points p) (λ q. true) (take i qs) (entries_of all) → AreIn (finmap.remove points p) (parent_of x) (entries_of all)
+        → AreOfAll (finmap.remove points p) (λ q. true) (take i qs) (point_entries all) → AreIn (finmap.remove points p) (parent_of x) (point_entries all)
     way_all qs are i four all h =
         let pos = side_pos n x way.block in
         let four_of = ap length are in
-        of_is (finmap.remove points p) (parent_of x) (entries_of all)
-        (all_quarters (finmap.remove points p) (λ q. true) n (parent_of x) (entries_of all) up_block (omega arith)
-        (subst (λ (l : List Block). AreOfAll (finmap.remove points p) (λ q. true) l (entries_of all)) (take_all i qs (omega arith) ∙ are) h))
+        of_is (finmap.remove points p) (parent_of x) (point_entries all)
+        (all_quarters (finmap.remove points p) (λ q. true) n (parent_of x) (point_entries all) up_block (omega arith)
+        (subst (λ (l : List Block). AreOfAll (finmap.remove points p) (λ q. true) l (point_entries all)) (take_all i qs (omega arith) ∙ are) h))
 
     -- a quarter that is no block of the layer
     pub way_fails : (q : Block) → Contains (quarters_of (parent_of x)) q → (q ≡ x → ⊥) → (Contains (point_blocks n capacity points) q → ⊥)

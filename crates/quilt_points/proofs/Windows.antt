@@ -35,7 +35,7 @@ use Rattle.quilt_spell.proofs.Maps.{by_first, Rises-entries, get_from_entry}
 use Rattle.quilt_spell.proofs.facts.FactKeys.{pixel_same}
 use Rattle.quilt_point_laws.specs.Laws.{AreIn}
 use Rattle.quilt_point_laws.proofs.Counts.{few_pixel}
-use Rattle.quilt_points.specs.Layers.{entry_of, entries_of}
+use Rattle.quilt_points.specs.Layers.{point_entry, point_entries}
 use Rattle.quilt_points.specs.Reads.{ArePointsOf, IsHeld}
 use Rattle.quilt_points.specs.Windows.{IsVisited, IsCovered, meets_window, visited}
 use Rattle.quilt_world.proofs.ReadCounts.{reads_then, reads_more}
@@ -48,35 +48,35 @@ use Rattle.quilt_points.proofs.Unions.{AreOfAll, all_next, all_quarters, quarter
 use Rattle.quilt_edits.proofs.Ascents as ascents
 
 -- ---- what is found in one block
-kept_entries : (p : Point) (ps : List Point) (rest : List (Pixel × ℕ)) (t : Bool) → entries_of ps ≡ rest
-    → entries_of (cond t (p ∷ ps) ps) ≡ cond t (entry_of p ∷ rest) rest
-kept_entries p ps rest true e = ap (λ l. entry_of p ∷ l) e
+kept_entries : (p : Point) (ps : List Point) (rest : List (Pixel × ℕ)) (t : Bool) → point_entries ps ≡ rest
+    → point_entries (cond t (p ∷ ps) ps) ≡ cond t (point_entry p ∷ rest) rest
+kept_entries p ps rest true e = ap (λ l. point_entry p ∷ l) e
 kept_entries p ps rest false e = e
 
-entries-kept : (test : Pixel → Bool) (ps : List Point) → entries_of (filter (λ p. test p.at) ps) ≡ filter (λ e. test e.0) (entries_of ps)
+entries-kept : (test : Pixel → Bool) (ps : List Point) → point_entries (filter (λ p. test p.at) ps) ≡ filter (λ e. test e.0) (point_entries ps)
 entries-kept test [] = refl
 entries-kept test (p ∷ ps) =
-    kept_entries p (filter (λ (q : Point). test q.at) ps) (filter (λ (e : Pixel × ℕ). test e.0) (entries_of ps)) (test p.at) (entries-kept test ps)
+    kept_entries p (filter (λ (q : Point). test q.at) ps) (filter (λ (e : Pixel × ℕ). test e.0) (point_entries ps)) (test p.at) (entries-kept test ps)
 
-pub kept_of : (points : PointMap) (test : Pixel → Bool) (b : Block) (held : List Point) → AreIn points b (entries_of held)
-    → ArePointsOf points test b (entries_of (filter (λ p. test p.at) held))
+pub kept_of : (points : PointMap) (test : Pixel → Bool) (b : Block) (held : List Point) → AreIn points b (point_entries held)
+    → ArePointsOf points test b (point_entries (filter (λ p. test p.at) held))
 kept_of points test b held are =
     let keep : Pixel × ℕ → Bool = λ e. test e.0 in
     let inside : Pixel × ℕ → Bool = λ e. in_block b e.0 in
     subst (ArePointsOf points test b) (sym (entries-kept test held)) (record {
-      once = Apart-filter keep (entries_of held) are.once;
+      once = Apart-filter keep (point_entries held) are.once;
       members = λ e. (
         λ c.
-            let w = Contains-filter_from keep (entries_of held) e c in
+            let w = Contains-filter_from keep (point_entries held) e c in
             let k = Contains-filter_from inside (finmap.entries points) e ((are.members e).0 w.0) in
             (k.0, w.1, k.1),
-        λ w. Contains-filter keep (entries_of held) e ((are.members e).1 (Contains-filter inside (finmap.entries points) e w.0 w.2)) w.1,
+        λ w. Contains-filter keep (point_entries held) e ((are.members e).1 (Contains-filter inside (finmap.entries points) e w.0 w.2)) w.1,
       );
     })
 
 -- what is added of a block's points
 pub found_held : (n capacity : ℕ) (points : PointMap) (w : Window) (b : Block) (held old new : List Point) → IsHeld n capacity points b held
-    → new ≡ old ++ filter (λ p. in_window w p.at) held → (here : List Point) × (new ≡ old ++ here) × ArePointsOf points (in_window w) b (entries_of here)
+    → new ≡ old ++ filter (λ p. in_window w p.at) held → (here : List Point) × (new ≡ old ++ here) × ArePointsOf points (in_window w) b (point_entries here)
 found_held n capacity points w b held old new h is = (filter (λ (p : Point). in_window w p.at) held, is, kept_of points (in_window w) b held h.are)
 
 pub none_of : (points : PointMap) (test : Pixel → Bool) (b : Block) → ((p : Pixel) → in_block b p ≡ true → test p ≡ true → ⊥) → ArePointsOf points test b []
@@ -107,28 +107,28 @@ open_whole n capacity points b is =
 -- the next quarter's points
 pub found_next : (points : PointMap) (test : Pixel → Bool) (n : ℕ) (b : Block) (qs : List Block) (i : ℕ) (d : Block) → IsBlock n b → 1 < b.side
     → qs ≡ quarters_of b → i < 4 → (first old new : List Point)
-    → ((here : List Point) × (old ≡ first ++ here) × AreOfAll points test (take i qs) (entries_of here))
-    → ((here : List Point) × (new ≡ old ++ here) × ArePointsOf points test (get_or qs i d) (entries_of here))
-    → (here : List Point) × (new ≡ first ++ here) × AreOfAll points test (take (i + 1) qs) (entries_of here)
+    → ((here : List Point) × (old ≡ first ++ here) × AreOfAll points test (take i qs) (point_entries here))
+    → ((here : List Point) × (new ≡ old ++ here) × ArePointsOf points test (get_or qs i d) (point_entries here))
+    → (here : List Point) × (new ≡ first ++ here) × AreOfAll points test (take (i + 1) qs) (point_entries here)
 found_next points test n b qs i d hb wide are lt first old new h k =
     let four = ap length are in (
       h.0 ++ k.0,
       k.1 ∙ ap (λ (l : List Point). l ++ k.0) h.1 ∙ append_assoc first h.0 k.0,
-      subst (λ (l : List Block). AreOfAll points test l (entries_of (h.0 ++ k.0))) (sym (take_next qs i d (omega arith)))
-          (subst (AreOfAll points test (take i qs ++ get_or qs i d ∷ [])) (sym (map-append entry_of h.0 k.0))
-          (all_next points test (take i qs) (get_or qs i d) (entries_of h.0) (entries_of k.0) h.2 k.2 (quarter_before n b qs i d hb wide are lt))),
+      subst (λ (l : List Block). AreOfAll points test l (point_entries (h.0 ++ k.0))) (sym (take_next qs i d (omega arith)))
+          (subst (AreOfAll points test (take i qs ++ get_or qs i d ∷ [])) (sym (map-append point_entry h.0 k.0))
+          (all_next points test (take i qs) (get_or qs i d) (point_entries h.0) (point_entries k.0) h.2 k.2 (quarter_before n b qs i d hb wide are lt))),
     )
 
 pub found_all : (points : PointMap) (test : Pixel → Bool) (n : ℕ) (b : Block) (qs : List Block) (i : ℕ) → IsBlock n b → 1 < b.side
     → qs ≡ quarters_of b → 4 ≤ i → (first all : List Point)
-    → ((here : List Point) × (all ≡ first ++ here) × AreOfAll points test (take i qs) (entries_of here))
-    → (here : List Point) × (all ≡ first ++ here) × ArePointsOf points test b (entries_of here)
+    → ((here : List Point) × (all ≡ first ++ here) × AreOfAll points test (take i qs) (point_entries here))
+    → (here : List Point) × (all ≡ first ++ here) × ArePointsOf points test b (point_entries here)
 found_all points test n b qs i hb wide are four first all h =
     let long = ap length are in (
       h.0,
       h.1,
-      all_quarters points test n b (entries_of h.0) hb wide
-          (subst (λ (l : List Block). AreOfAll points test l (entries_of h.0)) (take_all i qs (omega arith) ∙ are) h.2),
+      all_quarters points test n b (point_entries h.0) hb wide
+          (subst (λ (l : List Block). AreOfAll points test l (point_entries h.0)) (take_all i qs (omega arith) ∙ are) h.2),
     )
 
 -- ---- in rows
@@ -148,18 +148,18 @@ module _ {X : Type 0} (R : X → X → Ordering) (o : IsTotalOrder R) where
       (tail_rises x y xs (h 0 x (omega arith)) rest, rest)
 
 module _ (points : PointMap) (n : ℕ) (inside : IsInside n points) (w : Window) (found : List Point) (b : Block) (is : b ≡ whole n)
-    (are : ArePointsOf points (in_window w) b (entries_of found)) (list : List Point)
+    (are : ArePointsOf points (in_window w) b (point_entries found)) (list : List Point)
     (p : IsPermutation found list) (sorted : IsSortedByKey (λ q. q.at) pixel_cmp list) where
   there : (q : Point) → Contains list q → finmap.get points q.at ≡ Some q.label
-  there q c = get_from_entry pixel_cmp pixel_total pixel_same points (entry_of q)
-      (((are.members (entry_of q)).0 (Contains-map entry_of found q ((permuted found list p q).1 c))).0)
+  there q c = get_from_entry pixel_cmp pixel_total pixel_same points (point_entry q)
+      (((are.members (point_entry q)).0 (Contains-map point_entry found q ((permuted found list p q).1 c))).0)
 
   once : Apart list
   once = ascents.Apart-permuted found list p (apart_back found are.once)
     where
-      apart_back : (ps : List Point) → Apart (entries_of ps) → Apart ps
+      apart_back : (ps : List Point) → Apart (point_entries ps) → Apart ps
       apart_back [] h = tt
-      apart_back (q ∷ ps) h = (λ c. h.0 (Contains-map entry_of ps q c), apart_back ps h.1)
+      apart_back (q ∷ ps) h = (λ c. h.0 (Contains-map point_entry ps q c), apart_back ps h.1)
 
   rises : Rises (λ q r. pixel_cmp q.at r.at) list
   rises = steps_rise (λ q r. pixel_cmp q.at r.at) (on_total (λ (q : Point). q.at) pixel_total) list (λ k d lt.
@@ -182,23 +182,23 @@ module _ (points : PointMap) (n : ℕ) (inside : IsInside n points) (w : Window)
           by_order Equal r e is n = absurd (other (pixel_same a c (sym is)))
           by_order Greater r e is n = absurd (both_ways (is_lt r) n (ap is_lt e))
 
-  pub rows_are : entries_of list ≡ filter (λ e. in_window w e.0) (finmap.entries points)
+  pub rows_are : point_entries list ≡ filter (λ e. in_window w e.0) (finmap.entries points)
   rows_are =
-      same_rising (by_first pixel_cmp) (on_total (λ (e : Pixel × ℕ). e.0) pixel_total) (entries_of list)
+      same_rising (by_first pixel_cmp) (on_total (λ (e : Pixel × ℕ). e.0) pixel_total) (point_entries list)
       (filter (λ (e : Pixel × ℕ). in_window w e.0) (finmap.entries points))
-      (Rises-map (λ (q r : Point). pixel_cmp q.at r.at) (by_first pixel_cmp) entry_of list (λ q r _ _ lt. lt) rises)
+      (Rises-map (λ (q r : Point). pixel_cmp q.at r.at) (by_first pixel_cmp) point_entry list (λ q r _ _ lt. lt) rises)
       (Rises-filter (by_first pixel_cmp) (λ (e : Pixel × ℕ). in_window w e.0) (finmap.entries points) (Rises-entries pixel_cmp points))
       (λ e. (
         λ c.
-            let q = Contains-map_from entry_of list e c in
-            let v = (are.members (entry_of q.0)).0 (Contains-map entry_of found q.0 ((permuted found list p q.0).1 q.1)) in
+            let q = Contains-map_from point_entry list e c in
+            let v = (are.members (point_entry q.0)).0 (Contains-map point_entry found q.0 ((permuted found list p q.0).1 q.1)) in
             subst (Contains (filter (λ (e : Pixel × ℕ). in_window w e.0) (finmap.entries points))) q.2
-            (Contains-filter (λ (e : Pixel × ℕ). in_window w e.0) (finmap.entries points) (entry_of q.0) v.0 v.1),
+            (Contains-filter (λ (e : Pixel × ℕ). in_window w e.0) (finmap.entries points) (point_entry q.0) v.0 v.1),
         λ c.
             let v = Contains-filter_from (λ (e : Pixel × ℕ). in_window w e.0) (finmap.entries points) e c in
             let on = inside e v.0 in
-            let q = Contains-map_from entry_of found e ((are.members e).1 (v.0, v.1, ap (λ (z : Block). in_block z e.0) is ∙ on)) in
-            subst (Contains (entries_of list)) q.2 (Contains-map entry_of list q.0 ((permuted found list p q.0).0 q.1)),
+            let q = Contains-map_from point_entry found e ((are.members e).1 (v.0, v.1, ap (λ (z : Block). in_block z e.0) is ∙ on)) in
+            subst (Contains (point_entries list)) q.2 (Contains-map point_entry list q.0 ((permuted found list p q.0).0 q.1)),
       ))
 
 -- each point is in the whole square

@@ -1,7 +1,7 @@
 -- What points that come or go change.
 pub mod Adds
 pub mod Dels
-pub mod Growths
+pub mod Deltas
 pub mod Plans
 pub mod Puts
 pub mod Scatters

@@ -4,7 +4,7 @@ use Rattle.std.specs.Ordering.{nat_cmp}
 use Rattle.std.specs.declared.cmp.Ordering.{Ordering}
 use Rattle.quilt_types.specs.declared.plane.Point.{Point}
 use Rattle.quilt_loc.specs.Codes.{code_at}
-use Rattle.quilt_points.specs.declared.coding.Coded.{Coded}
+use Rattle.quilt_points.specs.declared.coded.Coded.{Coded}
 
 -- points by their codes
 abbrev pub by_code : Point → Point → Ordering

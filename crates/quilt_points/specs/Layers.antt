@@ -13,12 +13,12 @@ use Rattle.quilt_btree.specs.declared.tree.Tree.{Tree}
 use Rattle.quilt_btree.specs.Trees.{IsTree}
 
 -- a point as an entry of a map
-abbrev pub entry_of : Point → Pixel × ℕ
-entry_of p = (p.at, p.label)
+abbrev pub point_entry : Point → Pixel × ℕ
+point_entry p = (p.at, p.label)
 
 -- points as entries
-abbrev pub entries_of : List Point → List (Pixel × ℕ)
-entries_of points = map entry_of points
+abbrev pub point_entries : List Point → List (Pixel × ℕ)
+point_entries points = map point_entry points
 
 -- the facts on the layer's blocks: all but that of its kind
 abbrev pub block_facts : ℕ → ℕ → PointMap → List Fact
@@ -29,8 +29,8 @@ abbrev pub block_record : ℕ → ℕ → ℕ → Fact → Record
 block_record n capacity layer f = record_of n capacity [] layer f
 
 -- the key to which a search for the block of a pixel goes: that of the pixel's code, behind each block that begins there
-abbrev pub pixel_key : ℕ → Pixel → Key
-pixel_key layer p = record { layer = layer; part = 2; code = code_at p; depth = 255; item = 2 ^ 32 - 1 }
+abbrev pub point_pixel_key : ℕ → Pixel → Key
+point_pixel_key layer p = record { layer = layer; part = 2; code = code_at p; depth = 255; item = 2 ^ 32 - 1 }
 
 -- Those of the records that are of the layer with this number are exactly the records of the facts on its blocks.
 pub record SpellsPoints (rs : List Record) (layer n capacity : ℕ) (points : PointMap) : Type 0 where

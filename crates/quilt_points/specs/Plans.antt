@@ -14,7 +14,7 @@ use Rattle.quilt_spell.specs.Changing.{LeadsTo}
 
 -- Under any name of the layer the edits take out the records of the facts that the old points alone have, and put in those
 -- of the facts that the new points alone have, each once. The new points are those of a layer.
-pub record IsPlan (n layer capacity : ℕ) (old new : PointMap) (edits : Edits) : Type 0 where
+pub record IsPointPlan (n layer capacity : ℕ) (old new : PointMap) (edits : Edits) : Type 0 where
   pub valid : (form : ℕ) → IsPointMap form n capacity old → IsPointMap form n capacity new
   pub leads : (name : List ℕ) → LeadsTo n name layer (Some (Points capacity old)) (Some (Points capacity new)) edits.remove edits.add
 
@@ -31,5 +31,5 @@ pub record AreNew (points : PointMap) (news : List Point) : Type 0 where
   pub free : (p : Point) → Contains news p → finmap.get points p.at ≡ None
 
 -- the map with these points too
-abbrev pub with_points : PointMap → List Point → PointMap
-with_points points news = fold (λ now p. finmap.insert now p.at p.label) points news
+abbrev pub points_with : PointMap → List Point → PointMap
+points_with points news = fold (λ now p. finmap.insert now p.at p.label) points news

@@ -12,11 +12,11 @@ use Rattle.quilt_loc.specs.Codes.{Rises}
 use Rattle.quilt_record.specs.declared.key.Key.{Key}
 use Rattle.quilt_record.specs.declared.record.Record.{Record}
 use Rattle.quilt_record.specs.Canonical.{IsRecordOf, point_fact}
-use Rattle.quilt_btree.specs.Lists.{floor_of, value_of}
+use Rattle.quilt_btree.specs.Lists.{floor_of, value_at_key}
 use Rattle.quilt_spell.specs.Apart.{Apart}
 use Rattle.quilt_spell.specs.Written.{by_key}
 use Rattle.quilt_point_laws.specs.Laws.{AreIn}
-use Rattle.quilt_points.specs.Layers.{entries_of, block_facts, block_record, pixel_key}
+use Rattle.quilt_points.specs.Layers.{point_entries, block_facts, block_record, point_pixel_key}
 
 -- the block is one of the layer's, and what is said of it is one of the layer's facts
 pub record IsBlockRead (n capacity : ℕ) (points : PointMap) (b : Block) (held : Option Point) : Type 0 where
@@ -37,7 +37,7 @@ pub record AreRecordsOf (n capacity number : ℕ) (points : PointMap) (b : Block
 -- the block is one of the layer's, and these are its points
 pub record IsHeld (n capacity : ℕ) (points : PointMap) (b : Block) (held : List Point) : Type 0 where
   pub block : Contains (point_blocks n capacity points) b
-  pub are : AreIn points b (entries_of held)
+  pub are : AreIn points b (point_entries held)
 
 -- the record is the one of the layer with this number that says this of the block
 abbrev pub IsRow : ℕ → ℕ → ℕ → Block → Option Point → Record → Type 0
@@ -57,7 +57,7 @@ pub record ArePointsOf (points : PointMap) (test : Pixel → Bool) (b : Block) (
 -- over any records: that of the greatest key up to a pixel's is one of this block of the layer
 pub record IsBlockRow (n capacity number : ℕ) (rs : List Record) (p : Pixel) (b : Block) (held : Option Point) : Type 0 where
   pub row : Record
-  pub is_floor : floor_of (pixel_key number p) rs ≡ Some row
+  pub is_floor : floor_of (point_pixel_key number p) rs ≡ Some row
   pub is_row : IsRow n capacity number b held row
 
 -- the key of a point at a pixel of the block
@@ -67,11 +67,11 @@ label_key n capacity number b p = (block_record n capacity number (HoldsPoint b 
 -- over any records: there is none with the key of the point, or it says the point of this label
 abbrev pub IsLabelIn : ℕ → ℕ → ℕ → List Record → Block → Pixel → Option ℕ → Type 0
 IsLabelIn n capacity number rs b p label =
-    MatchOption (value_of (label_key n capacity number b p) rs) (label ≡ None)
+    MatchOption (value_at_key (label_key n capacity number b p) rs) (label ≡ None)
     (λ v. (d : Block) × (q : Point) × IsRow n capacity number d (Some q) (record { key = label_key n capacity number b p; value = v }) × (label ≡ Some q.label))
 
 -- over any records: a block around the pixel is there, and the label is what its records say of the pixel
-pub record IsAnswered (n capacity number : ℕ) (rs : List Record) (p : Pixel) (label : Option ℕ) : Type 0 where
+pub record IsLabelFound (n capacity number : ℕ) (rs : List Record) (p : Pixel) (label : Option ℕ) : Type 0 where
   pub block : Block
   pub held : Option Point
   pub there : IsBlockRow n capacity number rs p block held

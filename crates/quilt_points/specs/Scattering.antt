@@ -9,12 +9,12 @@ use Rattle.quilt_types.specs.Facts.{Fact}
 use Rattle.quilt_record.specs.declared.record.Record.{Record}
 use Rattle.quilt_spell.specs.Apart.{Apart}
 use Rattle.quilt_point_laws.specs.Growing.{Gain, gone_in, come_in, IsGain}
-use Rattle.quilt_points.specs.Layers.{entries_of, block_record}
+use Rattle.quilt_points.specs.Layers.{point_entries, block_record}
 use Rattle.quilt_points.specs.Reads.{IsHeld}
 
 -- the records of facts, behind others
-abbrev pub Adds : ℕ → ℕ → ℕ → List Record → List Record → List Fact → Type 0
-Adds n number capacity old new fs = new ≡ old ++ map (block_record n capacity number) fs
+abbrev pub AddsRecords : ℕ → ℕ → ℕ → List Record → List Record → List Fact → Type 0
+AddsRecords n number capacity old new fs = new ≡ old ++ map (block_record n capacity number) fs
 
 -- So many of the points, the first of them on, are those in one of the layer's blocks. None of them is at a pixel that has a
 -- point, and the records that change in the block are added.
@@ -25,16 +25,16 @@ pub record IsTaken (n number capacity : ℕ) (old : PointMap) (points : List Poi
   pub inside : (p : Point) → Contains (take count points) p → in_block block p.at ≡ true
   pub outside : (p : Point) → Contains (drop count points) p → in_block block p.at ≡ true → ⊥
   pub free : (p : Point) → Contains (take count points) p → finmap.get old p.at ≡ None
-  pub gone : Adds n number capacity without without_now
-      (gone_in capacity (record { block = block; held = entries_of held; news = entries_of (take count points) }))
-  pub come : Adds n number capacity with with_now (come_in n capacity (record { block = block; held = entries_of held; news = entries_of (take count points) }))
+  pub gone : AddsRecords n number capacity without without_now
+      (gone_in capacity (record { block = block; held = point_entries held; news = point_entries (take count points) }))
+  pub come : AddsRecords n number capacity with with_now (come_in n capacity (record { block = block; held = point_entries held; news = point_entries (take count points) }))
 
 -- The first points are taken: these are the records that change in the blocks that get them. The others are in no such block.
 pub record IsGrown (n number capacity : ℕ) (old : PointMap) (done rest : List Point) (without with : List Record) : Type 0 where
   pub gains : List Gain
   pub once : Apart gains
   pub own : (g h : Gain) → Contains gains g → Contains gains h → g.block ≡ h.block → g ≡ h
-  pub each : (g : Gain) → Contains gains g → IsGain n capacity old (entries_of done) g
+  pub each : (g : Gain) → Contains gains g → IsGain n capacity old (point_entries done) g
   pub covered : (p : Point) → Contains done p → (g : Gain) × Contains gains g × (in_block g.block p.at ≡ true)
   pub apart : (g : Gain) (p : Point) → Contains gains g → Contains rest p → in_block g.block p.at ≡ true → ⊥
   pub free : (p : Point) → Contains done p → finmap.get old p.at ≡ None

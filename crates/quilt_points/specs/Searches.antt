@@ -9,7 +9,7 @@ use Rattle.quilt_btree.specs.declared.tree.Tree.{Tree}
 use Rattle.quilt_btree.specs.Fingers.{IsFinger}
 use Rattle.quilt_btree.specs.Spots.{IsSpotIf}
 use Rattle.quilt_btree.specs.Trees.{IsTree}
-use Rattle.quilt_points.specs.declared.searching.Search.{Search}
+use Rattle.quilt_points.specs.declared.search.Search.{Search}
 use Rattle.quilt_points.specs.Layers.{HasPoints}
 use Rattle.quilt_points.specs.Reads.{IsBlockRead}
 use Rattle.quilt_points.specs.Windows.{HasRow}

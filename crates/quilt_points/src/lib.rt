@@ -2,24 +2,24 @@
 //! come when points do (PR quadtrees with buckets, Samet 1990).
 #![tactic(auto)]
 
-mod beginning;
-mod climbing;
-mod coding;
-mod counting;
-mod growing;
+mod climb;
+mod coded;
+mod counts;
+mod delta;
 mod laws;
 mod layer;
-mod listing;
-mod planning;
-mod reading;
-mod scattering;
-mod searching;
-mod windowing;
+mod leaf;
+mod lookup;
+mod plan;
+mod scatter;
+mod search;
+mod start;
+mod window;
 
-pub use beginning::first_record;
-pub use counting::block_counts;
+pub use counts::block_counts;
 pub use laws::points_laws;
-pub use planning::{plan_del, plan_put};
-pub use reading::find;
-pub use scattering::plan_scatter;
-pub use windowing::within;
+pub use lookup::find;
+pub use plan::{plan_del, plan_put};
+pub use scatter::plan_scatter;
+pub use start::first_record;
+pub use window::within;

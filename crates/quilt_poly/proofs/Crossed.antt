@@ -7,7 +7,7 @@ use Rattle.std.proofs.lemmas.Bool.{cases_lt, cases_order, lt-ltb, le-ltb, ltb-tr
 use Rattle.quilt_types.specs.declared.plane.Pixel.{Pixel}
 use Rattle.quilt_types.specs.Polygons.{Edge}
 use Rattle.quilt_poly.specs.declared.edges.RingEdge.{RingEdge}
-use Rattle.quilt_poly.specs.Edges.{edge_of, ahead, behind, crosses}
+use Rattle.quilt_poly.specs.Edges.{edge_of, ahead, second_product, crosses}
 use Rattle.quilt_poly.specs.Crossings.{IsCrossing}
 use Rattle.quilt_poly.proofs.Turning.{IsCrossed-from, IsCrossed-to}
 
@@ -60,7 +60,7 @@ right' ax ay bx h column rest x y is small le =
 
 pub crosses_is : (e : RingEdge) (p : Pixel) (column rest : ℕ) → IsCrossing (edge_of e) (p.y + 1) column rest → e.top.y ≤ p.y → p.y < e.bottom.y
     → crosses p e ≡ ltb p.x column
-unfolding crosses ahead behind
+unfolding crosses ahead second_product
 crosses_is e p column rest at low high =
     let rows = at.rows in
     let sum = subst (λ b. column * (2 * at.height) + rest + e.top.x * (2 * (p.y + 1)) + 2 * e.top.y * e.bottom.x + e.bottom.x + 1

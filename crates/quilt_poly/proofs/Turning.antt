@@ -5,7 +5,7 @@ use Rattle.std.specs.Cmp.{both_ways}
 use Rattle.std.proofs.lemmas.Bool.{and_parts, and_from}
 use Rattle.quilt_types.specs.declared.plane.Pixel.{Pixel}
 use Rattle.quilt_types.specs.Polygons.{Edge, is_right_of}
-use Rattle.quilt_poly.specs.Edges.{ahead, behind, is_left}
+use Rattle.quilt_poly.specs.Edges.{ahead, second_product, is_left}
 use Rattle.quilt_poly.proofs.Differences.{diff_pos, minus, times, diff_less}
 
 -- two tests of which each follows from the other
@@ -32,7 +32,7 @@ turn_is x y ax ay bx by =
     ∙ same_less _ _ (x * by + ax * y + bx * ay) (bx * y + x * ay + ax * by) (λ h. omega arith) (λ h. omega arith)
 
 pub is_right_of_is : (p : Pixel) (e : Edge) → is_right_of p e ≡ (nat_le e.top.y p.y && nat_lt p.y e.bottom.y && is_left p e)
-unfolding is_left ahead behind
+unfolding is_left ahead second_product
 is_right_of_is p e =
     ap₂ (λ a b. a && b) (ap₂ (λ a b. a && b) (low_is e.top.y p.y) (high_is p.y e.bottom.y))
     (turn_is (2 * p.x + 1) (2 * p.y + 1) (2 * e.top.x) (2 * e.top.y) (2 * e.bottom.x) (2 * e.bottom.y))
@@ -41,7 +41,7 @@ is_right_of_is p e =
 pub record IsCrossed (p : Pixel) (e : Edge) : Type 0 where
   pub low : e.top.y ≤ p.y
   pub high : p.y < e.bottom.y
-  pub left : behind p e < ahead p e
+  pub left : second_product p e < ahead p e
 
 pub IsCrossed-from : (p : Pixel) (e : Edge) → is_right_of p e ≡ true → IsCrossed p e
 unfolding is_left

@@ -20,13 +20,13 @@ ahead p e =
     2 * e.bottom.x * (2 * p.y + 1) + (2 * p.x + 1) * (2 * e.top.y) + 2 * e.top.x * (2 * e.bottom.y)
 
 -- the second of the two, of the same doubled coordinates
-unfoldable pub behind : Pixel → Edge → ℕ
-behind p e =
+unfoldable pub second_product : Pixel → Edge → ℕ
+second_product p e =
     (2 * p.x + 1) * (2 * e.bottom.y) + 2 * e.top.x * (2 * p.y + 1) + 2 * e.bottom.x * (2 * e.top.y)
 
 -- the middle of the pixel lies left of the edge's line
 unfoldable pub is_left : Pixel → Edge → Bool
-is_left p e = nat_lt (behind p e) (ahead p e)
+is_left p e = nat_lt (second_product p e) (ahead p e)
 
 -- the line to the right from the middle of the pixel crosses the edge
 unfoldable pub crosses : Pixel → RingEdge → Bool

@@ -2,9 +2,9 @@
 #![tactic(auto)]
 
 mod bits;
-mod crossing;
+mod columns;
 mod edges;
-mod filling;
-mod marking;
+mod fill;
+mod outline;
 
-pub use filling::{region_of, region_within};
+pub use fill::{region_of, region_within};

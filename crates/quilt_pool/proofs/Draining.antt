@@ -20,7 +20,7 @@ use Rattle.quilt_journal.proofs.Leaving.{idle_leaves}
 use Rattle.quilt_journal.proofs.Writes.{writing_none, writing_both, writing_more}
 use Rattle.quilt_pool.specs.declared.frame.Frame.{Frame}
 use Rattle.quilt_pool.specs.Entries.{Entries, frame_at, page_over, bytes_or, has_dirt, is_dirty, is_marked, IsClean, AreBelow}
-use Rattle.quilt_pool.specs.Keeping.{IsWork, Keeps}
+use Rattle.quilt_pool.specs.Keeping.{IsWork, KeepsWork}
 use Rattle.quilt_pool.proofs.Saving.{tries_none}
 use Rattle.quilt_pool.proofs.Entering.{keeps_then}
 
@@ -83,7 +83,7 @@ module _ (es : Entries) (k : ℕ) (f : Frame) (at : frame_at es k ≡ Some f) wh
     ];
   }
 
-  keeps_clean : (n : ℕ) (c : List Bool) (t : Tale) → IsWork n es c t → f.bytes ≡ get_or (work t n c) k [] → Keeps n es cleaned c c t t
+  keeps_clean : (n : ℕ) (c : List Bool) (t : Tale) → IsWork n es c t → f.bytes ≡ get_or (work t n c) k [] → KeepsWork n es cleaned c c t t
   keeps_clean n c t is fresh = record {
     is = record { idle = is.idle; clean = is_clean (work t n c) fresh is.clean };
     home = refl;
@@ -114,8 +114,8 @@ module _ (es : Entries) (k : ℕ) (f : Frame) (at : frame_at es k ≡ Some f) wh
   unfolding cleaned
   clean_other i ne = ap has_dirt (other_at i ne)
 
-  pub keeps_drained : (n : ℕ) (c d : List Bool) (o t : Tale) → Keeps n es es c d o t → f.bytes ≡ get_or (work t n d) k []
-      → Keeps n es (set_value (nat_eq k) es (record { bytes = f.bytes; is_dirty = false })) c d o t
+  pub keeps_drained : (n : ℕ) (c d : List Bool) (o t : Tale) → KeepsWork n es es c d o t → f.bytes ≡ get_or (work t n d) k []
+      → KeepsWork n es (set_value (nat_eq k) es (record { bytes = f.bytes; is_dirty = false })) c d o t
   unfolding cleaned
   keeps_drained n c d o t keeps fresh = keeps_then n es es cleaned c d d o t t keeps (keeps_clean n d t keeps.is fresh)
 
@@ -174,10 +174,10 @@ no_zero n es below i lt = dirt_of (frame_at es i) (λ f is. absurd (omega (arith
 pub none_past : (n : ℕ) (es : Entries) → AreBelow n es → (i : ℕ) → n ≤ i → is_dirty es i ≡ false
 none_past n es below i le = dirt_of (frame_at es i) (λ f is. absurd (omega (arith, le, (below.each i f is).1)))
 
-pub goes_drained : (n m : ℕ) (e1 e2 e3 : Entries) (c1 c2 c3 : List Bool) (a b d : Option Tale) → m ≡ n → Goes (Keeps n e1 e2 c1 c2) a b
-    → Goes (Keeps m e2 e3 c2 c3) b d → Goes (Keeps n e1 e3 c1 c3) a d
+pub goes_drained : (n m : ℕ) (e1 e2 e3 : Entries) (c1 c2 c3 : List Bool) (a b d : Option Tale) → m ≡ n → Goes (KeepsWork n e1 e2 c1 c2) a b
+    → Goes (KeepsWork m e2 e3 c2 c3) b d → Goes (KeepsWork n e1 e3 c1 c3) a d
 goes_drained n m e1 e2 e3 c1 c2 c3 a b d same p q =
-    goes_then (Keeps n e1 e2 c1 c2) (Keeps n e2 e3 c2 c3) (Keeps n e1 e3 c1 c3) a b d p (subst (λ k. Goes (Keeps k e2 e3 c2 c3) b d) same q)
+    goes_then (KeepsWork n e1 e2 c1 c2) (KeepsWork n e2 e3 c2 c3) (KeepsWork n e1 e3 c1 c3) a b d p (subst (λ k. Goes (KeepsWork k e2 e3 c2 c3) b d) same q)
     (keeps_then n e1 e2 e3 c1 c2 c3)
 
 pub goes_written_too : (j k l : ℕ) (a b d : Option Tale) → j + k ≤ l → Goes (Writing j) a b → Goes (Writing k) b d → Goes (Writing l) a d

@@ -16,7 +16,7 @@ use Rattle.quilt_journal.specs.declared.journal.State.TheVariants.{Idle}
 use Rattle.quilt_journal.proofs.Leaving.{idle_leaves}
 use Rattle.quilt_pool.specs.declared.frame.Frame.{Frame}
 use Rattle.quilt_pool.specs.Entries.{Entries, frame_at, page_over, has_dirt, is_marked, IsClean, AreBelow}
-use Rattle.quilt_pool.specs.Keeping.{IsWork, Keeps, Changes, IsSaved}
+use Rattle.quilt_pool.specs.Keeping.{IsWork, KeepsWork, Changes, IsSaved}
 use Rattle.quilt_pool.proofs.Looks.{AtPut, put_at, over_at}
 use Rattle.quilt_pool.proofs.Saving.{tries_none, tries_both, tries_adds}
 
@@ -32,7 +32,7 @@ module _ (old new : Entries) (same : (i : ℕ) → frame_at new i ≡ frame_at o
   pub marked_same : (changed : List Bool) (i : ℕ) → is_marked new changed i ≡ is_marked old changed i
   marked_same changed i = ap (λ f. has_dirt f || is_changed changed i) (same i)
 
-  pub keeps_same : (n : ℕ) (changed : List Bool) (t : Tale) → IsWork n old changed t → Keeps n old new changed changed t t
+  pub keeps_same : (n : ℕ) (changed : List Bool) (t : Tale) → IsWork n old changed t → KeepsWork n old new changed changed t t
   keeps_same n changed t is = record {
     is = record { idle = is.idle; clean = clean_same (work t n changed) is.clean };
     home = refl;
@@ -41,14 +41,14 @@ module _ (old new : Entries) (same : (i : ℕ) → frame_at new i ≡ frame_at o
     since = since_here t (HasHome n (published t n)) (idle_leaves n changed t is.idle);
   }
 
-  pub goes_same : (n : ℕ) (changed : List Bool) (o : Option Tale) → IfSome o (IsWork n old changed) → Goes (Keeps n old new changed changed) o o
+  pub goes_same : (n : ℕ) (changed : List Bool) (o : Option Tale) → IfSome o (IsWork n old changed) → Goes (KeepsWork n old new changed changed) o o
   goes_same n changed None h = tt
   goes_same n changed (Some t) h = keeps_same n changed t h
 
 -- ---- one call after another
 
-pub keeps_then : (n : ℕ) (e1 e2 e3 : Entries) (c1 c2 c3 : List Bool) (a b d : Tale) → Keeps n e1 e2 c1 c2 a b
-    → Keeps n e2 e3 c2 c3 b d → Keeps n e1 e3 c1 c3 a d
+pub keeps_then : (n : ℕ) (e1 e2 e3 : Entries) (c1 c2 c3 : List Bool) (a b d : Tale) → KeepsWork n e1 e2 c1 c2 a b
+    → KeepsWork n e2 e3 c2 c3 b d → KeepsWork n e1 e3 c1 c3 a d
 keeps_then n e1 e2 e3 c1 c2 c3 a b d p q = record {
   is = q.is;
   home = q.home ∙ p.home;
@@ -58,7 +58,7 @@ keeps_then n e1 e2 e3 c1 c2 c3 a b d p q = record {
 }
 
 pub keeps_read : (n m : ℕ) (es : Entries) (c : List Bool) (state : State) (a b : Tale) → m ≡ n → state ≡ Idle → IsWork n es c a
-    → IsKept state m c b × (published b m ≡ published a m) × (work b m c ≡ work a m c) → Adds [] a b → Keeps n es es c c a b
+    → IsKept state m c b × (published b m ≡ published a m) × (work b m c ≡ work a m c) → Adds [] a b → KeepsWork n es es c c a b
 keeps_read n m es c state a b same idle is read nothing =
     let kept : IsIdle n c b = subst (λ s. IsKept s n c b) idle (subst (λ k. IsKept state k c b) same read.0) in
     let home : published b n ≡ published a n = subst (λ k. published b k ≡ published a k) same read.1 in
@@ -149,7 +149,7 @@ module _ (n : ℕ) (table : LruCache ℕ Frame) (k : ℕ) (some : 0 < table.cap)
   since = since_here t (HasHome n (published t n)) (idle_leaves n c t is.idle)
 
   pub keeps_put : (v : Frame) → frame_at table.entries k ≡ None → v.bytes ≡ get_or (work t n c) k []
-      → Keeps n table.entries (put_entries nat_eq table k v) c c t t
+      → KeepsWork n table.entries (put_entries nat_eq table k v) c c t t
   keeps_put v lost fresh = record {
     is = record { idle = is.idle; clean = clean_put table k v some fits (work t n c) saved (λ none. fresh) is.clean };
     home = refl;
@@ -167,7 +167,7 @@ module _ (n : ℕ) (table : LruCache ℕ Frame) (k : ℕ) (some : 0 < table.cap)
     since = since;
   }
 
-pub changes_then : (n k : ℕ) (x : List ℕ) (e1 e2 e3 : Entries) (c1 c2 c3 : List Bool) (a b d : Tale) → Keeps n e1 e2 c1 c2 a b
+pub changes_then : (n k : ℕ) (x : List ℕ) (e1 e2 e3 : Entries) (c1 c2 c3 : List Bool) (a b d : Tale) → KeepsWork n e1 e2 c1 c2 a b
     → Changes n k x e2 e3 c2 c3 b d → Changes n k x e1 e3 c1 c3 a d
 changes_then n k x e1 e2 e3 c1 c2 c3 a b d p q = record {
   is = q.is;
@@ -191,11 +191,11 @@ both : (P Q : Tale → Type 0) (o : Option Tale) → IfSome o P → IfSome o Q �
 both P Q None p q = tt
 both P Q (Some t) p q = (p, q)
 
-module _ (n k : ℕ) (table : LruCache ℕ Frame) (old new : List Bool) (o m : Option Tale) (first : Goes (Keeps n table.entries table.entries old new) o m) where
+module _ (n k : ℕ) (table : LruCache ℕ Frame) (old new : List Bool) (o m : Option Tale) (first : Goes (KeepsWork n table.entries table.entries old new) o m) where
   module _ (pages : ℕ) (state : State) (t : Option Tale) (is_pages : pages ≡ n) (is_state : state ≡ Idle)
       (read : Goes (λ a b. IsKept state pages new b × (published b pages ≡ published a pages) × (work b pages new ≡ work a pages new)) m t)
       (nothing : Goes (Adds []) m t) where
-    pub goes_read : Goes (Keeps n table.entries table.entries old new) o t
+    pub goes_read : Goes (KeepsWork n table.entries table.entries old new) o t
     goes_read =
         goes_then _ _ _ _ _ _ first (goes_and _ _ _ _ read nothing) (λ a b c p h.
         keeps_then n table.entries table.entries table.entries old new new a b c p
@@ -203,10 +203,10 @@ module _ (n k : ℕ) (table : LruCache ℕ Frame) (old new : List Bool) (o m : O
 
     pub goes_entered : (x : List ℕ) → 0 < table.cap → length table.entries ≤ table.cap → frame_at table.entries k ≡ None
         → IfSome m (λ b. frame_at table.entries k ≡ None → IsSaved table (work b n new)) → IfSome m (λ b. x ≡ get_or (work b pages new) k [])
-        → Goes (Keeps n table.entries (put_entries nat_eq table k (record { bytes = x; is_dirty = false })) old new) o t
+        → Goes (KeepsWork n table.entries (put_entries nat_eq table k (record { bytes = x; is_dirty = false })) old new) o t
     goes_entered x some fits lost saved bytes =
         let v : Frame = record { bytes = x; is_dirty = false } in
-        goes_then _ _ _ _ _ _ (goes_more _ (λ a b. Keeps n table.entries table.entries old new a b × IsSaved table (work b n new)
+        goes_then _ _ _ _ _ _ (goes_more _ (λ a b. KeepsWork n table.entries table.entries old new a b × IsSaved table (work b n new)
         × (x ≡ get_or (work b pages new) k [])) _ _ _ first
         (both (λ b. frame_at table.entries k ≡ None → IsSaved table (work b n new)) (λ b. x ≡ get_or (work b pages new) k []) m saved bytes)
         (λ a b p q. (p, q.0 lost, q.1))) (goes_and _ _ _ _ read nothing) (λ a b c p h.
@@ -243,8 +243,8 @@ marked_entered table k x changed some fits lost listed i =
 
 -- another name for the table
 pub goes_named : (n : ℕ) (old new : List Bool) (es : Entries) (a b : LruCache ℕ Frame) (o t : Option Tale) → a ≡ b
-    → Goes (Keeps n a.entries es old new) o t → Goes (Keeps n b.entries es old new) o t
-goes_named n old new es a b o t same goes = subst (λ (x : LruCache ℕ Frame). Goes (Keeps n x.entries es old new) o t) same goes
+    → Goes (KeepsWork n a.entries es old new) o t → Goes (KeepsWork n b.entries es old new) o t
+goes_named n old new es a b o t same goes = subst (λ (x : LruCache ℕ Frame). Goes (KeepsWork n x.entries es old new) o t) same goes
 
 pub marked_named : (a b : LruCache ℕ Frame) (changed : List Bool) (i : ℕ) → a ≡ b → is_marked a.entries changed i ≡ is_marked b.entries changed i
 marked_named a b changed i same = ap (λ (x : LruCache ℕ Frame). is_marked x.entries changed i) same

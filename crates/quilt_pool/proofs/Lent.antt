@@ -13,8 +13,8 @@ use Rattle.quilt_journal.specs.Changed.{is_changed}
 use Rattle.quilt_journal.specs.Kept.{HasHome, published, work}
 use Rattle.quilt_journal.proofs.Leaving.{idle_leaves}
 use Rattle.quilt_pool.specs.declared.frame.Frame.{Frame}
-use Rattle.quilt_pool.specs.Entries.{Entries, frame_at, bytes_or, has_dirt, page_over, is_marked, IsClean, AreBelow, dirty, written, edited}
-use Rattle.quilt_pool.specs.Keeping.{IsWork, Keeps, Changes}
+use Rattle.quilt_pool.specs.Entries.{Entries, frame_at, bytes_or, has_dirt, page_over, is_marked, IsClean, AreBelow, dirty, written, entry_edited}
+use Rattle.quilt_pool.specs.Keeping.{IsWork, KeepsWork, Changes}
 use Rattle.quilt_pool.proofs.Dirt.{some_frame}
 use Rattle.quilt_pool.proofs.Draining.{eqb-same}
 use Rattle.quilt_pool.proofs.Entering.{changes_then}
@@ -42,7 +42,7 @@ put_here c k v some fits = elim (put_at c k v k some fits) [
 ]
 
 -- the bytes that were read are those of the work
-pub bytes_entered : (n k : ℕ) (es : Entries) (old new : List Bool) (o m : Option Tale) → Goes (Keeps n es es old new) o m
+pub bytes_entered : (n k : ℕ) (es : Entries) (old new : List Bool) (o m : Option Tale) → Goes (KeepsWork n es es old new) o m
     → (pages : ℕ) → pages ≡ n → frame_at es k ≡ None → (x : List ℕ) → IfSome m (λ b. x ≡ get_or (work b pages new) k [])
     → IfSome o (λ a. x ≡ page_over es (work a n old) k)
 bytes_entered n k es old new None m keeps pages is lost x read = tt
@@ -95,7 +95,7 @@ module _ (es : Entries) (k : ℕ) (w : List ℕ) (there : IsSome (frame_at es k)
     since = since_here t (HasHome n (published t n)) (idle_leaves n c t is.idle);
   }
 
-  pub goes_written : (n : ℕ) (os : Entries) (old new : List Bool) (o t : Option Tale) → Goes (Keeps n os es old new) o t
+  pub goes_written : (n : ℕ) (os : Entries) (old new : List Bool) (o t : Option Tale) → Goes (KeepsWork n os es old new) o t
       → Goes (Changes n k w os (written es k w) old new) o t
   goes_written n os old new None None keeps = tt
   goes_written n os old new None (Some t) keeps = absurd keeps
@@ -114,7 +114,7 @@ module _ (es : Entries) (k : ℕ) (w : List ℕ) (there : IsSome (frame_at es k)
 
 -- ---- a page that was marked, and then has other bytes
 
-pub written_twice : (k : ℕ) (b w : List ℕ) (es : Entries) → IsSome (frame_at es k) → edited (written es k b) k w ≡ written es k w
+pub written_twice : (k : ℕ) (b w : List ℕ) (es : Entries) → IsSome (frame_at es k) → entry_edited (written es k b) k w ≡ written es k w
 written_twice k b w [] there = refl
 written_twice k b w (e ∷ es) there = elim (cases_Bool (nat_eq k e.0)) [
   | inl t ↦ simp t
@@ -148,25 +148,25 @@ module _ (t u : LruCache ℕ Frame) (k : ℕ) (there : IsSome (frame_at t.entrie
   pub below_marked : (n : ℕ) → (1 ≤ k) × (k < n) → AreBelow n t.entries → AreBelow n u.entries
   below_marked n within below = subst (AreBelow n) (sym as_marked) (below_written t.entries k kept_bytes there n within below)
 
-  pub goes_marked : (n : ℕ) (os : Entries) (old new : List Bool) (o q : Option Tale) → Goes (Keeps n os t.entries old new) o q
+  pub goes_marked : (n : ℕ) (os : Entries) (old new : List Bool) (o q : Option Tale) → Goes (KeepsWork n os t.entries old new) o q
       → Goes (Changes n k kept_bytes os u.entries old new) o q
   goes_marked n os old new o q keeps =
       subst (λ (x : Entries). Goes (Changes n k kept_bytes os x old new) o q) (sym as_marked) (goes_written t.entries k kept_bytes there n os old new o q keeps)
 
   module _ (w : List ℕ) where
-    as_written : edited u.entries k w ≡ written t.entries k w
-    as_written = ap (λ (x : LruCache ℕ Frame). edited x.entries k w) (marked found.0 found.1) ∙ written_twice k found.0.bytes w t.entries there
+    as_written : entry_edited u.entries k w ≡ written t.entries k w
+    as_written = ap (λ (x : LruCache ℕ Frame). entry_edited x.entries k w) (marked found.0 found.1) ∙ written_twice k found.0.bytes w t.entries there
 
-    pub below_edited : (n : ℕ) → (1 ≤ k) × (k < n) → AreBelow n t.entries → AreBelow n (edited u.entries k w)
+    pub below_edited : (n : ℕ) → (1 ≤ k) × (k < n) → AreBelow n t.entries → AreBelow n (entry_edited u.entries k w)
     below_edited n within below = subst (AreBelow n) (sym as_written) (below_written t.entries k w there n within below)
 
-    pub goes_edited : (n : ℕ) (os : Entries) (old new : List Bool) (o q : Option Tale) → Goes (Keeps n os t.entries old new) o q
-        → Goes (Changes n k w os (edited u.entries k w) old new) o q
+    pub goes_edited : (n : ℕ) (os : Entries) (old new : List Bool) (o q : Option Tale) → Goes (KeepsWork n os t.entries old new) o q
+        → Goes (Changes n k w os (entry_edited u.entries k w) old new) o q
     goes_edited n os old new o q keeps =
         subst (λ (x : Entries). Goes (Changes n k w os x old new) o q) (sym as_written) (goes_written t.entries k w there n os old new o q keeps)
 
-    pub marked_edited : (c : List Bool) (i : ℕ) → is_marked (edited u.entries k w) c i ≡ cond (nat_eq i k) true (is_marked t.entries c i)
+    pub marked_edited : (c : List Bool) (i : ℕ) → is_marked (entry_edited u.entries k w) c i ≡ cond (nat_eq i k) true (is_marked t.entries c i)
     marked_edited c i = ap (λ (x : Entries). is_marked x c i) as_written ∙ marked_written t.entries k w there c i
 
-    pub keys_edited : keys_of (edited u.entries k w) ≡ keys_of t.entries
+    pub keys_edited : keys_of (entry_edited u.entries k w) ≡ keys_of t.entries
     keys_edited = ap (λ (x : Entries). keys_of x) as_written ∙ keys_written t.entries k w there

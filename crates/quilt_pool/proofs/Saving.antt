@@ -14,7 +14,7 @@ use Rattle.quilt_journal.proofs.Homes.{length-work}
 use Rattle.quilt_journal.proofs.Leaving.{idle_leaves}
 use Rattle.quilt_pool.specs.declared.frame.Frame.{Frame}
 use Rattle.quilt_pool.specs.Entries.{Entries, frame_at, page_over, IsClean}
-use Rattle.quilt_pool.specs.Keeping.{Tries, IsWork, Keeps, IsSaved}
+use Rattle.quilt_pool.specs.Keeping.{Tries, IsWork, KeepsWork, IsSaved}
 use Rattle.lru.specs.LruCache.{LruCache, last_entry}
 use Rattle.quilt_world.specs.Added.{is_write, Only}
 use Rattle.quilt_world.proofs.AddedLaws.{only-append}
@@ -40,7 +40,7 @@ tries_tore at m n (inl adds) = tries_adds (Tore at ∷ []) m n refl adds
 tries_tore at m n (inr adds) = tries_adds [] m n refl adds
 
 module _ (n : ℕ) (es : Entries) (changed : List Bool) where
-  pub keeps_none : (t : Tale) → IsWork n es changed t → Keeps n es es changed changed t t
+  pub keeps_none : (t : Tale) → IsWork n es changed t → KeepsWork n es es changed changed t t
   keeps_none t is = record {
     is = is;
     home = refl;
@@ -51,7 +51,7 @@ module _ (n : ℕ) (es : Entries) (changed : List Bool) where
 
   pub keeps_set : (b : Bool) (p : ℕ) (f : Frame) (x : List ℕ) (o t : Tale) → frame_at es p ≡ Some f → f.is_dirty ≡ true → IsWork n es changed o
       → IsIdle n (set changed p b) t × (published t n ≡ published o n) × (work t n (set changed p b) ≡ set (work o n changed) p x)
-      → Tries o t → Since o t (HasHome n (published o n)) → Keeps n es es changed (set changed p b) o t
+      → Tries o t → Since o t (HasHome n (published o n)) → KeepsWork n es es changed (set changed p b) o t
   keeps_set b p f x o t at dirty is stored tries since = record {
     is = record {
       idle = stored.0;
@@ -68,7 +68,7 @@ if_some_kept n es changed None h = tt
 if_some_kept n es changed (Some t) h = h.idle
 
 -- before the first call
-pub goes_none : (n : ℕ) (es : Entries) (changed : List Bool) (o : Option Tale) → IfSome o (IsWork n es changed) → Goes (Keeps n es es changed changed) o o
+pub goes_none : (n : ℕ) (es : Entries) (changed : List Bool) (o : Option Tale) → IfSome o (IsWork n es changed) → Goes (KeepsWork n es es changed changed) o o
 goes_none n es changed None h = tt
 goes_none n es changed (Some t) h = keeps_none n es changed t h
 

@@ -23,7 +23,7 @@ pub record IsWork (n : ℕ) (es : Entries) (changed : List Bool) (t : Tale) : Ty
   pub clean : IsClean es (work t n changed)
 
 -- They stand so again, and each page of the work is as it was.
-pub record Keeps (n : ℕ) (oes nes : Entries) (oc nc : List Bool) (old new : Tale) : Type 0 where
+pub record KeepsWork (n : ℕ) (oes nes : Entries) (oc nc : List Bool) (old new : Tale) : Type 0 where
   pub is : IsWork n nes nc new
   pub home : published new n ≡ published old n
   pub pages : (i : ℕ) → page_over nes (work new n nc) i ≡ page_over oes (work old n oc) i

@@ -5,14 +5,14 @@ use Rattle.std.specs.List.{IsDistinct}
 use Rattle.std.proofs.lemmas.Map.{keys-set_value, length-set_value}
 use Rattle.lru.specs.LruCache.{lru_cache}
 use Rattle.quilt_pool.specs.declared.pool.Pool.{Pool}
-use Rattle.quilt_pool.specs.Entries.{edited, is_dirty}
+use Rattle.quilt_pool.specs.Entries.{entry_edited, is_dirty}
 use Rattle.quilt_pool.specs.Dirt.{dirt_edited}
 use Rattle.quilt_pool.specs.contracts.pool.Pool.{the_row as pool_row}
 
 -- the pool where the page has these bytes
 abbrev pub edited_pool : Pool → ℕ → List ℕ → Pool
 edited_pool p page w = record {
-  table = lru_cache (edited p.table.entries page w) p.table.cap;
+  table = lru_cache (entry_edited p.table.entries page w) p.table.cap;
   dirty = p.dirty;
   fetched = p.fetched;
   distinct = subst (IsDistinct nat_eq) (sym (keys-set_value (nat_eq page) p.table.entries (record { bytes = w; is_dirty = is_dirty p.table.entries page }))) p.distinct;

@@ -14,8 +14,8 @@ abbrev pub entries_of : Pool → Entries
 entries_of p = p.table.entries
 
 -- how many pages the pool holds at most
-abbrev pub capacity_of : Pool → ℕ
-capacity_of p = p.table.cap
+abbrev pub pool_capacity : Pool → ℕ
+pool_capacity p = p.table.cap
 
 -- the bits of the pages that may be dirty: each dirty page has its bit
 abbrev pub dirty_bits : Pool → List ℕ

@@ -6,7 +6,7 @@ ghost use Rattle.quilt_journal.specs.Changed.{has_bit};
 ghost use Rattle.quilt_pool.specs.Entries.{is_dirty};
 
 mod calls;
-mod holding;
+mod held;
 
 use crate::table::Table;
 

@@ -6,7 +6,7 @@ ghost use Rattle.std.specs.NonZero.{non_zero_usize_get};
 ghost use Rattle.std.specs.Vec.{vec_capacity};
 ghost use Rattle.lru.specs.LruCache.{IsValid, lru_cache, put_entries, promoted, last_entry};
 ghost use Rattle.quilt_store.specs.declared.store.StoreErr.TheVariants.{Device};
-ghost use Rattle.quilt_pool.specs.Entries.{frame_at, has_frame, bytes_or, edited};
+ghost use Rattle.quilt_pool.specs.Entries.{frame_at, has_frame, bytes_or, entry_edited};
 ghost use Rattle.quilt_pool.specs.Frames.{IsShared, holders, frame_in, as_frame, as_entry};
 
 use lru::LruCache;
@@ -267,7 +267,7 @@ impl Lending for Table {
 
     ghost bytes = { λ s page. bytes_or [] (frame_at s.entries page) };
 
-    ghost edited = { λ s page w. lru_cache (edited s.entries page w) s.cap };
+    ghost edited = { λ s page w. lru_cache (entry_edited s.entries page w) s.cap };
 
     fn edit_frame(&mut self, page: u32) -> &mut [u8; 4096] {
         let at = place_of(&self.places, page).unwrap();

@@ -13,7 +13,7 @@ use Rattle.quilt_types.specs.Ranking.{comes_first}
 use Rattle.quilt_clip.specs.Compared.{compared}
 use Rattle.quilt_clip.proofs.Compared.{compared_total, compared_is}
 use Rattle.quilt_loc.proofs.Members.{Contains-here, Contains-there}
-use Rattle.quilt_rank.specs.Ranks.{rank_cmp, added, last_far, is_past}
+use Rattle.quilt_rank.specs.Ranks.{rank_cmp, added, last_far, is_past_ranks}
 use Rattle.quilt_rank.proofs.Orders.{Rank, put}
 
 -- ---- adding by the order and putting by the id are one among ranks of which one id has one
@@ -145,7 +145,7 @@ and_true false b e = absurd (true≢false (sym e))
 
 -- there are k, and the last is nearer than a whole number
 pub past_law : (k : ℕ) (xs : List Key) (rs : List Rank) (r : Key) (d : ℕ) (b : Bool) → map turned xs ≡ rs → length xs ≡ k
-    → slice_get xs (length xs - 1) ≡ Some r → b ≡ nat_lt r.0.num (d * r.0.den) → b ≡ is_past k rs d
+    → slice_get xs (length xs - 1) ≡ Some r → b ≡ nat_lt r.0.num (d * r.0.den) → b ≡ is_past_ranks k rs d
 past_law k xs rs r d b view long last eb =
     let full : eqb (length rs) k ≡ true = eq-eqb (length rs) k (ap length (sym view) ∙ length-map xs turned ∙ long) in
     let far : last_far rs ≡ r.0 = ap last_far (sym view) ∙ last_got xs r last in

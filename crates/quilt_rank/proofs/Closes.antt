@@ -14,7 +14,7 @@ use Rattle.quilt_near.specs.Lines.{Lines, IsLines}
 use Rattle.quilt_near.proofs.NearPixels.{near_pixel}
 use Rattle.quilt_near.proofs.Leading.{far_of}
 use Rattle.quilt_near.proofs.Waiting.{least_of_all}
-use Rattle.quilt_rank.specs.Ranks.{last_far, is_past}
+use Rattle.quilt_rank.specs.Ranks.{last_far, is_past_ranks}
 use Rattle.quilt_rank.proofs.Orders.{Rank, Ahead, IsSettled, sub_same, not_itself, not_both}
 use Rattle.quilt_rank.proofs.Ranking.{last_is, IsRank, rank_positive, IsRanking, ranking_is}
 use Rattle.quilt_rank.proofs.Fronts.{Front}
@@ -75,7 +75,7 @@ module _ (n : ℕ) (p : Pixel) (k : ℕ) (l : Lines) (is : IsLines n l) (queue r
       let same = sub_same rs fs f.order r.order in' (omega arith) in
       not_itself z (a.1 z (subst (λ (t : List Rank). Contains t z) (sym same) c))
 
-  pub close : (fs : List Rank) → 1 ≤ k → fs ≡ ranked l.segs p k → length fs ≡ k → is_past k rs e.0 ≡ false → e.0 * (last_far fs).den ≤ (last_far fs).num
+  pub close : (fs : List Rank) → 1 ≤ k → fs ≡ ranked l.segs p k → length fs ≡ k → is_past_ranks k rs e.0 ≡ false → e.0 * (last_far fs).den ≤ (last_far fs).num
   unfolding Near
   close fs some answer long past =
       let r : IsRanking p l.segs k fs = subst (IsRanking p l.segs k) (sym answer) (ranking_is p l.segs k) in

@@ -22,7 +22,7 @@ use Rattle.quilt_near.specs.Choices.{placed_at}
 use Rattle.quilt_near.proofs.NearPixels.{near_pixel, farther}
 use Rattle.quilt_near.proofs.Leading.{far_of}
 use Rattle.quilt_near.proofs.Waiting.{Waits, IsHeld, all_rest, came_out, least_of_all, waits_first, held_first, waits_split, held_rest, held_split}
-use Rattle.quilt_rank.specs.Ranks.{with_ranked, last_far, is_past}
+use Rattle.quilt_rank.specs.Ranks.{with_ranked, last_far, is_past_ranks}
 use Rattle.quilt_rank.proofs.Orders.{Rank, Ahead, AreRanked, IsSettled}
 use Rattle.quilt_rank.proofs.Ranking.{last_is, IsRank, rank_of, rank_positive, ranking_from, steps}
 
@@ -97,7 +97,7 @@ module _ (n : ℕ) (p : Pixel) (k : ℕ) (l : Lines) (is : IsLines n l) where
       finish [] rs f (λ z c. let at = near_pixel p z.1 in ⊎_elim (λ done. done) (λ held. absurd (Contains-nil held.by held.listed)) (f.seen z c at.0 at.1))
 
   -- what is strictly farther than the last comes after all
-  past_parts : (rs : List Rank) (d : ℕ) → is_past k rs d ≡ true → (length rs ≡ k) × ((last_far rs).num < d * (last_far rs).den)
+  past_parts : (rs : List Rank) (d : ℕ) → is_past_ranks k rs d ≡ true → (length rs ≡ k) × ((last_far rs).num < d * (last_far rs).den)
   past_parts rs d h =
       let w = and_parts (eqb (length rs) k) (nat_lt (last_far rs).num (d * (last_far rs).den)) h in
       (eqb-true (length rs) k w.0, ltb-true _ _ w.1)
@@ -120,7 +120,7 @@ module _ (n : ℕ) (p : Pixel) (k : ℕ) (l : Lines) (is : IsLines n l) where
 
   -- What waits is strictly farther than the last of k.
   pub at_stop : (queue rest : List (ℕ × Block)) (rs : List Rank) (e : ℕ × Block) → 1 ≤ k → Front n p k l queue rs → IsPermutation queue (e ∷ rest)
-      → All (λ z. e.0 ≤ z.0) rest → is_past k rs e.0 ≡ true → rs ≡ ranked l.segs p k
+      → All (λ z. e.0 ≤ z.0) rest → is_past_ranks k rs e.0 ≡ true → rs ≡ ranked l.segs p k
   at_stop queue rest rs e some f h least past =
       let w = past_parts rs e.0 past in
       let long = w.0 in

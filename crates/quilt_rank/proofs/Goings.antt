@@ -13,14 +13,14 @@ use Rattle.quilt_loc.proofs.Quartered.{IsBlock-whole, quarters_are}
 use Rattle.quilt_near.specs.Lines.{Lines, IsLines}
 use Rattle.quilt_near.specs.Choices.{placed_at}
 use Rattle.quilt_near.specs.Budgets.{is_close}
-use Rattle.quilt_near.specs.Parts.{IsPart, IsPartOf, pages_for}
+use Rattle.quilt_near.specs.Parts.{IsPart, PartFits, pages_for}
 use Rattle.quilt_near.specs.declared.part.Part.{Part}
 use Rattle.quilt_near.specs.declared.part.Part.TheVariants.{Split, Leaf}
 use Rattle.quilt_near.proofs.Owing.{owed, owed_first, owed_leaf, owed_split, left, left_leaf, left_split}
 use Rattle.quilt_near.proofs.Waiting.{all_first, all_rest, all_split, came_out}
 use Rattle.quilt_near.proofs.Telling.{tells_same, tells_then, tells_weaker}
-use Rattle.quilt_rank.specs.Ranks.{last_far, is_past}
-use Rattle.quilt_rank.specs.Opened.{AfterRanking, IsOpened}
+use Rattle.quilt_rank.specs.Ranks.{last_far, is_past_ranks}
+use Rattle.quilt_rank.specs.Opened.{AfterRanking, IsBlockRanked}
 use Rattle.quilt_rank.proofs.Orders.{Rank}
 use Rattle.quilt_rank.proofs.Fronts.{Front, start, leaf_step, split_step, at_end, at_stop}
 use Rattle.quilt_rank.proofs.Closes.{close}
@@ -56,7 +56,7 @@ module _ (n : ℕ) (p : Pixel) (k : ℕ) (some : 1 ≤ k) (shown : Lines → Typ
     pub first_reached : (l : Lines) → shown l → is_reached l.cover e.1 ≡ true
     first_reached l s = ((g.front l s).waits e (came_out queue rest e h)).reached
 
-    close_to : (l : Lines) (s : shown l) → All (λ z. e.0 ≤ z.0) rest → is_past k rs e.0 ≡ false → length (ranked l.segs p k) ≡ k
+    close_to : (l : Lines) (s : shown l) → All (λ z. e.0 ≤ z.0) rest → is_past_ranks k rs e.0 ≡ false → length (ranked l.segs p k) ≡ k
         → is_close p (last_far (ranked l.segs p k)) e.1 ≡ true
     close_to l s least past long =
         let far = last_far (ranked l.segs p k) in
@@ -64,8 +64,8 @@ module _ (n : ℕ) (p : Pixel) (k : ℕ) (some : 1 ≤ k) (shown : Lines → Typ
         let w = (g.front l s).waits e (came_out queue rest e h) in
         le-leb (block_distance p e.1 * far.den) far.num (subst (λ t. t * far.den ≤ far.num) w.distance c)
 
-    by_part : (now : Option ℕ) (new : List (ℕ × Block)) (then : List Rank) → All (λ z. e.0 ≤ z.0) rest → is_past k rs e.0 ≡ false → (part : Part)
-        → ((l : Lines) → shown l → IsPart l e.1 part) → IsPartOf n e.1 part → AfterRanking p k e.1 part rest new rs then
+    by_part : (now : Option ℕ) (new : List (ℕ × Block)) (then : List Rank) → All (λ z. e.0 ≤ z.0) rest → is_past_ranks k rs e.0 ≡ false → (part : Part)
+        → ((l : Lines) → shown l → IsPart l e.1 part) → PartFits n e.1 part → AfterRanking p k e.1 part rest new rs then
         → Goes (λ x y. y ≤ x + pages_for part) mid now → Going n p k shown before now new then
     by_part now new then least past (Leaf list) found of after reads =
         subst (λ (t : List (ℕ × Block)). Going n p k shown before now t then) (sym after.0) (subst (Going n p k shown before now rest) (sym after.1) (record {
@@ -92,17 +92,17 @@ module _ (n : ℕ) (p : Pixel) (k : ℕ) (some : 1 ≤ k) (shown : Lines → Typ
               (λ x y z a b. omega arith) before mid now (g.paid l s long) reads;
         })
 
-    left_by_part : (new : List (ℕ × Block)) (then : List Rank) (part : Part) → IsPartOf n e.1 part → AfterRanking p k e.1 part rest new rs then
+    left_by_part : (new : List (ℕ × Block)) (then : List Rank) (part : Part) → PartFits n e.1 part → AfterRanking p k e.1 part rest new rs then
         → left block_of new < left block_of queue
     left_by_part new then (Leaf list) of after =
         subst (λ (t : List (ℕ × Block)). left block_of t < left block_of queue) (sym after.0) (left_leaf block_of queue rest e h (side_pos n e.1 first_valid))
     left_by_part new then Split wide after = left_split block_of queue rest new (map (placed_at p) (quarters_of e.1)) e h wide refl after.0
 
     pub going_on : (now : Option ℕ) (new : List (ℕ × Block)) (then : List Rank) (shown' : Lines → Type 0) → ((l : Lines) → shown l → shown' l)
-        → All (λ z. e.0 ≤ z.0) rest → is_past k rs e.0 ≡ false → IsOpened n p k e.1 shown' rest new rs then mid now → Going n p k shown before now new then
+        → All (λ z. e.0 ≤ z.0) rest → is_past_ranks k rs e.0 ≡ false → IsBlockRanked n p k e.1 shown' rest new rs then mid now → Going n p k shown before now new then
     going_on now new then shown' still least past o = by_part now new then least past o.part (λ l s. o.found l (still l s)) o.found_of o.after o.reads
 
-    pub less_left : (now : Option ℕ) (new : List (ℕ × Block)) (then : List Rank) (shown' : Lines → Type 0) → IsOpened n p k e.1 shown' rest new rs
+    pub less_left : (now : Option ℕ) (new : List (ℕ × Block)) (then : List Rank) (shown' : Lines → Type 0) → IsBlockRanked n p k e.1 shown' rest new rs
         then mid now → left block_of new < left block_of queue
     less_left now new then shown' o = left_by_part new then o.part o.found_of o.after
 
@@ -112,7 +112,7 @@ module _ (n : ℕ) (p : Pixel) (k : ℕ) (some : 1 ≤ k) (shown : Lines → Typ
 
   pub going_stop : (now : Option ℕ) (queue rest : List (ℕ × Block)) (rs : List Rank) (e : ℕ × Block) → Going n p k shown before now queue rs
       → IsPermutation queue (e ∷ rest) → All (λ z. e.0 ≤ z.0) rest
-      → is_past k rs e.0 ≡ true → (l : Lines) → shown l → rs ≡ ranked l.segs p k
+      → is_past_ranks k rs e.0 ≡ true → (l : Lines) → shown l → rs ≡ ranked l.segs p k
   going_stop now queue rest rs e g h least past l s = at_stop n p k l (lines l s) queue rest rs e some (g.front l s) h least past
 
   pub going_reads : (now : Option ℕ) (queue : List (ℕ × Block)) (rs : List Rank) → Going n p k shown before now queue rs → (l : Lines) → shown l

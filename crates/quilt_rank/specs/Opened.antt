@@ -9,7 +9,7 @@ use Rattle.quilt_types.specs.Fractions.{Fraction}
 use Rattle.quilt_world.specs.Tale.{Goes}
 use Rattle.quilt_near.specs.Choices.{placed_at}
 use Rattle.quilt_near.specs.Lines.{Lines}
-use Rattle.quilt_near.specs.Parts.{IsPart, IsPartOf, pages_for}
+use Rattle.quilt_near.specs.Parts.{IsPart, PartFits, pages_for}
 use Rattle.quilt_near.specs.declared.part.Part.{Part}
 use Rattle.quilt_near.specs.declared.part.Part.TheVariants.{Split, Leaf}
 use Rattle.quilt_rank.specs.Ranks.{with_ranked}
@@ -24,10 +24,10 @@ abbrev pub GivesPart : {S : Type 0} → (S → S → Result Part Stop → Type 0
 GivesPart looked old new = (part : Part) × looked old new (Ok part)
 
 -- a block was opened: what it was found to be, where the layer shows its lines, and what it cost
-pub record IsOpened (n : ℕ) (p : Pixel) (k : ℕ) (b : Block) (shown : Lines → Type 0) (old new : List (ℕ × Block)) (was now : List (ℕ × Fraction))
+pub record IsBlockRanked (n : ℕ) (p : Pixel) (k : ℕ) (b : Block) (shown : Lines → Type 0) (old new : List (ℕ × Block)) (was now : List (ℕ × Fraction))
     (reads_old reads_new : Option ℕ) : Type 0 where
   pub part : Part
   pub found : (l : Lines) → shown l → IsPart l b part
-  pub found_of : IsPartOf n b part
+  pub found_of : PartFits n b part
   pub after : AfterRanking p k b part old new was now
   pub reads : Goes (λ before after. after ≤ before + pages_for part) reads_old reads_new

@@ -28,5 +28,5 @@ last_far (r ∷ []) = r.1
 last_far (r ∷ s ∷ rs) = last_far (s ∷ rs)
 
 -- there are k, and a whole distance is greater than that of the last
-abbrev pub is_past : ℕ → List (ℕ × Fraction) → ℕ → Bool
-is_past k rs d = (length rs == k) && nat_lt (last_far rs).num (d * (last_far rs).den)
+abbrev pub is_past_ranks : ℕ → List (ℕ × Fraction) → ℕ → Bool
+is_past_ranks k rs d = (length rs == k) && nat_lt (last_far rs).num (d * (last_far rs).den)

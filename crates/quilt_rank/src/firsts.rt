@@ -1,6 +1,6 @@
 ghost use Rattle.std.specs.Prelude.{◌≡◌, ℕ, [], ◌≤◌, length, take, OnOk, IfOk};
 ghost use Rattle.std.specs.Bool.{OnTrue};
-ghost use Rattle.quilt_rank.specs.Ranks.{added, is_past as is_past_of};
+ghost use Rattle.quilt_rank.specs.Ranks.{added, is_past_ranks as is_past_of};
 
 use crate::ranks::RankList;
 use quilt_near::Quotient;

@@ -3,7 +3,7 @@
 
 mod firsts;
 mod ranks;
-mod searching;
+mod search;
 
 pub use ranks::RankList;
-pub use searching::ranked;
+pub use search::ranked;

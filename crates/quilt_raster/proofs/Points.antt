@@ -13,7 +13,7 @@ use Rattle.quilt_blocks.specs.Mosaic.{HasColour}
 use Rattle.quilt_loc.proofs.Rows.{grid_of-from, colour_at-pixel_at}
 use Rattle.quilt_blocks.proofs.Squares.{grid_of-same}
 use Rattle.quilt_blocks.proofs.Adding.{Adds-whole}
-use Rattle.quilt_blocks.specs.Adding.{Adds}
+use Rattle.quilt_blocks.specs.Adding.{AddsColours}
 use Rattle.quilt_blocks.specs.Painting.{Painted}
 use Rattle.quilt_raster.specs.Bytes.{from_corner}
 
@@ -55,9 +55,9 @@ grid_of-colour_at n g long = grid_of-from n (colour_at n g) g long (λ k lt. sym
 
 -- a whole square, put down from nothing
 pub all_added : (n : ℕ) (f : Pixel → ℕ) (b : Block) (start new : Painted) → b ≡ whole n → start ≡ record { level = n; colours = [] }
-    → Adds start.level f (code_to b) start new → Adds n f (4 ^ n) (record { level = n; colours = [] }) new
+    → AddsColours start.level f (code_to b) start new → AddsColours n f (4 ^ n) (record { level = n; colours = [] }) new
 all_added n f b start new is none a =
-    Adds-whole n n f b start new refl is none (subst (λ (k : ℕ). Adds k f (code_to b) start new) (ap (λ (m : Painted). m.level) none) a)
+    Adds-whole n n f b start new refl is none (subst (λ (k : ℕ). AddsColours k f (code_to b) start new) (ap (λ (m : Painted). m.level) none) a)
 
 pub grid_from_corner : (n : ℕ) (g : Grid) → length g ≡ side n * side n → grid_of n (from_corner n g (record { x = 0; y = 0 })) ≡ g
 grid_from_corner n g long =

@@ -12,7 +12,7 @@ use Rattle.quilt_loc.specs.Codes.{code_from, code_to}
 use Rattle.quilt_loc.proofs.Intervals.{origin_code}
 use Rattle.quilt_blocks.proofs.Squares.{code_to-whole}
 use Rattle.quilt_raster.specs.Painting.{IsIn, place_of, ArePainted}
-use Rattle.quilt_raster.specs.Showing.{digits_of, row_line, written_in}
+use Rattle.quilt_raster.specs.Showing.{colour_digits, window_row, written_in}
 use Rattle.quilt_raster.proofs.Points.{below_more}
 use Rattle.quilt_raster.proofs.Written.{colour_at-written}
 
@@ -46,24 +46,24 @@ below_same f g (suc k) same =
 -- a row as its cells have it
 pub row_painted : (f n : ℕ) (g : Grid) (w : Window) (cells : List ℕ) (dy : ℕ) → dy < w.h
     → ((p : Pixel) → IsIn w p → get_or cells (place_of w p) 0 ≡ colour_at n g p)
-    → flat_map (λ dx. digits_of f (written_in f (get_or cells (dy * w.w + dx) 0))) (below w.w) ≡ row_line f n (map (written_in f) g) w dy
-unfolding row_line
+    → flat_map (λ dx. colour_digits f (written_in f (get_or cells (dy * w.w + dx) 0))) (below w.w) ≡ window_row f n (map (written_in f) g) w dy
+unfolding window_row
 row_painted f n g w cells dy lt painted =
-    below_same (λ dx. digits_of f (written_in f (get_or cells (dy * w.w + dx) 0)))
-    (λ dx. digits_of f (colour_at n (map (written_in f) g) (record { x = w.x + dx; y = w.y + dy }))) w.w
+    below_same (λ dx. colour_digits f (written_in f (get_or cells (dy * w.w + dx) 0)))
+    (λ dx. colour_digits f (colour_at n (map (written_in f) g) (record { x = w.x + dx; y = w.y + dy }))) w.w
     (λ dx in_row.
     let p : Pixel = record { x = w.x + dx; y = w.y + dy } in
     let row : w.y + dy - w.y ≡ dy = omega arith in
     let column : w.x + dx - w.x ≡ dx = omega arith in
     let at : place_of w p ≡ dy * w.w + dx = ap₂ (λ a b. a * w.w + b) row column in
     let held : IsIn w p = record { left = omega arith; right = omega arith; top = omega arith; bottom = omega arith } in
-    ap (λ c. digits_of f (written_in f c)) (ap (λ k. get_or cells k 0) (sym at) ∙ painted p held)
-    ∙ ap (digits_of f) (sym (colour_at-written f n g p)))
+    ap (λ c. colour_digits f (written_in f c)) (ap (λ k. get_or cells k 0) (sym at) ∙ painted p held)
+    ∙ ap (colour_digits f) (sym (colour_at-written f n g p)))
 
 -- a row of a window that stands in another
-pub row_within : (f n : ℕ) (g : Grid) (s w : Window) (i j : ℕ) → s.x ≡ w.x → s.w ≡ w.w → s.y + i ≡ w.y + j → row_line f n g s i ≡ row_line f n g w j
-unfolding row_line
-row_within f n g s w i j ex ew ey = λ k. flat_map (λ dx. digits_of f (colour_at n g (record { x = ex k + dx; y = ey k }))) (below (ew k))
+pub row_within : (f n : ℕ) (g : Grid) (s w : Window) (i j : ℕ) → s.x ≡ w.x → s.w ≡ w.w → s.y + i ≡ w.y + j → window_row f n g s i ≡ window_row f n g w j
+unfolding window_row
+row_within f n g s w i j ex ew ey = λ k. flat_map (λ dx. colour_digits f (colour_at n g (record { x = ex k + dx; y = ey k }))) (below (ew k))
 
 -- rows behind others
 pub rows_joined : (f g : ℕ → List ℕ) (a k : ℕ) → ((i : ℕ) → i < k → g i ≡ f (a + i))

@@ -7,7 +7,7 @@ use Rattle.std.proofs.lemmas.List.Elements.{All-head, All-tail}
 use Rattle.quilt_types.specs.declared.plane.Pixel.{Pixel}
 use Rattle.quilt_types.specs.Plane.{side}
 use Rattle.quilt_types.specs.Layers.{Grid, colour_at, colours}
-use Rattle.quilt_raster.specs.Showing.{hex, digits_of, written_in}
+use Rattle.quilt_raster.specs.Showing.{digit_of_colour, colour_digits, written_in}
 
 -- the background is written as it is
 pub written_in-zero : (f : ℕ) → written_in f 0 ≡ 0
@@ -30,13 +30,13 @@ map-written f (c ∷ g) h =
     ap₂ ◌∷◌ (written_in-small f c (All-head (λ c. c < colours f) c g h)) (map-written f g (All-tail (λ c. c < colours f) c g h))
 
 -- the digits of a colour in format 1
-pub two_digits : (f c : ℕ) → f ≡ 1 → digits_of f (written_in f c) ≡ hex (c % 256 / 16) ∷ hex (c % 256 % 16) ∷ []
-unfolding digits_of written_in
-two_digits f c is = ap (λ k. digits_of k (written_in k c)) is
+pub two_digits : (f c : ℕ) → f ≡ 1 → colour_digits f (written_in f c) ≡ digit_of_colour (c % 256 / 16) ∷ digit_of_colour (c % 256 % 16) ∷ []
+unfolding colour_digits written_in
+two_digits f c is = ap (λ k. colour_digits k (written_in k c)) is
 
 -- and in another
-pub four_digits : (f c : ℕ) → f ≢ 1 → digits_of f (written_in f c) ≡ hex (c / 4096) ∷ hex (c / 256 % 16) ∷ hex (c / 16 % 16) ∷ hex (c % 16) ∷ []
-unfolding digits_of written_in
+pub four_digits : (f c : ℕ) → f ≢ 1 → colour_digits f (written_in f c) ≡ digit_of_colour (c / 4096) ∷ digit_of_colour (c / 256 % 16) ∷ digit_of_colour (c / 16 % 16) ∷ digit_of_colour (c % 16) ∷ []
+unfolding colour_digits written_in
 four_digits f c is =
-    let four : ℕ → List ℕ = λ d. hex (d / 4096) ∷ hex (d / 256 % 16) ∷ hex (d / 16 % 16) ∷ hex (d % 16) ∷ [] in
-    ap (λ b. let d = cond b (c % 256) c in cond b (hex (d / 16) ∷ hex (d % 16) ∷ []) (four d)) (ne_eqb f 1 is)
+    let four : ℕ → List ℕ = λ d. digit_of_colour (d / 4096) ∷ digit_of_colour (d / 256 % 16) ∷ digit_of_colour (d / 16 % 16) ∷ digit_of_colour (d % 16) ∷ [] in
+    ap (λ b. let d = cond b (c % 256) c in cond b (digit_of_colour (d / 16) ∷ digit_of_colour (d % 16) ∷ []) (four d)) (ne_eqb f 1 is)

@@ -4,9 +4,9 @@ use Rattle.quilt_types.specs.declared.plane.Pixel.{Pixel}
 use Rattle.quilt_types.specs.Layers.{Grid, colour_at}
 
 -- the colours that these bytes are, two each, the high one first
-unfoldable pub colours_of_bytes : List ℕ → List ℕ
-colours_of_bytes (high ∷ low ∷ bytes) = (256 * high + low) ∷ colours_of_bytes bytes
-colours_of_bytes bytes = []
+unfoldable pub cell_colours : List ℕ → List ℕ
+cell_colours (high ∷ low ∷ bytes) = (256 * high + low) ∷ cell_colours bytes
+cell_colours bytes = []
 
 -- the colour of a pixel of a square that lies in a grid with its upper left pixel at the corner
 abbrev pub from_corner : ℕ → Grid → Pixel → Pixel → ℕ

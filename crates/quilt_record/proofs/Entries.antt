@@ -9,7 +9,7 @@ use Rattle.std.specs.Cmp.Lexicographic.{nat_list_cmp_total}
 use Rattle.std.specs.FinMap.{slice_cmp-IsAntisymmetric, nat_cmp-IsAntisymmetric}
 use Rattle.std.proofs.lemmas.Bool.{ltb-false}
 use Rattle.quilt_record.specs.declared.entry.Entry.{Entry}
-use Rattle.quilt_record.specs.Catalogs.{AreInOrder, IsCatalog, name_cmp, with_entry}
+use Rattle.quilt_record.specs.Catalogs.{NamesAscend, IsCatalog, name_cmp, with_entry}
 
 and_parts : (a b : Bool) → a && b ≡ true → (a ≡ true) × (b ≡ true)
 and_parts true b h = (refl, h)
@@ -69,11 +69,11 @@ all_with p e (f ∷ es) h g = by_case (is_lt (name_cmp e.name f.name)) (all_with
     by_case true k = and_both (p e) (list_all p (f ∷ es)) h g
     by_case false k = and_both (p f) (list_all p (with_entry e es)) (and_parts (p f) (list_all p es) g).0 k
 
-order_with : (e : Entry) (es : List Entry) → AreInOrder es → All (λ f. f.name ≢ e.name) es → AreInOrder (with_entry e es)
+order_with : (e : Entry) (es : List Entry) → NamesAscend es → All (λ f. f.name ≢ e.name) es → NamesAscend (with_entry e es)
 order_with e [] o d = (refl, tt)
 order_with e (f ∷ es) o d = by_case (is_lt (name_cmp e.name f.name)) refl (order_with e es o.1 (λ k g lt. d (suc k) g (omega (arith, lt))))
   where
-    by_case : (b : Bool) → is_lt (name_cmp e.name f.name) ≡ b → AreInOrder (with_entry e es) → AreInOrder (if b then e ∷ f ∷ es else f ∷ with_entry e es)
+    by_case : (b : Bool) → is_lt (name_cmp e.name f.name) ≡ b → NamesAscend (with_entry e es) → NamesAscend (if b then e ∷ f ∷ es else f ∷ with_entry e es)
     by_case true h k = (
       and_both (is_lt (name_cmp e.name f.name)) (list_all (λ g. is_lt (name_cmp e.name g.name)) es) h
           (all_follow (λ g. is_lt (name_cmp f.name g.name)) (λ g. is_lt (name_cmp e.name g.name)) (λ g t. lt_lt e.name f.name g.name h t) es o.0),
@@ -92,7 +92,7 @@ length_with e (f ∷ es) = by_case (is_lt (name_cmp e.name f.name)) (length_with
 pub catalog_with : (e : Entry) (es : List Entry) → IsCatalog es → length es < 255 → All (λ f. f.name ≢ e.name) es → IsCatalog (with_entry e es)
 catalog_with e es c room d = record { few = omega (arith, length_with e es, room); order = order_with e es c.order d }
 
-order_without : (es : List Entry) (i : ℕ) → AreInOrder es → AreInOrder (remove es i)
+order_without : (es : List Entry) (i : ℕ) → NamesAscend es → NamesAscend (remove es i)
 order_without [] zero o = tt
 order_without [] (suc i) o = tt
 order_without (e ∷ es) zero o = o.1

@@ -14,7 +14,7 @@ use Rattle.std.proofs.lemmas.Bool.{leb-true}
 use Rattle.quilt_types.specs.declared.plane.Kind.{Kind}
 use Rattle.quilt_record.specs.declared.entry.Entry.{Entry}
 use Rattle.quilt_record.specs.declared.record.Record.{Record}
-use Rattle.quilt_record.specs.Listing.{IsEntryOf, number_of_kind, number_beside, kind_fact}
+use Rattle.quilt_record.specs.Listing.{IsEntryOf, number_of_kind, number_beside, fact_of_kind}
 use Rattle.quilt_types.specs.Bytes.{filled}
 use Rattle.quilt_record.specs.Records.{kind_number, record_of}
 
@@ -149,10 +149,10 @@ module _ (form : ℕ) (r : Record) (e : Entry) (f : IsEntryOf form r e) where
   entry_name = ap (λ (s : Record). take 12 s.value) (f.written 0 0) ∙ first_twelve (filled 12 e.name) behind (name_long e.name f.named)
 
   pub entry_again : (made : Record) (number : ℕ) (name : List ℕ) (kind : Kind) → number ≡ e.number → name ≡ e.name → kind ≡ e.kind
-      → made ≡ record_of 0 0 name number (kind_fact kind) → made ≡ r
+      → made ≡ record_of 0 0 name number (fact_of_kind kind) → made ≡ r
   entry_again made number name kind same_number same_name same_kind g =
-      g ∙ ap (λ m. record_of 0 0 name m (kind_fact kind)) same_number ∙ ap (λ l. record_of 0 0 l e.number (kind_fact kind)) same_name
-      ∙ ap (λ k. record_of 0 0 e.name e.number (kind_fact k)) same_kind ∙ sym (f.written 0 0)
+      g ∙ ap (λ m. record_of 0 0 name m (fact_of_kind kind)) same_number ∙ ap (λ l. record_of 0 0 l e.number (fact_of_kind kind)) same_name
+      ∙ ap (λ k. record_of 0 0 e.name e.number (fact_of_kind k)) same_kind ∙ sym (f.written 0 0)
 
 -- a name is known by its bytes with the zeros
 pub name_alone : (a b : List ℕ) → is_name a ≡ true → is_name b ≡ true → filled 12 a ≡ filled 12 b → a ≡ b

@@ -11,14 +11,14 @@ abbrev pub name_cmp : List ℕ → List ℕ → Ordering
 name_cmp s t = slice_cmp nat_cmp s t
 
 -- each name is before all that follow, so no two are the same
-abbrev pub AreInOrder : List Entry → Type 0
-AreInOrder [] = Unit {0}
-AreInOrder (e ∷ es) = (list_all (λ f. is_lt (name_cmp e.name f.name)) es ≡ true) × AreInOrder es
+abbrev pub NamesAscend : List Entry → Type 0
+NamesAscend [] = Unit {0}
+NamesAscend (e ∷ es) = (list_all (λ f. is_lt (name_cmp e.name f.name)) es ≡ true) × NamesAscend es
 
 -- the layers of a map as a list of entries: at most 255, in the order of their names, no name twice
 pub record IsCatalog (es : List Entry) : Type 0 where
   pub few : length es ≤ 255
-  pub order : AreInOrder es
+  pub order : NamesAscend es
 
 -- with an entry before the first that has a greater name
 abbrev pub with_entry : Entry → List Entry → List Entry

@@ -10,14 +10,14 @@ pub record KeyFits (k : Key) : Type 0 where
   pub item : k.item < 2 ^ 32
 
 -- and the value has 16 bytes
-pub record IsFitting (r : Record) : Type 0 where
+pub record RecordFits (r : Record) : Type 0 where
   pub key : KeyFits r.key
   pub value : length r.value ≡ 16
 
 -- the numbers of each record fit their bytes, and its value has 16 bytes
 abbrev pub AllFit : List Record → Type 0
 AllFit [] = Unit {0}
-AllFit (r ∷ rs) = IsFitting r × AllFit rs
+AllFit (r ∷ rs) = RecordFits r × AllFit rs
 
 -- the numbers of each key fit their bytes
 abbrev pub KeysFit : List Key → Type 0

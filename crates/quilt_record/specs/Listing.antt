@@ -21,8 +21,8 @@ number_beside (Points bucket) = bucket
 number_beside (Lines threshold) = threshold
 
 -- the fact that a layer is of this kind
-abbrev pub kind_fact : Kind → Fact
-kind_fact kind = IsOfKind (number_of_kind kind) (number_beside kind)
+abbrev pub fact_of_kind : Kind → Fact
+fact_of_kind kind = IsOfKind (number_of_kind kind) (number_beside kind)
 
 -- in a format: a capacity is 1 in format 1 and else 1 to 16, and a threshold is 1 to 32
 abbrev pub KindFits : ℕ → Kind → Type 0
@@ -36,4 +36,4 @@ pub record IsEntryOf (f : ℕ) (r : Record) (e : Entry) : Type 0 where
   pub most : e.number ≤ 255
   pub named : is_name e.name ≡ true
   pub kind : KindFits f e.kind
-  pub written : (n capacity : ℕ) → r ≡ record_of n capacity e.name e.number (kind_fact e.kind)
+  pub written : (n capacity : ℕ) → r ≡ record_of n capacity e.name e.number (fact_of_kind e.kind)

@@ -23,7 +23,7 @@ use Rattle.quilt_blocks.proofs.Leaves.{uniform_down}
 use Rattle.quilt_blocks.proofs.Listed.{held_in}
 use Rattle.quilt_edits.proofs.Lists.{take_next}
 use Rattle.quilt_region.specs.Windows.{IsLeafWith, IsCutOut, leaves_within}
-use Rattle.quilt_region.specs.Covers.{AgreesIn, meets, start_of, starts, cover_of, IsSideOver, block_of, cover_colour, cost_in}
+use Rattle.quilt_region.specs.Covers.{AgreesIn, window_meets, start_of, starts, cover_of, IsSideOver, block_of, cover_colour, cost_in}
 use Rattle.quilt_region.proofs.Beside.{true_false, held_not}
 use Rattle.quilt_region.proofs.GridsFit.{cover_fits}
 use Rattle.quilt_region.proofs.Nearby.{window_in, power_le}
@@ -35,7 +35,7 @@ pub record Meets (w : Window) (b : Block) : Type 0 where
   pub top : b.y < w.y + w.h
   pub bottom : w.y < b.y + b.side
 
-pub meets_from : (w : Window) (b : Block) → meets w b ≡ true → Meets w b
+pub meets_from : (w : Window) (b : Block) → window_meets w b ≡ true → Meets w b
 meets_from w b t =
     let p = nat_lt b.x (w.x + w.w) in
     let q = nat_lt w.x (b.x + b.side) in
@@ -46,7 +46,7 @@ meets_from w b t =
     let first = and_parts p q third.0 in
     record { left = ltb-true _ _ first.0; right = ltb-true _ _ first.1; top = ltb-true _ _ third.1; bottom = ltb-true _ _ last.1 }
 
-pub meets_at : (w : Window) (b : Block) → Meets w b → meets w b ≡ true
+pub meets_at : (w : Window) (b : Block) → Meets w b → window_meets w b ≡ true
 meets_at w b m = and_from _ _ (and_from _ _ (and_from _ _ (lt-ltb _ _ m.left) (lt-ltb _ _ m.right)) (lt-ltb _ _ m.top)) (lt-ltb _ _ m.bottom)
 
 -- a larger block meets it too
@@ -85,7 +85,7 @@ meets_pixel w b p t held =
 -- ---- the colours
 module _ (n : ℕ) (g : Grid) (s : ℕ) (w : Window) where
   -- in a block that does not meet the window
-  pub beside_cover : (b : Block) (p : Pixel) → IsBlock n b → (k : ℕ) × (s ≡ 2 ^ k) → s ≤ b.side → meets w b ≡ false → Holds b p → cover_colour n g s w p ≡ 0
+  pub beside_cover : (b : Block) (p : Pixel) → IsBlock n b → (k : ℕ) × (s ≡ 2 ^ k) → s ≤ b.side → window_meets w b ≡ false → Holds b p → cover_colour n g s w p ≡ 0
   beside_cover b p hb power wide apart held =
       let k = power.0 in
       let low = power_le k hb.level hb.size (let e = power.1 in let z : 2 ^ k ≤ b.side = omega arith in z) in
@@ -96,14 +96,14 @@ module _ (n : ℕ) (g : Grid) (s : ℕ) (w : Window) where
       let e = power.1 in
       let less : 2 ^ k ≤ b.side = omega arith in
       let within : Within small b = nested n small b p (IsBlock-around n k p (omega arith) sq.0 sq.1) hb less here held in
-      let none : meets w small ≡ false = false_from_ne_true (meets w small) (λ t. true_false (sym (meets_at w b (meets_more w small b within (meets_from w small t))) ∙ apart)) in
-      ap (λ (t : Bool). if t then colour_at n g p else 0) (ap (λ (z : ℕ). meets w (block_of z p)) e ∙ none)
+      let none : window_meets w small ≡ false = false_from_ne_true (window_meets w small) (λ t. true_false (sym (meets_at w b (meets_more w small b within (meets_from w small t))) ∙ apart)) in
+      ap (λ (t : Bool). if t then colour_at n g p else 0) (ap (λ (z : ℕ). window_meets w (block_of z p)) e ∙ none)
 
   -- in one of the blocks that do
-  pub met_cover : (b : Block) (p : Pixel) → IsBlock n b → b.side ≡ s → meets w b ≡ true → Holds b p → cover_colour n g s w p ≡ colour_at n g p
+  pub met_cover : (b : Block) (p : Pixel) → IsBlock n b → b.side ≡ s → window_meets w b ≡ true → Holds b p → cover_colour n g s w p ≡ colour_at n g p
   met_cover b p hb size met held =
       let same : block_of s p ≡ b = ap (λ (z : ℕ). block_of z p) (sym size) ∙ around_is n b p hb held in
-      ap (λ (t : Bool). if t then colour_at n g p else 0) (ap (meets w) same ∙ met)
+      ap (λ (t : Bool). if t then colour_at n g p else 0) (ap (window_meets w) same ∙ met)
 
   -- at the window's pixels
   pub window_cover : (p : Pixel) → (k : ℕ) × (s ≡ 2 ^ k) → in_window w p ≡ true → cover_colour n g s w p ≡ colour_at n g p
@@ -111,7 +111,7 @@ module _ (n : ℕ) (g : Grid) (s : ℕ) (w : Window) where
       let k = power.0 in
       let e = power.1 in
       let met = meets_at w (block_of (2 ^ k) p) (meets_pixel w (block_of (2 ^ k) p) p t (Holds-around k p)) in
-      ap (λ (t : Bool). if t then colour_at n g p else 0) (ap (λ (z : ℕ). meets w (block_of z p)) e ∙ met)
+      ap (λ (t : Bool). if t then colour_at n g p else 0) (ap (λ (z : ℕ). window_meets w (block_of z p)) e ∙ met)
 
 -- a pixel of the window is one of the square
 in_square : (n : ℕ) (w : Window) (p : Pixel) → is_window n w ≡ true → in_window w p ≡ true → (p.x < side n) × (p.y < side n)
@@ -187,7 +187,7 @@ in_starts s first last at pos on low high near =
     chosen : (t : Bool) → eqb (start_of s first) (start_of s last) ≡ t → starts s first last ≡ (if t then one else two)
     chosen t e = ap (λ (u : Bool). if u then one else two) e
 
-pub in_cover : (n s : ℕ) (w : Window) (b : Block) → is_window n w ≡ true → w.w ≤ s → w.h ≤ s → IsBlock n b → b.side ≡ s → meets w b ≡ true → Contains (cover_of s w) b
+pub in_cover : (n s : ℕ) (w : Window) (b : Block) → is_window n w ≡ true → w.w ≤ s → w.h ≤ s → IsBlock n b → b.side ≡ s → window_meets w b ≡ true → Contains (cover_of s w) b
 unfolding cover_of
 in_cover n s w b t wide high hb size met =
     let i = window_in n w t in

@@ -10,8 +10,8 @@ use Rattle.quilt_record.specs.declared.edits.Edits.{Edits}
 use Rattle.quilt_blocks.specs.Cutting.{leaves_by_code}
 use Rattle.quilt_blocks.proofs.Cuts.{leaf_is, leaves_members}
 use Rattle.quilt_spell.specs.OfLayer.{leaf_record}
-use Rattle.quilt_region.specs.Regions.{SpellsRegion}
-use Rattle.quilt_region.specs.Plans.{LeadsTo, IsEdited, is_leaf, records_without}
+use Rattle.quilt_region.specs.Regions.{SpellsGrid}
+use Rattle.quilt_region.specs.Plans.{ReplacesGrid, IsEditedBy, is_leaf, records_without}
 use Rattle.quilt_region.proofs.Records.{leaf_alone}
 use Rattle.quilt_region.proofs.Leaves.{is_leaf_from, is_leaf_at, only_leaf, only_test}
 
@@ -34,7 +34,7 @@ module _ (n layer : ℕ) (g h : Grid) (le : n ≤ 12) where
       let same = leaf_alone n layer o.0 e le (o.1).maximal.block (leaf_is n h e c).maximal.block o.4 in
       true_false (sym (is_leaf_at n h e c) ∙ ap (is_leaf n h) (sym same) ∙ o.3)
 
-  module _ (edits : Edits) (rs now : List Record) (leads : LeadsTo n layer g h edits) (spells : SpellsRegion rs layer n g) (is : IsEdited rs edits now) where
+  module _ (edits : Edits) (rs now : List Record) (leads : ReplacesGrid n layer g h edits) (spells : SpellsGrid rs layer n g) (is : IsEditedBy rs edits now) where
     each_there : (e : Block × ℕ) → Contains (leaves n h) e → Contains now (leaf_record n layer e)
     each_there e c =
         (is (leaf_record n layer e)).1
@@ -59,5 +59,5 @@ module _ (n layer : ℕ) (g h : Grid) (le : n ≤ 12) where
         (λ new. let o = only_leaf n layer h g r (subst (λ (s : List Record). Contains s r) leads.add new) in leaf_of_new r o.0 o.2 o.4)
         ((is r).0 c)
 
-    pub edited_spells : IsGrid 2 n h → SpellsRegion now layer n h
+    pub edited_spells : IsGrid 2 n h → SpellsGrid now layer n h
     edited_spells grid = record { grid = grid; each = each_there; only = only_those }

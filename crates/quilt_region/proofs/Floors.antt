@@ -20,7 +20,7 @@ use Rattle.quilt_record.specs.declared.key.Key.{Key}
 use Rattle.quilt_record.specs.declared.record.Record.{Record}
 use Rattle.quilt_record.specs.Records.{key_cmp}
 use Rattle.quilt_blocks.specs.declared.leaf.Leaf.{Leaf}
-use Rattle.quilt_blocks.specs.Cutting.{leaves_by_code, pair_of}
+use Rattle.quilt_blocks.specs.Cutting.{leaves_by_code, leaf_pair}
 use Rattle.quilt_blocks.specs.Listing.{Follows}
 use Rattle.quilt_blocks.proofs.Chains.{member_pos, Follows-member}
 use Rattle.quilt_blocks.proofs.Cuts.{leaf_is, leaves_run, leaves_members}
@@ -33,7 +33,7 @@ use Rattle.quilt_record.proofs.Orders.{lt_le, not_le}
 use Rattle.std.specs.Cmp.{tied_itself}
 use Rattle.std.proofs.lemmas.Option.{none-some, same_Some}
 use Rattle.quilt_spell.specs.OfLayer.{leaf_record}
-use Rattle.quilt_region.specs.Regions.{pixel_key, SpellsRegion, HasRegion}
+use Rattle.quilt_region.specs.Regions.{pixel_key, SpellsGrid, HasRegion}
 use Rattle.quilt_spell.specs.Written.{by_key}
 use Rattle.quilt_spell.proofs.Written.{by_key_total}
 use Rattle.quilt_edits.proofs.Keys.{Less≢Equal, le_layer, le_code, less_code, less_depth}
@@ -109,7 +109,7 @@ same_member n at (x ∷ xs) d e h cd ce low high =
     (λ me. same_member n rest xs d e h.2 md me low high) (Contains-cons_cases x xs e ce))
     (Contains-cons_cases x xs d cd)
 
-module _ (rs : List Record) (layer n : ℕ) (g : Grid) (le : n ≤ 12) (up : Rises by_key rs) (spells : SpellsRegion rs layer n g) where
+module _ (rs : List Record) (layer n : ℕ) (g : Grid) (le : n ≤ 12) (up : Rises by_key rs) (spells : SpellsGrid rs layer n g) where
   module _ (e : Block × ℕ) (member : Contains (leaves n g) e) (k : Key) (layer_is : k.layer ≡ layer) (part_is : k.part ≡ 1)
       (depth_is_most : k.depth ≡ 255) (from : code_from e.0 ≤ k.code) (to : k.code < code_to e.0) where
     block : IsBlock n e.0
@@ -167,7 +167,7 @@ floor_found told t layer n g p k found le hx hy key is h =
 pub record IsRead (n : ℕ) (g : Grid) (p : Pixel) (read : Option Leaf) : Type 0 where
   pub leaf : Leaf
   pub is : read ≡ Some leaf
-  pub member : Contains (leaves n g) (pair_of leaf)
+  pub member : Contains (leaves n g) (leaf_pair leaf)
   pub holds : in_block leaf.block p ≡ true
   pub colour : leaf.colour.0 ≡ colour_at n g p
 

@@ -14,7 +14,7 @@ use Rattle.quilt_types.specs.Polygons.{filled_rings, is_inside}
 use Rattle.quilt_loc.proofs.Members.{Contains-here, Contains-there, Contains-map_from}
 use Rattle.quilt_loc.proofs.Rows.{length-grid_of}
 use Rattle.quilt_spell.proofs.Spelling.{all_from}
-use Rattle.quilt_region.specs.Covers.{meets, block_of, cover_colour}
+use Rattle.quilt_region.specs.Covers.{window_meets, block_of, cover_colour}
 use Rattle.quilt_region.specs.Laws.{FitsLaw}
 
 -- how many colours a format has
@@ -73,7 +73,7 @@ module _ (form n : ℕ) where
 pub cover_fits : (form n : ℕ) (g : Grid) (s : ℕ) (w : Window) → IsGrid form n g → IsGrid form n (grid_of n (cover_colour n g s w))
 cover_fits form n g s w h =
     by_pixels form n (cover_colour n g s w)
-    (λ p. either (colours form) (meets w (block_of s p)) (colour_at n g p) 0 (fits_at form n g h p) (zero_fits form n))
+    (λ p. either (colours form) (window_meets w (block_of s p)) (colour_at n g p) 0 (fits_at form n g h p) (zero_fits form n))
 
 pub fits_law : FitsLaw
 unfolding filled_rings

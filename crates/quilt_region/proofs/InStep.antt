@@ -12,9 +12,9 @@ use Rattle.quilt_loc.proofs.Intervals.{origin_code}
 use Rattle.quilt_loc.proofs.CodeLaws.{code_below}
 use Rattle.quilt_loc.proofs.Quartered.{IsBlock-whole, side_le}
 use Rattle.quilt_record.specs.declared.record.Record.{Record}
-use Rattle.quilt_blocks.specs.Cutting.{leaves_by_code, pair_of}
+use Rattle.quilt_blocks.specs.Cutting.{leaves_by_code, leaf_pair}
 use Rattle.quilt_blocks.specs.declared.leaf.Leaf.{Leaf}
-use Rattle.quilt_blocks.specs.Walk.{Walk, IsLeafAt}
+use Rattle.quilt_blocks.specs.Walk.{LeafWalk, IsLeafAt}
 use Rattle.quilt_blocks.proofs.Chains.{member_pos}
 use Rattle.quilt_blocks.proofs.Inside.{smaller_inside}
 use Rattle.quilt_blocks.proofs.Paired.{zip_none, at_some}
@@ -82,21 +82,21 @@ none_so_far n layer g other records rest e f = none_yet n layer g other records 
 
 -- ---- two walks that go on together
 -- a walk that has passed a leaf
-pub record HasPassed (n : ℕ) (g : Grid) (old new : Walk) (l : Leaf) : Type 0 where
+pub record HasPassed (n : ℕ) (g : Grid) (old new : LeafWalk) (l : Leaf) : Type 0 where
   pub level : new.level ≡ n
   pub grid : new.grid ≡ g
-  pub rest : old.rest ≡ pair_of l ∷ new.rest
-  pub leaf : IsLeafAt n g old.at (pair_of l)
+  pub rest : old.rest ≡ leaf_pair l ∷ new.rest
+  pub leaf : IsLeafAt n g old.at (leaf_pair l)
   pub at : new.at ≡ old.at + l.block.side * l.block.side
   pub more : old.at < new.at
   pub room : old.at < 4 ^ 12
 
-pub has_passed : (n : ℕ) (g : Grid) (old new : Walk) (o : Option Leaf) (l : Leaf) → n ≤ 12 → o ≡ Some l → old.level ≡ n → old.grid ≡ g
-    → IfSome o (λ l. old.rest ≡ pair_of l ∷ new.rest) → IfSome o (λ l. IsLeafAt old.level old.grid old.at (pair_of l))
+pub has_passed : (n : ℕ) (g : Grid) (old new : LeafWalk) (o : Option Leaf) (l : Leaf) → n ≤ 12 → o ≡ Some l → old.level ≡ n → old.grid ≡ g
+    → IfSome o (λ l. old.rest ≡ leaf_pair l ∷ new.rest) → IfSome o (λ l. IsLeafAt old.level old.grid old.at (leaf_pair l))
     → IfSome o (λ l. new.at ≡ old.at + l.block.side * l.block.side)
     → new.level ≡ old.level → new.grid ≡ old.grid → HasPassed n g old new l
 has_passed n g old new o l le e el eg first leaf at level grid =
-    let here = at_same old.level n old.grid g old.at (pair_of l) el eg (at_some (λ l. IsLeafAt old.level old.grid old.at (pair_of l)) o l e leaf) in
+    let here = at_same old.level n old.grid g old.at (leaf_pair l) el eg (at_some (λ l. IsLeafAt old.level old.grid old.at (leaf_pair l)) o l e leaf) in
     let next = at_some (λ l. new.at ≡ old.at + l.block.side * l.block.side) o l e at in
     let wide = member_pos n l.block here.block in
     let from = here.from in
@@ -105,7 +105,7 @@ has_passed n g old new o l le e el eg first leaf at level grid =
     record {
       level = level ∙ el;
       grid = grid ∙ eg;
-      rest = at_some (λ l. old.rest ≡ pair_of l ∷ new.rest) o l e first;
+      rest = at_some (λ l. old.rest ≡ leaf_pair l ∷ new.rest) o l e first;
       leaf = here;
       at = next;
       more = omega arith;
@@ -113,7 +113,7 @@ has_passed n g old new o l le e el eg first leaf at level grid =
     }
 
 -- both walks have come to their end, where one has
-pub both_end : (n : ℕ) (a b : Walk) (p q : Option Leaf) → option_zip p q ≡ None → a.level ≡ n → b.level ≡ n → a.at ≡ b.at
+pub both_end : (n : ℕ) (a b : LeafWalk) (p q : Option Leaf) → option_zip p q ≡ None → a.level ≡ n → b.level ≡ n → a.at ≡ b.at
     → IsNone p ↔ (a.rest ≡ []) → IsNone p ↔ (a.at ≡ 4 ^ a.level) → IsNone q ↔ (b.rest ≡ []) → IsNone q ↔ (b.at ≡ 4 ^ b.level) → (a.rest ≡ []) × (b.rest ≡ [])
 both_end n a b p q z ea eb place end_a whole_a end_b whole_b =
     let pa = ap (λ (k : ℕ). 4 ^ k) ea in
@@ -142,7 +142,7 @@ to_true : (t : Bool) → false ≡ not t → t ≡ true
 to_true true h = refl
 to_true false h = cc
 
-pub leaves_are : (a b : Leaf) → same_leaves a b ≡ true → pair_of a ≡ pair_of b
+pub leaves_are : (a b : Leaf) → same_leaves a b ≡ true → leaf_pair a ≡ leaf_pair b
 leaves_are a b h =
     let both = and_parts (eqb a.block.y b.block.y && (eqb a.block.x b.block.x && eqb a.block.side b.block.side)) (eqb a.colour.0 b.colour.0) h in
     let block = and_parts (eqb a.block.y b.block.y) (eqb a.block.x b.block.x && eqb a.block.side b.block.side) both.0 in
@@ -153,10 +153,10 @@ leaves_are a b h =
     let colour = eqb-true a.colour.0 b.colour.0 both.1 in
     λ i. (record { y = y i; x = x i; side = size i }, colour i)
 
-pub leaves_equal : (a b : Leaf) → false ≡ not (same_leaves a b) → pair_of a ≡ pair_of b
+pub leaves_equal : (a b : Leaf) → false ≡ not (same_leaves a b) → leaf_pair a ≡ leaf_pair b
 leaves_equal a b h = leaves_are a b (to_true (same_leaves a b) h)
 
-pub leaves_test : (a b : Leaf) → pair_of a ≡ pair_of b → same_leaves a b ≡ true
+pub leaves_test : (a b : Leaf) → leaf_pair a ≡ leaf_pair b → same_leaves a b ≡ true
 leaves_test a b e =
     let y = eq-eqb a.block.y b.block.y (ap (λ (d : Block × ℕ). d.0.y) e) in
     let x = eq-eqb a.block.x b.block.x (ap (λ (d : Block × ℕ). d.0.x) e) in
@@ -164,38 +164,38 @@ leaves_test a b e =
     let colour = eq-eqb a.colour.0 b.colour.0 (ap (λ (d : Block × ℕ). d.1) e) in
     and_from _ _ (and_from _ _ y (and_from _ _ x size)) colour
 
-pub leaves_differ : (a b : Leaf) → true ≡ not (same_leaves a b) → pair_of a ≡ pair_of b → ⊥
+pub leaves_differ : (a b : Leaf) → true ≡ not (same_leaves a b) → leaf_pair a ≡ leaf_pair b → ⊥
 leaves_differ a b h e = let no : true ≡ false = h ∙ ap not (leaves_test a b e) in cc
 
-module _ (n : ℕ) (g h : Grid) (le : n ≤ 12) (at : ℕ) (a b : Leaf) (first : IsLeafAt n g at (pair_of a)) (second : IsLeafAt n h at (pair_of b)) where
+module _ (n : ℕ) (g h : Grid) (le : n ≤ 12) (at : ℕ) (a b : Leaf) (first : IsLeafAt n g at (leaf_pair a)) (second : IsLeafAt n h at (leaf_pair b)) where
   -- one leaf is in both
-  pub same_pass : pair_of a ≡ pair_of b → (only_test n h (pair_of a) ≡ false) × (only_test n g (pair_of b) ≡ false)
+  pub same_pass : leaf_pair a ≡ leaf_pair b → (only_test n h (leaf_pair a) ≡ false) × (only_test n g (leaf_pair b) ≡ false)
   same_pass e = (
-    both_have n h (pair_of a) (subst (Contains (leaves n h)) (sym e) second.member),
-    both_have n g (pair_of b)
+    both_have n h (leaf_pair a) (subst (Contains (leaves n h)) (sym e) second.member),
+    both_have n g (leaf_pair b)
         (subst (Contains (leaves n g)) e first.member),
   )
 
-  module _ (differ : pair_of a ≡ pair_of b → ⊥) where
-    pub first_alone : only_test n h (pair_of a) ≡ true
+  module _ (differ : leaf_pair a ≡ leaf_pair b → ⊥) where
+    pub first_alone : only_test n h (leaf_pair a) ≡ true
     first_alone =
         let f = first.from in
         let s = second.from in
         let wide = member_pos n b.block second.block in
-        inside_alone n h (pair_of a) (pair_of b) le second.member (omega arith) (omega arith) differ
+        inside_alone n h (leaf_pair a) (leaf_pair b) le second.member (omega arith) (omega arith) differ
 
-    pub second_alone : only_test n g (pair_of b) ≡ true
+    pub second_alone : only_test n g (leaf_pair b) ≡ true
     second_alone =
         let f = first.from in
         let s = second.from in
         let wide = member_pos n a.block first.block in
-        inside_alone n g (pair_of b) (pair_of a) le first.member (omega arith) (omega arith) (λ e. differ (sym e))
+        inside_alone n g (leaf_pair b) (leaf_pair a) le first.member (omega arith) (omega arith) (λ e. differ (sym e))
 
 -- and so are those that begin within it, not at its first code
-pub within_alone : (n : ℕ) (h : Grid) (at : ℕ) (b : Leaf) → n ≤ 12 → IsLeafAt n h at (pair_of b) → (e : Block × ℕ)
+pub within_alone : (n : ℕ) (h : Grid) (at : ℕ) (b : Leaf) → n ≤ 12 → IsLeafAt n h at (leaf_pair b) → (e : Block × ℕ)
     → code_from b.block < code_from e.0 → code_from e.0 < code_to b.block → only_test n h e ≡ true
 within_alone n h at b le leaf e low high =
-    inside_alone n h e (pair_of b) le leaf.member (omega arith) high (λ same. let z = ap (λ (d : Block × ℕ). code_from d.0) same in absurd (omega arith))
+    inside_alone n h e (leaf_pair b) le leaf.member (omega arith) high (λ same. let z = ap (λ (d : Block × ℕ). code_from d.0) same in absurd (omega arith))
 
 -- the level and the grid go by other names
 pub go_on_at : (k n layer : ℕ) (g h : Grid) (b : Block) (old new : List Record) (before rest : List (Block × ℕ)) → k ≡ n → g ≡ h

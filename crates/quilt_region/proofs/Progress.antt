@@ -18,7 +18,7 @@ use Rattle.quilt_blocks.specs.declared.leaf.Leaf.{Leaf}
 use Rattle.quilt_blocks.specs.Cutting.{leaves_by_code}
 use Rattle.quilt_blocks.specs.Mosaic.{HasColour}
 use Rattle.quilt_blocks.specs.Painting.{grid_by_code}
-use Rattle.quilt_blocks.specs.Walk.{size_of}
+use Rattle.quilt_blocks.specs.Walk.{pixel_count}
 use Rattle.quilt_blocks.proofs.Chains.{size_of-nil, size_of-take_more, Follows-place}
 use Rattle.quilt_blocks.proofs.Cuts.{leaf_is, leaves_run, leaves_members}
 use Rattle.quilt_blocks.proofs.Painting.{Paints, Paints-none, Paints-push, Paints-all}
@@ -27,7 +27,7 @@ use Rattle.quilt_region.specs.Regions.{region_records}
 
 -- the leaves so far, from the first on, are painted
 pub record IsAsFar (n : ℕ) (g : Grid) (i : ℕ) (colours : List ℕ) : Type 0 where
-  pub long : length colours ≡ size_of (take i (leaves_by_code n g))
+  pub long : length colours ≡ pixel_count (take i (leaves_by_code n g))
   pub paints : Paints n (colour_at n g) colours
 
 pub IsAsFar-none : (n : ℕ) (g : Grid) → IsAsFar n g 0 []
@@ -39,8 +39,8 @@ pub record IsNext (n layer : ℕ) (g : Grid) (i : ℕ) (r : Record) : Type 0 whe
   pub is : r ≡ leaf_record n layer leaf
   pub block : IsBlock n leaf.0
   pub colour : HasColour n g leaf.0 leaf.1
-  pub from : code_from leaf.0 ≡ size_of (take i (leaves_by_code n g))
-  pub to : size_of (take (i + 1) (leaves_by_code n g)) ≡ code_to leaf.0
+  pub from : code_from leaf.0 ≡ pixel_count (take i (leaves_by_code n g))
+  pub to : pixel_count (take (i + 1) (leaves_by_code n g)) ≡ code_to leaf.0
 
 pub next_leaf : (n layer : ℕ) (g : Grid) (records : List Record) (i : ℕ) (d : Record) → n ≤ 12 → records ≡ region_records n layer g
     → i < length records → IsNext n layer g i (get_or records i d)
@@ -90,7 +90,7 @@ IsAsFar-full n layer g records i colours le is all far =
     let run = leaves_run n g le in
     let size = run.size in
     let l = far.long in
-    let t = ap size_of (take_all i es (omega arith)) in
+    let t = ap pixel_count (take_all i es (omega arith)) in
     omega arith
 
 pub IsAsFar-grid : (n : ℕ) (g : Grid) (i : ℕ) (colours : List ℕ) → n ≤ 12 → IsGrid 2 n g → length colours ≡ 4 ^ n → IsAsFar n g i colours

@@ -20,7 +20,7 @@ use Rattle.quilt_record.specs.declared.record.Record.{Record}
 use Rattle.quilt_record.specs.Records.{key_cmp}
 use Rattle.quilt_record.specs.Canonical.{IsRecordOf}
 use Rattle.quilt_blocks.specs.Cutting.{leaves_by_code, leaf_cmp}
-use Rattle.quilt_blocks.specs.Walk.{size_of}
+use Rattle.quilt_blocks.specs.Walk.{pixel_count}
 use Rattle.quilt_blocks.specs.Listing.{Follows}
 use Rattle.quilt_blocks.proofs.Chains.{size_of-cons, member_pos}
 use Rattle.quilt_blocks.proofs.Cuts.{leaves_run, leaves_rise, leaves_members}
@@ -28,7 +28,7 @@ use Rattle.quilt_btree.specs.declared.tree.Tree.{Tree}
 use Rattle.quilt_btree.specs.Lists.{is_from_to, range_of}
 use Rattle.quilt_btree.specs.Trees.{IsTree}
 use Rattle.quilt_spell.specs.OfLayer.{leaf_record}
-use Rattle.quilt_region.specs.Regions.{region_records, SpellsRegion, HasRegion}
+use Rattle.quilt_region.specs.Regions.{region_records, SpellsGrid, HasRegion}
 use Rattle.quilt_spell.specs.Written.{by_key}
 use Rattle.quilt_spell.proofs.Written.{by_key_total}
 use Rattle.quilt_edits.proofs.Keys.{le_layer, less_part, less_code}
@@ -77,7 +77,7 @@ leaf_alone n layer d e le hd he same =
     by_bytes a b e f = omega arith
 
 -- how many there are
-many : (n at : ℕ) (es : List (Block × ℕ)) → Follows n at es → length es ≤ size_of es
+many : (n at : ℕ) (es : List (Block × ℕ)) → Follows n at es → length es ≤ pixel_count es
 many n at [] h = omega arith
 many n at (e ∷ es) h =
     let s = size_of-cons e es in
@@ -99,7 +99,7 @@ region_small n layer g le =
     omega arith
 
 -- what a range over the whole layer gives
-module _ (rs : List Record) (layer n : ℕ) (g : Grid) (le : n ≤ 12) (up : Rises by_key rs) (spells : SpellsRegion rs layer n g) where
+module _ (rs : List Record) (layer n : ℕ) (g : Grid) (le : n ≤ 12) (up : Rises by_key rs) (spells : SpellsGrid rs layer n g) where
   -- the record of the layer is that of a leaf
   pub spelled_leaf : (r : Record) → Contains rs r → r.key.layer ≡ layer → (e : Block × ℕ) × Contains (leaves n g) e × (leaf_record n layer e ≡ r)
   spelled_leaf r c is = Contains-map_from (leaf_record n layer) (leaves n g) r (spells.only r c is)

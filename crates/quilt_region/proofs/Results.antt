@@ -5,7 +5,7 @@ use Rattle.quilt_types.specs.Layers.{Grid, IsGrid}
 use Rattle.quilt_record.specs.declared.record.Record.{Record}
 use Rattle.quilt_blocks.specs.Raster.{Raster}
 use Rattle.quilt_btree.specs.declared.tree.Tree.{Tree}
-use Rattle.quilt_store.specs.Stops.{IsSound}
+use Rattle.quilt_store.specs.Stops.{IsNotDamage}
 use Rattle.quilt_region.specs.Regions.{region_records, HasRegion}
 
 module _ (told : Option (List (List ℕ))) (t : Tree) (layer n : ℕ) (items : List Record) (read : (g : Grid) → HasRegion told t layer n g
@@ -15,8 +15,8 @@ module _ (told : Option (List (List ℕ))) (t : Tree) (layer n : ℕ) (items : L
   list_whole (Ok l) f = λ g h. f g h.spelled.grid (read g h)
   list_whole (Err e) f = f
 
-  pub sound_whole : {T : Type 0} (r : Result T Stop) → IfErr r (λ e. (g : Grid) → items ≡ region_records n layer g → IsSound e)
-      → IfErr r (λ e. (g : Grid) → HasRegion told t layer n g → IsSound e)
+  pub sound_whole : {T : Type 0} (r : Result T Stop) → IfErr r (λ e. (g : Grid) → items ≡ region_records n layer g → IsNotDamage e)
+      → IfErr r (λ e. (g : Grid) → HasRegion told t layer n g → IsNotDamage e)
   sound_whole (Ok l) f = f
   sound_whole (Err e) f = λ g h. f g (read g h)
 

@@ -20,9 +20,9 @@ use Rattle.quilt_loc.proofs.Quartered.{side_le}
 use Rattle.quilt_loc.proofs.Rising.{same_rising, Rises-filter}
 use Rattle.quilt_record.specs.declared.record.Record.{Record}
 use Rattle.quilt_blocks.specs.declared.leaf.Leaf.{Leaf}
-use Rattle.quilt_blocks.specs.Cutting.{cut, leaves_by_code, leaf_cmp, pair_of}
+use Rattle.quilt_blocks.specs.Cutting.{cut, leaves_by_code, leaf_cmp, leaf_pair}
 use Rattle.quilt_blocks.specs.Mosaic.{HasColour}
-use Rattle.quilt_blocks.specs.Walk.{size_of}
+use Rattle.quilt_blocks.specs.Walk.{pixel_count}
 use Rattle.quilt_blocks.proofs.Chains.{Follows-rises, Follows-place, size_of-take_more, member_pos}
 use Rattle.quilt_blocks.proofs.Leaves.{uniform_down, uniform_pixel}
 use Rattle.quilt_blocks.proofs.Maximal.{IsMaximal-from, Contains-maximal, cut_law}
@@ -122,8 +122,8 @@ pub record IsNth (n layer : ℕ) (g : Grid) (b : Block) (i : ℕ) (r : Record) :
   pub is : r ≡ leaf_record n layer leaf
   pub block : IsBlock n leaf.0
   pub colour : HasColour n g leaf.0 leaf.1
-  pub more : size_of (take (i + 1) (leaves_within n g b)) ≡ size_of (take i (leaves_within n g b)) + leaf.0.side * leaf.0.side
-  pub from : IsCutOut n g b → code_from leaf.0 ≡ code_from b + size_of (take i (leaves_within n g b))
+  pub more : pixel_count (take (i + 1) (leaves_within n g b)) ≡ pixel_count (take i (leaves_within n g b)) + leaf.0.side * leaf.0.side
+  pub from : IsCutOut n g b → code_from leaf.0 ≡ code_from b + pixel_count (take i (leaves_within n g b))
 
 pub nth_leaf : (n layer : ℕ) (g : Grid) (b : Block) (records : List Record) (i : ℕ) (d : Record) → n ≤ 12 → IsBlock n b
     → records ≡ records_within n layer g b → i < length records → IsNth n layer g b i (get_or records i d)
@@ -148,14 +148,14 @@ nth_leaf n layer g b records i d le hb is lt =
 
 -- all of them are read
 pub all_read : (n layer : ℕ) (g : Grid) (b : Block) (records : List Record) (i : ℕ) → n ≤ 12 → IsBlock n b → records ≡ records_within n layer g b
-    → length records ≤ i → IsCutOut n g b → code_from b + size_of (take i (leaves_within n g b)) ≡ code_to b
+    → length records ≤ i → IsCutOut n g b → code_from b + pixel_count (take i (leaves_within n g b)) ≡ code_to b
 unfolding records_within
 all_read n layer g b records i le hb is all out =
     let es = leaves_within n g b in
     let long : length records ≡ length es = ap length is ∙ length-map es (leaf_record n layer) in
     let run = within_runs n g b le hb out in
     let size = run.size in
-    let t = ap size_of (take_all i es (omega arith)) in
+    let t = ap pixel_count (take_all i es (omega arith)) in
     omega arith
 
 -- the leaf that was read of a record
@@ -175,13 +175,13 @@ module _ (n layer : ℕ) (g : Grid) (b : Block) (records : List Record) (i : ℕ
   pub nth_some : read ≡ None → ⊥
   nth_some none = none-some nth_read (sym none ∙ is_read)
 
-  pub nth_same : (l : Leaf) → read ≡ Some l → pair_of l ≡ nth.leaf
-  nth_same l e = ap pair_of (sym (same_Some nth_read l (sym is_read ∙ e)))
+  pub nth_same : (l : Leaf) → read ≡ Some l → leaf_pair l ≡ nth.leaf
+  nth_same l e = ap leaf_pair (sym (same_Some nth_read l (sym is_read ∙ e)))
 
 -- where the leaf begins and ends
 pub nth_codes : (n layer : ℕ) (g : Grid) (b : Block) (i end : ℕ) (r : Record) (l : Leaf) (nth : IsNth n layer g b i r) → n ≤ 12 → IsBlock n b
-    → IsCutOut n g b → pair_of l ≡ nth.leaf → end ≡ code_from b + size_of (take i (leaves_within n g b))
-    → (code_from l.block ≡ end) × (code_to l.block ≡ code_from b + size_of (take (i + 1) (leaves_within n g b))) × (code_to l.block ≤ code_to b)
+    → IsCutOut n g b → leaf_pair l ≡ nth.leaf → end ≡ code_from b + pixel_count (take i (leaves_within n g b))
+    → (code_from l.block ≡ end) × (code_to l.block ≡ code_from b + pixel_count (take (i + 1) (leaves_within n g b))) × (code_to l.block ≤ code_to b)
 nth_codes n layer g b i end r l nth le hb out same at =
     let from = nth.from out in
     let more = nth.more in
@@ -197,7 +197,7 @@ nth_codes n layer g b i end r l nth le hb out same at =
 
 -- its pixels are put down with the grid's colour
 pub nth_push : (n layer : ℕ) (g : Grid) (b : Block) (i : ℕ) (r : Record) (l : Leaf) (nth : IsNth n layer g b i r) → n ≤ 12 → IsBlock n b
-    → pair_of l ≡ nth.leaf → IsBlock n l.block → code_from b ≤ code_from l.block → code_to l.block ≤ code_to b
+    → leaf_pair l ≡ nth.leaf → IsBlock n l.block → code_from b ≤ code_from l.block → code_to l.block ≤ code_to b
     → (f : Pixel → ℕ) → ((p : Pixel) → Holds b p → f p ≡ colour_at n g p) → (old new : List ℕ) → code_from l.block ≡ length old
     → new ≡ old ++ replicate (l.block.side * l.block.side) l.colour.0 → HasColours n f old → HasColours n f new
 nth_push n layer g b i r l nth le hb same block low high f is old new at made has =

@@ -24,7 +24,7 @@ use Rattle.quilt_btree.specs.declared.tree.Tree.{Tree}
 use Rattle.quilt_btree.specs.Lists.{is_from_to, range_of}
 use Rattle.quilt_btree.specs.Trees.{IsTree}
 use Rattle.quilt_spell.specs.OfLayer.{leaf_record}
-use Rattle.quilt_region.specs.Regions.{SpellsRegion, HasRegion}
+use Rattle.quilt_region.specs.Regions.{SpellsGrid, HasRegion}
 use Rattle.quilt_region.specs.Windows.{leaves_within, records_within}
 use Rattle.quilt_spell.specs.Written.{by_key}
 use Rattle.quilt_spell.proofs.Written.{by_key_total}
@@ -59,7 +59,7 @@ few_within n layer g b le =
     let less' : length (leaves_within n g b) ≤ length (leaves_by_code n g) = less in
     omega arith
 
-module _ (rs : List Record) (layer n : ℕ) (g : Grid) (le : n ≤ 12) (up : Rises by_key rs) (spells : SpellsRegion rs layer n g) (b : Block)
+module _ (rs : List Record) (layer n : ℕ) (g : Grid) (le : n ≤ 12) (up : Rises by_key rs) (spells : SpellsGrid rs layer n g) (b : Block)
     (hb : IsBlock n b) (low high : Key) (ends : AreEnds n layer b low high) where
   low_le : (e : Block × ℕ) → IsBlock n e.0 → code_from b ≤ code_from e.0 → is_le (key_cmp low (leaf_record n layer e).key) ≡ true
   low_le e he from =

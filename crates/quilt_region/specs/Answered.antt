@@ -9,7 +9,7 @@ use Rattle.quilt_spell.specs.OfLayer.{leaf_record}
 use Rattle.quilt_region.specs.Regions.{pixel_key}
 
 -- the record of the greatest key up to a pixel's is the leaf of this colour around it
-pub record IsAnswered (n layer : ℕ) (rs : List Record) (p : Pixel) (colour : ℕ) : Type 0 where
+pub record IsColourFound (n layer : ℕ) (rs : List Record) (p : Pixel) (colour : ℕ) : Type 0 where
   pub block : Block
   pub holds : in_block block p ≡ true
   pub is : floor_of (pixel_key layer p) rs ≡ Some (leaf_record n layer (block, colour))

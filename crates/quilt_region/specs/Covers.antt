@@ -14,8 +14,8 @@ pub record AgreesIn (n : ℕ) (w : Window) (g h : Grid) : Type 0 where
   pub fits : (form : ℕ) → IsGrid form n g → IsGrid form n h
 
 -- the window and the block have a pixel in common
-abbrev pub meets : Window → Block → Bool
-meets w b = nat_lt b.x (w.x + w.w) && nat_lt w.x (b.x + b.side) && nat_lt b.y (w.y + w.h) && nat_lt w.y (b.y + b.side)
+abbrev pub window_meets : Window → Block → Bool
+window_meets w b = nat_lt b.x (w.x + w.w) && nat_lt w.x (b.x + b.side) && nat_lt b.y (w.y + w.h) && nat_lt w.y (b.y + b.side)
 
 -- the last multiple of the side that is no larger than the number
 abbrev pub start_of : ℕ → ℕ → ℕ
@@ -43,7 +43,7 @@ block_of s p = record { x = start_of s p.x; y = start_of s p.y; side = s }
 
 -- the colour of a pixel in the blocks of a side that meet the window, and the background elsewhere
 abbrev pub cover_colour : ℕ → Grid → ℕ → Window → Pixel → ℕ
-cover_colour n g s w p = if meets w (block_of s p) then colour_at n g p else 0
+cover_colour n g s w p = if window_meets w (block_of s p) then colour_at n g p else 0
 
 -- the pages that those of the blocks cost which begin within another one
 abbrev pub cost_in : ℕ → Grid → List Block → Block → ℕ

@@ -11,19 +11,19 @@ use Rattle.quilt_record.specs.declared.key.Key.{Key}
 use Rattle.quilt_record.specs.declared.record.Record.{Record}
 use Rattle.quilt_record.specs.declared.edits.Edits.{Edits}
 use Rattle.quilt_record.specs.Records.{Numbering, record_of}
-use Rattle.quilt_record.specs.Listing.{kind_fact}
+use Rattle.quilt_record.specs.Listing.{fact_of_kind}
 use Rattle.quilt_node.specs.Pages.{is_ascending}
 use Rattle.quilt_node.specs.Nodes.{keys_of}
 use Rattle.quilt_spell.specs.Written.{number_of}
 use Rattle.quilt_spell.specs.Spelled.{SpellsUnder}
 use Rattle.quilt_spell.specs.Changing as changing
 use Rattle.quilt_spell.specs.Catalogued.{kind_of}
-use Rattle.quilt_spell.specs.Copying.{moved}
+use Rattle.quilt_spell.specs.Copying.{renumbered}
 use Rattle.quilt_btree.specs.declared.tree.Tree.{Tree}
 use Rattle.quilt_btree.specs.Lists.{range_of}
 use Rattle.quilt_btree.specs.Trees.{IsTree}
 use Rattle.quilt_region.specs.Regions.{HasRegion, region_records}
-use Rattle.quilt_region.specs.Plans.{LeadsTo}
+use Rattle.quilt_region.specs.Plans.{ReplacesGrid}
 
 -- before each key of a record of the layer with this number
 abbrev pub first_key : ℕ → Key
@@ -39,11 +39,11 @@ records_under number most rs = range_of (first_key number) (last_key number) mos
 
 -- the record of the catalog for this layer under the name and number
 abbrev pub IsEntryRecord : Record → List ℕ → ℕ → Layer → Type 0
-IsEntryRecord r name number layer = (n capacity : ℕ) → r ≡ record_of n capacity name number (kind_fact (kind_of layer))
+IsEntryRecord r name number layer = (n capacity : ℕ) → r ≡ record_of n capacity name number (fact_of_kind (kind_of layer))
 
 -- The records to remove and to add lead from one layer to the other, or from none or to none, and each list ascends by
 -- its keys, as a tree takes it.
-pub record IsPlan (n : ℕ) (name : List ℕ) (number : ℕ) (old new : Option Layer) (removed added : List Record) : Type 0 where
+pub record IsRegionPlan (n : ℕ) (name : List ℕ) (number : ℕ) (old new : Option Layer) (removed added : List Record) : Type 0 where
   pub leads : changing.LeadsTo n name number old new removed added
   pub removed_ascend : is_ascending (keys_of removed) ≡ true
   pub added_ascend : is_ascending (keys_of added) ≡ true
@@ -61,7 +61,7 @@ DropLaw =
     (form n : ℕ) (numbers : Numbering) (rs : List Record) (layers : Map) (name : List ℕ) (layer : Layer) (most : ℕ) (r : Record)
     → n ≤ 12 → SpellsUnder form n numbers rs layers → finmap.get layers name ≡ Some layer → length rs ≤ most
     → IsEntryRecord r name (number_of numbers name) layer
-    → IsPlan n name (number_of numbers name) (Some layer) None (r ∷ records_under (number_of numbers name) most rs) []
+    → IsRegionPlan n name (number_of numbers name) (Some layer) None (r ∷ records_under (number_of numbers name) most rs) []
 
 -- a layer of any kind comes under another name and number, as a copy
 abbrev pub CopyLaw : Type 0
@@ -70,7 +70,7 @@ CopyLaw =
     (other : List ℕ) (number : ℕ) (r : Record)
     → n ≤ 12 → SpellsUnder form n numbers rs layers → finmap.get layers name ≡ Some layer → length rs ≤ most → 1 ≤ number
     → IsEntryRecord r other number layer
-    → IsPlan n other number None (Some layer) [] (r ∷ map (moved number) (records_under (number_of numbers name) most rs))
+    → IsRegionPlan n other number None (Some layer) [] (r ∷ map (renumbered number) (records_under (number_of numbers name) most rs))
 
 -- a tree whose records spell a map has the map's region layers
 abbrev pub ReadLaw : Type 0
@@ -84,15 +84,15 @@ ReadLaw =
 abbrev pub ChangeLaw : Type 0
 ChangeLaw =
     (form n : ℕ) (name : List ℕ) (number : ℕ) (g h : Grid) (edits : Edits)
-    → n ≤ 12 → IsGrid form n g → IsGrid form n h → LeadsTo n number g h edits
-    → IsPlan n name number (Some (Region g)) (Some (Region h)) edits.remove edits.add
+    → n ≤ 12 → IsGrid form n g → IsGrid form n h → ReplacesGrid n number g h edits
+    → IsRegionPlan n name number (Some (Region g)) (Some (Region h)) edits.remove edits.add
 
 -- a region layer comes: its record of the catalog, and those of its leaves
 abbrev pub FreshLaw : Type 0
 FreshLaw =
     (form n : ℕ) (name : List ℕ) (number : ℕ) (g : Grid) (r : Record)
     → n ≤ 12 → 1 ≤ number → IsGrid form n g → IsEntryRecord r name number (Region g)
-    → IsPlan n name number None (Some (Region g)) [] (r ∷ region_records n number g)
+    → IsRegionPlan n name number None (Some (Region g)) [] (r ∷ region_records n number g)
 
 -- the grids of a format
 pub record FitsLaw : Type 0 where

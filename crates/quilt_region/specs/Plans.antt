@@ -21,18 +21,18 @@ unfoldable pub records_without : ℕ → ℕ → Grid → Grid → List Record
 records_without n layer g other = map (leaf_record n layer) (filter (λ e. not (is_leaf n other e)) (leaves_by_code n g))
 
 -- the edits take out the records that only the old grid has, and put in those that only the new one has
-pub record LeadsTo (n layer : ℕ) (old new : Grid) (edits : Edits) : Type 0 where
+pub record ReplacesGrid (n layer : ℕ) (old new : Grid) (edits : Edits) : Type 0 where
   pub remove : edits.remove ≡ records_without n layer old new
   pub add : edits.add ≡ records_without n layer new old
 
 -- the edits put in all records of the grid, and take none out
-pub record IsFresh (n layer : ℕ) (g : Grid) (edits : Edits) : Type 0 where
+pub record PutsAllRecords (n layer : ℕ) (g : Grid) (edits : Edits) : Type 0 where
   pub remove : edits.remove ≡ []
   pub add : edits.add ≡ region_records n layer g
 
 -- the records after the edits: those that were there and were not taken out, and those that were put in
-abbrev pub IsEdited : List Record → Edits → List Record → Type 0
-IsEdited rs edits now = (r : Record) → Contains now r ↔ ((Contains rs r × (Contains edits.remove r → ⊥)) ⊎ Contains edits.add r)
+abbrev pub IsEditedBy : List Record → Edits → List Record → Type 0
+IsEditedBy rs edits now = (r : Record) → Contains now r ↔ ((Contains rs r × (Contains edits.remove r → ⊥)) ⊎ Contains edits.add r)
 
 -- the records so far, and those of the leaves still to come that pass the test, are all of these
 abbrev pub AreSoFar : (n layer : ℕ) → (Block × ℕ → Bool) → List Record → List (Block × ℕ) → List Record → Type 0

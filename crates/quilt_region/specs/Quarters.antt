@@ -19,7 +19,7 @@ pub record InWindow (w : Window) (p : Pixel) : Type 0 where
   pub bottom : p.y < w.y + w.h
 
 -- the window has the pixels that the other one and the block have in common
-pub record IsPartOf (w : Window) (b : Block) (v : Window) : Type 0 where
+pub record IsCommonWindow (w : Window) (b : Block) (v : Window) : Type 0 where
   pub wide : 1 ≤ v.w
   pub high : 1 ≤ v.h
   pub holds : HoldsWindow b v

@@ -23,7 +23,7 @@ abbrev pub pixel_key : ℕ → Pixel → Key
 pixel_key layer p = record { layer = layer; part = 1; code = code_at p; depth = 255; item = 2 ^ 32 - 1 }
 
 -- Those of the records that are of the layer with this number are exactly the records of the grid's leaves.
-pub record SpellsRegion (rs : List Record) (layer n : ℕ) (g : Grid) : Type 0 where
+pub record SpellsGrid (rs : List Record) (layer n : ℕ) (g : Grid) : Type 0 where
   pub grid : IsGrid 2 n g
   pub each : (e : Block × ℕ) → Contains (leaves n g) e → Contains rs (leaf_record n layer e)
   pub only : (r : Record) → Contains rs r → r.key.layer ≡ layer → Contains (map (leaf_record n layer) (leaves n g)) r
@@ -32,4 +32,4 @@ pub record SpellsRegion (rs : List Record) (layer n : ℕ) (g : Grid) : Type 0 w
 pub record HasRegion (told : Option (List (List ℕ))) (t : Tree) (layer n : ℕ) (g : Grid) : Type 0 where
   pub records : List Record
   pub tree : IsTree told t records
-  pub spelled : SpellsRegion records layer n g
+  pub spelled : SpellsGrid records layer n g

@@ -52,7 +52,7 @@ pub record IsKnown (n : ℕ) (k : Known) : Type 0 where
 
 -- What is known tells the layer around a window: all of it in the block that was read, one colour up to the upper block,
 -- beside which there is another colour, and a colour elsewhere that is neither of two.
-pub record Knows (n : ℕ) (g : Grid) (w : Window) (k : Known) : Type 0 where
+pub record KnowsAround (n : ℕ) (g : Grid) (w : Window) (k : Known) : Type 0 where
   pub blocks : IsKnown n k
   pub holds : HoldsWindow k.read w
   pub read_cut : IsCutOut n g k.read

@@ -2,23 +2,23 @@
 //! go and come when it changes.
 #![tactic(auto)]
 
-mod bounding;
-mod comparing;
-mod filling;
+mod bounds;
+mod comparison;
+mod fill;
 mod known;
 mod laws;
-mod nearing;
-mod painting;
-mod planning;
-mod quartering;
-mod reading;
-mod spelling;
+mod leaf_records;
+mod lookup;
+mod neighbours;
+mod paint;
+mod plan;
+mod quarters;
 mod walk;
 mod window;
 
-pub use bounding::{first_key, last_key};
+pub use bounds::{first_key, last_key};
 pub use laws::{layer_laws, region_laws};
-pub use planning::{plan_new, plan_rect, plan_replace};
-pub use reading::{colour_at, read_list};
+pub use lookup::{colour_at, read_list};
+pub use plan::{plan_new, plan_rect, plan_replace};
 pub use walk::leaf_counts;
 pub use window::read_window;

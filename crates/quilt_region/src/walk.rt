@@ -7,13 +7,13 @@ ghost use Rattle.quilt_loc.specs.Codes.{code_from};
 ghost use Rattle.quilt_blocks.specs.Cutting.{leaves_by_code};
 ghost use Rattle.quilt_store.specs.Calls.{OnlyReads};
 ghost use Rattle.quilt_world.specs.Tale.{Goes};
-ghost use Rattle.quilt_store.specs.Stops.{IsSound};
+ghost use Rattle.quilt_store.specs.Stops.{IsNotDamage};
 ghost use Rattle.quilt_btree.specs.Trees.{IsRooted};
 ghost use Rattle.quilt_region.specs.Regions.{HasRegion};
 ghost use Rattle.quilt_region.specs.Walks.{IsAhead};
 
-use crate::bounding::first_key;
-use crate::spelling::{DAMAGED, leaf_of};
+use crate::bounds::first_key;
+use crate::leaf_records::{DAMAGED, leaf_of};
 use quilt_blocks::Leaf;
 use quilt_btree::{Cursor, Tree};
 use quilt_loc::{end_of, whole_square};
@@ -34,7 +34,7 @@ pub fn leaf_counts<S: PageStore>(
     requires level { (1 ≤ level) × (level ≤ 12) }
     ensures counts { IfOk result (λ counts. (g : Grid) → HasRegion (S.told store.old) tree.now layer level g → (k : ℕ) → k ≤ 12
         → slice_index counts k ≡ count_by (λ e. e.0.side == side_of k) (leaves level g)) }
-    ensures sound { IfErr result (λ e. (g : Grid) → HasRegion (S.told store.old) tree.now layer level g → IsSound e) }
+    ensures sound { IfErr result (λ e. (g : Grid) → HasRegion (S.told store.old) tree.now layer level g → IsNotDamage e) }
     ensures left { OnlyReads S.PageStore store.old store.new result }
     ensures reads { IfOk result (λ counts. (g : Grid) → HasRegion (S.told store.old) tree.now layer level g
         → Goes (λ old new. new ≤ old + (6 + 3 * length (leaves_by_code level g))) (S.reads store.old) (S.reads store.new)) }
@@ -60,7 +60,7 @@ fn count_ahead<S: PageStore>(
     requires level { (1 ≤ level) × (level ≤ 12) }
     ensures counts { IfOk result (λ counts. (g : Grid) → IsAhead (S.told store.old) tree.now cursor.old layer level (leaves_by_code level g)
         → (k : ℕ) → k ≤ 12 → slice_index counts k ≡ count_by (λ e. e.0.side == side_of k) (leaves_by_code level g)) }
-    ensures sound { IfErr result (λ e. (g : Grid) → IsAhead (S.told store.old) tree.now cursor.old layer level (leaves_by_code level g) → IsSound e) }
+    ensures sound { IfErr result (λ e. (g : Grid) → IsAhead (S.told store.old) tree.now cursor.old layer level (leaves_by_code level g) → IsNotDamage e) }
     ensures left { OnlyReads S.PageStore store.old store.new result }
     ensures reads { IfOk result (λ counts. (g : Grid) → IsAhead (S.told store.old) tree.now cursor.old layer level (leaves_by_code level g)
         → Goes (λ old new. new ≤ old + (3 + 3 * length (leaves_by_code level g))) (S.reads store.old) (S.reads store.new)) }
@@ -96,7 +96,7 @@ fn next_leaf<S: PageStore>(
         → IsAhead (S.told store.old) tree.now cursor.old layer level (e ∷ rest)
         → (l.block ≡ e.0) × IsAhead (S.told store.old) tree.now cursor.new layer level rest) }
     ensures sound { IfErr result (λ stop. (e : AnyBlock × ℕ) (rest : List (AnyBlock × ℕ)) → IsBlock level e.0 → code_from e.0 ≡ code
-        → IsAhead (S.told store.old) tree.now cursor.old layer level (e ∷ rest) → IsSound stop) }
+        → IsAhead (S.told store.old) tree.now cursor.old layer level (e ∷ rest) → IsNotDamage stop) }
     ensures left { OnlyReads S.PageStore store.old store.new result }
     ensures reads { Goes (λ old new. new ≤ old + 3) (S.reads store.old) (S.reads store.new) }
 {
@@ -119,7 +119,7 @@ fn end_layer<S: PageStore>(
 ) -> Result<(), Stop>
     requires rooted { IsRooted (S.size store.old) tree.now }
     requires some { 1 ≤ tree.now.height }
-    ensures sound { IfErr result (λ stop. (n : ℕ) → IsAhead (S.told store.old) tree.now cursor.old layer n [] → IsSound stop) }
+    ensures sound { IfErr result (λ stop. (n : ℕ) → IsAhead (S.told store.old) tree.now cursor.old layer n [] → IsNotDamage stop) }
     ensures left { OnlyReads S.PageStore store.old store.new result }
     ensures reads { Goes (λ old new. new ≤ old + 3) (S.reads store.old) (S.reads store.new) }
 {

@@ -6,15 +6,15 @@ ghost use Rattle.quilt_types.specs.Layers.{Grid, colour_at};
 ghost use Rattle.quilt_loc.specs.Codes.{code_from, code_to};
 ghost use Rattle.quilt_store.specs.Calls.{OnlyReads};
 ghost use Rattle.quilt_world.specs.Tale.{Goes};
-ghost use Rattle.quilt_store.specs.Stops.{IsSound};
+ghost use Rattle.quilt_store.specs.Stops.{IsNotDamage};
 ghost use Rattle.quilt_btree.specs.Trees.{IsRooted};
 ghost use Rattle.quilt_region.specs.Painting.{HasColours};
 ghost use Rattle.quilt_region.specs.Regions.{HasRegion};
 ghost use Rattle.quilt_region.specs.Windows.{leaves_within};
-ghost use Rattle.quilt_region.specs.Covers.{AgreesIn, IsSideOver, meets, cover_of, cover_colour, cost_in};
+ghost use Rattle.quilt_region.specs.Covers.{AgreesIn, IsSideOver, window_meets, cover_of, cover_colour, cost_in};
 
-use crate::reading::{leaf_with, records_in};
-use crate::spelling::put_records;
+use crate::leaf_records::put_records;
+use crate::lookup::{leaf_with, records_in};
 use quilt_blocks::{LeafList, Maker};
 use quilt_btree::Tree;
 use quilt_loc::{quarters, whole_square};
@@ -40,7 +40,7 @@ pub fn read_window<S: PageStore>(
     requires window { is_window level w ≡ true }
     ensures list { IfOk result (λ l. (g : Grid) → HasRegion (S.told store.old) tree.now layer level g → AgreesIn level w g l.grid) }
     ensures level { IfOk result (λ l. l.level ≡ level) }
-    ensures sound { IfErr result (λ e. (g : Grid) → HasRegion (S.told store.old) tree.now layer level g → IsSound e) }
+    ensures sound { IfErr result (λ e. (g : Grid) → HasRegion (S.told store.old) tree.now layer level g → IsNotDamage e) }
     ensures left { OnlyReads S.PageStore store.old store.new result }
     ensures reads { IfOk result (λ l. (g : Grid) (s : ℕ) → HasRegion (S.told store.old) tree.now layer level g → IsSideOver w s
         → Goes (λ old new. new ≤ old + sum_by (λ b. 12 + 3 * length (leaves_within level g b)) (cover_of s w)) (S.reads store.old) (S.reads store.new)) }
@@ -91,7 +91,7 @@ fn put_window<S: PageStore>(
     ensures end { OnOk result (length maker.new.colours ≡ code_to b) }
     ensures colours { OnOk result ((g : Grid) → HasRegion (S.told store.old) tree.now layer level g
         → HasColours level (cover_colour level g side w) maker.old.colours → HasColours level (cover_colour level g side w) maker.new.colours) }
-    ensures sound { IfErr result (λ e. (g : Grid) → HasRegion (S.told store.old) tree.now layer level g → IsSound e) }
+    ensures sound { IfErr result (λ e. (g : Grid) → HasRegion (S.told store.old) tree.now layer level g → IsNotDamage e) }
     ensures left { OnlyReads S.PageStore store.old store.new result }
     ensures reads { OnOk result ((g : Grid) → HasRegion (S.told store.old) tree.now layer level g
         → Goes (λ old new. new ≤ old + cost_in level g (cover_of side w) b) (S.reads store.old) (S.reads store.new)) }
@@ -132,7 +132,7 @@ fn put_read<S: PageStore>(
     ensures end { OnOk result (length maker.new.colours ≡ code_to b) }
     ensures colours { OnOk result ((g : Grid) (f : AnyPixel → ℕ) → HasRegion (S.told store.old) tree.now layer level g
         → ((p : AnyPixel) → Holds b p → f p ≡ colour_at level g p) → HasColours level f maker.old.colours → HasColours level f maker.new.colours) }
-    ensures sound { IfErr result (λ e. (g : Grid) → HasRegion (S.told store.old) tree.now layer level g → IsSound e) }
+    ensures sound { IfErr result (λ e. (g : Grid) → HasRegion (S.told store.old) tree.now layer level g → IsNotDamage e) }
     ensures left { OnlyReads S.PageStore store.old store.new result }
     ensures reads { OnOk result ((g : Grid) → HasRegion (S.told store.old) tree.now layer level g
         → Goes (λ old new. new ≤ old + (12 + 3 * length (leaves_within level g b))) (S.reads store.old) (S.reads store.new)) }
@@ -156,7 +156,7 @@ fn meets(w: Window, b: Block) -> bool
     requires height { b.y + b.side ≤ 4096 }
     requires window_width { w.x + w.w ≤ 4096 }
     requires window_height { w.y + w.h ≤ 4096 }
-    ensures { result ≡ meets w b }
+    ensures { result ≡ window_meets w b }
 {
     b.x < w.x + w.w && w.x < b.x + b.side && b.y < w.y + w.h && w.y < b.y + b.side
 }

@@ -10,7 +10,7 @@ use Rattle.quilt_types.specs.declared.plane.Window.{Window}
 use Rattle.quilt_types.specs.Layers.{Layer, Region, Points, Lines, Map, IsGrid, colour_at}
 use Rattle.quilt_types.specs.Plane.{side, below}
 use Rattle.quilt_record.specs.Records.{Numbering}
-use Rattle.quilt_spell.specs.Catalogued.{kind_of, entry_of, IsCatalogOf}
+use Rattle.quilt_spell.specs.Catalogued.{kind_of, catalog_entry, IsCatalogOf}
 use Rattle.std.specs.FinMap as finmap
 use Rattle.quilt_record.specs.declared.entry.Entry.{Entry}
 use Rattle.quilt_raster.specs.Showing as raster
@@ -144,10 +144,10 @@ kind_line (Region grid) = refl
 kind_line (Points capacity points) = refl
 kind_line (Lines threshold segs cover) = refl
 
-layer_line_is : (numbers : Numbering) (e : List ℕ × Layer) → entry_line (entry_of numbers e) ≡ layer_line e
+layer_line_is : (numbers : Numbering) (e : List ℕ × Layer) → entry_line (catalog_entry numbers e) ≡ layer_line e
 layer_line_is numbers e = ap (λ (ws : List (List ℕ)). spaced (e.0 ∷ ws)) (kind_line e.1)
 
-map_lines : (numbers : Numbering) (es : List (List ℕ × Layer)) → map entry_line (map (entry_of numbers) es) ≡ map layer_line es
+map_lines : (numbers : Numbering) (es : List (List ℕ × Layer)) → map entry_line (map (catalog_entry numbers) es) ≡ map layer_line es
 map_lines numbers [] = refl
 map_lines numbers (e ∷ es) = λ i. layer_line_is numbers e i ∷ map_lines numbers es i
 
@@ -158,24 +158,24 @@ listed_reply (Ok all) entries h =
 listed_reply (Err e) entries h = tt
 
 -- ---- the rows of a window
-same_digits : (f c : ℕ) → raster.digits_of f c ≡ digits_of f c
-unfolding raster.digits_of
+same_digits : (f c : ℕ) → raster.colour_digits f c ≡ digits_of f c
+unfolding raster.colour_digits
 same_digits f c = refl
 
 flat_map_same : (f g : ℕ → List ℕ) → ((x : ℕ) → f x ≡ g x) → (xs : List ℕ) → flat_map f xs ≡ flat_map g xs
 flat_map_same f g h [] = refl
 flat_map_same f g h (x ∷ xs) = λ i. h x i ++ flat_map_same f g h xs i
 
-same_row : (f n : ℕ) (g : List ℕ) (w : Window) (dy : ℕ) → raster.row_line f n g w dy ≡ row_line f n g w dy
-unfolding raster.row_line
+same_row : (f n : ℕ) (g : List ℕ) (w : Window) (dy : ℕ) → raster.window_row f n g w dy ≡ row_line f n g w dy
+unfolding raster.window_row
 same_row f n g w dy = flat_map_same _ _ (λ dx. same_digits f (colour_at n g (record { x = w.x + dx; y = w.y + dy }))) (below w.w)
 
-same_rows : (f n : ℕ) (g : List ℕ) (w : Window) (ys : List ℕ) → map (raster.row_line f n g w) ys ≡ map (row_line f n g w) ys
+same_rows : (f n : ℕ) (g : List ℕ) (w : Window) (ys : List ℕ) → map (raster.window_row f n g w) ys ≡ map (row_line f n g w) ys
 same_rows f n g w [] = refl
 same_rows f n g w (y ∷ ys) = λ i. same_row f n g w y i ∷ same_rows f n g w ys i
 
 pub shown_reply : {E : Type 0} (r : Result (List ℕ) E) (text : List ℕ) (f n : ℕ) (g : List ℕ) (w : Window) (ys : List ℕ)
     → IfOk r (λ all. (b : List (List ℕ)) → text ≡ lines b → all ≡ text_of (Done b))
-    → (IsGrid f n g → text ≡ lines (map (raster.row_line f n g w) ys)) → IfOk r (λ all. IsGrid f n g → all ≡ text_of (Done (map (row_line f n g w) ys)))
+    → (IsGrid f n g → text ≡ lines (map (raster.window_row f n g w) ys)) → IfOk r (λ all. IsGrid f n g → all ≡ text_of (Done (map (row_line f n g w) ys)))
 shown_reply (Ok all) text f n g w ys h is = λ grid. h (map (row_line f n g w) ys) (is grid ∙ ap lines (same_rows f n g w ys))
 shown_reply (Err e) text f n g w ys h is = tt

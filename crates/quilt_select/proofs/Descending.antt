@@ -27,7 +27,7 @@ use Rattle.quilt_near.proofs.Reached.{All-at, list_any-true, list_any-from, quar
 use Rattle.quilt_near.proofs.Owing.{owed, owed_first, owed_left, owed_leaf, owed_split, left, left_leaf, left_split}
 use Rattle.quilt_near.proofs.Telling.{tells_same, tells_then, tells_weaker}
 use Rattle.quilt_select.specs.Shares.{shares_pixel, holds_any, meets_any}
-use Rattle.quilt_select.specs.Descents.{Waiting, quarter_with, four, with_selected, pages_of, AfterDescent, IsOpened}
+use Rattle.quilt_select.specs.Descents.{Waiting, quarter_with, four, with_selected, part_pages, AfterDescent, IsBlockVisited}
 use Rattle.quilt_select.proofs.Touching.{IsTouched, touched}
 use Rattle.quilt_select.proofs.Gathering.{gathers}
 use Rattle.quilt_select.proofs.Filters.{one_each, passing}
@@ -248,7 +248,7 @@ module _ (n : ℕ) (ws : List Window) (inside : All (λ w. is_window n w ≡ tru
 
     by_part : (now : Option ℕ) (new : List Waiting) (then : Found) (part : Option Part) → ((l : Lines) → shown l → IfSome part (IsPart l e.0))
         → AfterDescent e.0 e.1 part rest new was then
-        → Goes (λ x y. y ≤ x + pages_of part) mid now → Going n ws shown before now new then
+        → Goes (λ x y. y ≤ x + part_pages part) mid now → Going n ws shown before now new then
     by_part now new then None found after reads =
         subst (λ (t : List Waiting). Going n ws shown before now t then) (sym after.1)
         (subst (Going n ws shown before now rest) (sym after.2) (skipped now after.0 reads))
@@ -260,7 +260,7 @@ module _ (n : ℕ) (ws : List Window) (inside : All (λ w. is_window n w ≡ tru
         (subst (Going n ws shown before now (four e.0 e.1 ++ rest)) (sym after.3) (divided now after.0 after.1 found reads))
 
     pub going_on : (now : Option ℕ) (new : List Waiting) (then : Found) (shown' : Lines → Type 0) → ((l : Lines) → shown l → shown' l)
-        → IsOpened e.0 e.1 shown' rest new was then mid now → Going n ws shown before now new then
+        → IsBlockVisited e.0 e.1 shown' rest new was then mid now → Going n ws shown before now new then
     going_on now new then shown' still o = by_part now new then o.part (λ l s. o.found l (still l s)) o.after o.reads
 
     left_by_part : (new : List Waiting) (then : Found) (part : Option Part) → AfterDescent e.0 e.1 part rest new was then
@@ -276,7 +276,7 @@ module _ (n : ℕ) (ws : List Window) (inside : All (λ w. is_window n w ≡ tru
         (left_split block_of (e ∷ rest) rest (four e.0 e.1 ++ rest) (four e.0 e.1) e (IsPermutation-refl (e ∷ rest)) after.1 refl
         (IsPermutation-refl (four e.0 e.1 ++ rest)))
 
-    pub less_left : (now : Option ℕ) (new : List Waiting) (then : Found) (shown' : Lines → Type 0) → IsOpened e.0 e.1 shown' rest new was
+    pub less_left : (now : Option ℕ) (new : List Waiting) (then : Found) (shown' : Lines → Type 0) → IsBlockVisited e.0 e.1 shown' rest new was
         then mid now → left block_of new < left block_of stack
     less_left now new then shown' o = subst (λ (t : List Waiting). left block_of new < left block_of t) (sym taken) (left_by_part new then o.part o.after)
 

@@ -25,7 +25,7 @@ use Rattle.quilt_blocks.proofs.PixelLeaves.{leaf_at}
 use Rattle.quilt_near.specs.Lines.{Lines}
 use Rattle.quilt_near.proofs.Reached.{list_any-true, list_any-from}
 use Rattle.quilt_near.proofs.Telling.{tells_weaker}
-use Rattle.quilt_select.specs.Regions.{is_coloured_at, is_over, has_coloured, is_coloured, coloured_windows}
+use Rattle.quilt_select.specs.Regions.{is_coloured_at, is_over_grid, has_coloured, is_coloured, coloured_windows}
 use Rattle.quilt_select.specs.Shares.{shares_pixel, holds_any, meets_any}
 use Rattle.quilt_select.proofs.Touching.{touched}
 use Rattle.quilt_select.proofs.Sharing.{four_parts, four_true}
@@ -66,7 +66,7 @@ module _ (n : ℕ) (g : Grid) where
       (All-from (λ w. is_window n w ≡ true) leaf_windows (λ w c. let k =
       coloured_from w c in subst (λ (z : Window). is_window n z ≡ true) k.is (inside_by k.block k.valid)))
 
-  to_over : (s : Seg) → meets_any leaf_windows s ≡ true → is_over n g s ≡ true
+  to_over : (s : Seg) → meets_any leaf_windows s ≡ true → is_over_grid n g s ≡ true
   to_over s e =
       let m = list_any-from (meets s) leaf_windows e in
       let k = coloured_from m.0 m.1 in
@@ -82,7 +82,7 @@ module _ (n : ℕ) (g : Grid) where
       list_any-true (λ p. is_coloured_at n g p && meets s (record { x = p.x; y = p.y; w = 1; h = 1 })) (pixels n) q
       (Contains-pixels n q inside.0 inside.1) (and_from _ _ (k.each q held) (at.1.each one here))
 
-  from_over : n ≤ 12 → (s : Seg) → is_over n g s ≡ true → meets_any leaf_windows s ≡ true
+  from_over : n ≤ 12 → (s : Seg) → is_over_grid n g s ≡ true → meets_any leaf_windows s ≡ true
   from_over le s e =
       let m = list_any-from (λ p. is_coloured_at n g p && meets s (record { x = p.x; y = p.y; w = 1; h = 1 })) (pixels n) e in
       let q = m.0 in
@@ -103,10 +103,10 @@ module _ (n : ℕ) (g : Grid) where
       (at.1.each b (record { left = omega arith; right = omega arith; top = omega arith; bottom = omega arith }))
 
   pub over_found : n ≤ 12 → (ws : List Window) → ws ≡ coloured_windows (leaves_by_code n g) → (es list : List (ℕ × Seg))
-      → list ≡ filter (λ e. meets_any ws e.1) es → list ≡ filter (λ e. is_over n g e.1) es
+      → list ≡ filter (λ e. meets_any ws e.1) es → list ≡ filter (λ e. is_over_grid n g e.1) es
   over_found le ws e es list h =
-      h ∙ filter_alike (λ z. meets_any ws z.1) (λ z. is_over n g z.1) es
-      (λ z. ap (λ (t : List Window). meets_any t z.1) e ∙ both_ways (meets_any leaf_windows z.1) (is_over n g z.1) (to_over z.1) (from_over le z.1))
+      h ∙ filter_alike (λ z. meets_any ws z.1) (λ z. is_over_grid n g z.1) es
+      (λ z. ap (λ (t : List Window). meets_any t z.1) e ∙ both_ways (meets_any leaf_windows z.1) (is_over_grid n g z.1) (to_over z.1) (from_over le z.1))
 
   -- a block with a pixel of such a leaf
   shares_coloured : (b : Block) → IsBlock n b → holds_any leaf_windows b ≡ true → has_coloured n g b ≡ true

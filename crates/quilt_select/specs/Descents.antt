@@ -30,9 +30,9 @@ abbrev pub with_selected : List Window → List (ℕ × Seg) → ℕ × Seg → 
 with_selected near es e = if meets_any near e.1 then insert_entry nat_cmp es e.0 e.1 else es
 
 -- how many pages were read, where a block without windows is not opened
-abbrev pub pages_of : Option Part → ℕ
-pages_of None = 0
-pages_of (Some part) = pages_for part
+abbrev pub part_pages : Option Part → ℕ
+part_pages None = 0
+part_pages (Some part) = pages_for part
 
 -- what a block that came out leaves: which blocks wait, and what is found
 abbrev pub AfterDescent : Block → List Window → Option Part → List Waiting → List Waiting → List (ℕ × Seg) → List (ℕ × Seg) → Type 0
@@ -41,9 +41,9 @@ AfterDescent b near (Some Split) old new was now = (0 < length near) × (1 < b.s
 AfterDescent b near (Some (Leaf list)) old new was now = (0 < length near) × (new ≡ old) × (now ≡ fold (with_selected near) was list)
 
 -- a block came out: what it was found to be, where the layer shows its lines, and what it cost
-pub record IsOpened (b : Block) (near : List Window) (shown : Lines → Type 0) (old new : List Waiting) (was now : List (ℕ × Seg))
+pub record IsBlockVisited (b : Block) (near : List Window) (shown : Lines → Type 0) (old new : List Waiting) (was now : List (ℕ × Seg))
     (reads_old reads_new : Option ℕ) : Type 0 where
   pub part : Option Part
   pub found : (l : Lines) → shown l → IfSome part (IsPart l b)
   pub after : AfterDescent b near part old new was now
-  pub reads : Goes (λ before after. after ≤ before + pages_of part) reads_old reads_new
+  pub reads : Goes (λ before after. after ≤ before + part_pages part) reads_old reads_new

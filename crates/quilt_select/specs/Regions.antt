@@ -14,8 +14,8 @@ abbrev pub is_coloured_at : ℕ → Grid → Pixel → Bool
 is_coloured_at n g p = not (colour_at n g p == 0)
 
 -- the segment meets the closed unit square of a pixel that is not background
-abbrev pub is_over : ℕ → Grid → Seg → Bool
-is_over n g s = list_any (λ p. is_coloured_at n g p && meets s (record { x = p.x; y = p.y; w = 1; h = 1 })) (pixels n)
+abbrev pub is_over_grid : ℕ → Grid → Seg → Bool
+is_over_grid n g s = list_any (λ p. is_coloured_at n g p && meets s (record { x = p.x; y = p.y; w = 1; h = 1 })) (pixels n)
 
 -- the block has a pixel that is not background
 abbrev pub has_coloured : ℕ → Grid → Block → Bool

@@ -8,9 +8,9 @@ ghost use Rattle.quilt_store.specs.Calls.{OnlyReads};
 ghost use Rattle.quilt_world.specs.Tale.{Goes};
 ghost use Rattle.quilt_near.specs.Lines.{Lines};
 ghost use Rattle.quilt_near.specs.Knowing.{Knows};
-ghost use Rattle.quilt_store.specs.Stops.{IsSound};
+ghost use Rattle.quilt_store.specs.Stops.{IsNotDamage};
 ghost use Rattle.quilt_select.specs.Shares.{shares_pixel as shares_of, holds_any, meets_any as meets_any_of};
-ghost use Rattle.quilt_select.specs.Descents.{four, with_selected, IsOpened};
+ghost use Rattle.quilt_select.specs.Descents.{four, with_selected, IsBlockVisited};
 
 use crate::stack::Stack;
 use quilt_clip::crosses;
@@ -107,9 +107,9 @@ fn open<S: PageStore, B: SegBlocks<S>>(
     requires reached { (l : Lines) → B.shows blocks.now store.old l → is_reached l.cover b ≡ true }
     requires known { Knows (B.level_of blocks.now) (B.shows blocks.now store.old) (B.marked blocks.now store.old) known.old }
     ensures opened { OnOk result
-        (IsOpened b near.now (B.shows blocks.now store.old) stack.old stack.new found.old.entries found.new.entries (S.reads store.old) (S.reads store.new)) }
+        (IsBlockVisited b near.now (B.shows blocks.now store.old) stack.old stack.new found.old.entries found.new.entries (S.reads store.old) (S.reads store.new)) }
     ensures known { OnOk result (Knows (B.level_of blocks.now) (B.shows blocks.now store.old) (B.marked blocks.now store.old) known.new) }
-    ensures sound { IfErr result (λ e. (l : Lines) → B.shows blocks.now store.old l → IsSound e) }
+    ensures sound { IfErr result (λ e. (l : Lines) → B.shows blocks.now store.old l → IsNotDamage e) }
     ensures left { OnlyReads S.PageStore store.old store.new result }
 {
     if near.is_empty() {
@@ -162,7 +162,7 @@ pub fn select<S: PageStore, B: SegBlocks<S>>(
         → list ≡ filter (λ e. meets_any_of windows.items e.1) (finmap.entries l.segs)) }
     ensures reads { IfOk result (λ _. (l : Lines) → B.shows blocks.now store.old l
         → Goes (λ old new. new ≤ old + reach (B.level_of blocks.now) l.segs l.cover (holds_any windows.items)) (S.reads store.old) (S.reads store.new)) }
-    ensures sound { IfErr result (λ e. (l : Lines) → B.shows blocks.now store.old l → IsSound e) }
+    ensures sound { IfErr result (λ e. (l : Lines) → B.shows blocks.now store.old l → IsNotDamage e) }
     ensures left { OnlyReads S.PageStore store.old store.new result }
 {
     let mut known = Known::new(alloc, first_pixel(&windows));

@@ -4,8 +4,8 @@
 
 mod clips;
 mod descent;
-mod selecting;
+mod selection;
 mod stack;
 
 pub use clips::ClipList;
-pub use selecting::{clipped, cross, over};
+pub use selection::{clipped, cross, over};

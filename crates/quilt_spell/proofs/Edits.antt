@@ -11,7 +11,7 @@ use Rattle.quilt_record.specs.declared.record.Record.{Record}
 use Rattle.quilt_record.specs.Records.{Numbering, capacity_of, record_of}
 use Rattle.quilt_spell.specs.Apart.{Apart}
 use Rattle.quilt_spell.specs.Written.{number_of, layer_records, IsWritten, IsNumbering}
-use Rattle.quilt_spell.specs.Changing.{with_layer, facts_in, is_among, facts_alone, records_with, records_alone, IsKept, IsOne, LeadsTo, IsEdited, lost}
+use Rattle.quilt_spell.specs.Changing.{with_layer, facts_in, is_among, facts_alone, records_with, records_alone, KeepsCapacity, IsOne, LeadsTo, IsEdited, lost}
 use Rattle.quilt_loc.proofs.Members.{Contains-nil, Contains-map, Contains-map_from, Contains-filter, Contains-filter_from}
 use Rattle.quilt_spell.proofs.Lists.{Apart-filter, Apart-map, same_length}
 use Rattle.quilt_spell.proofs.Maps.{same_or_not}
@@ -41,7 +41,7 @@ record_with_is n name number layer l fs f e c =
     subst (λ (o : Option Layer). Contains (records_with n name number o fs) (record_of n (capacity_of l) name number f)) (sym e)
     (Contains-map (record_of n (capacity_of l) name number) fs f c)
 
-pub same_capacity : (a b : Option Layer) (l m : Layer) → IsKept a b → a ≡ Some l → b ≡ Some m → capacity_of l ≡ capacity_of m
+pub same_capacity : (a b : Option Layer) (l m : Layer) → KeepsCapacity a b → a ≡ Some l → b ≡ Some m → capacity_of l ≡ capacity_of m
 same_capacity None b l m h e k = cc
 same_capacity (Some x) None l m h e k = cc
 same_capacity (Some x) (Some y) l m h e k =
@@ -76,7 +76,7 @@ module _ (form n : ℕ) (layers : Map) (numbers after : Numbering) (name : List 
     (was : (l : Layer) → finmap.get layers name ≡ Some l → number_of numbers name ≡ number)
     (is : (l : Layer) → new ≡ Some l → number_of after name ≡ number)
     (others : (b : List ℕ) → (b ≡ name → ⊥) → number_of after b ≡ number_of numbers b)
-    (kept : IsKept (finmap.get layers name) new) (removed added : List Record)
+    (kept : KeepsCapacity (finmap.get layers name) new) (removed added : List Record)
     (leads : LeadsTo n name number (finmap.get layers name) new removed added) where
   abbrev old : Option Layer
   old = finmap.get layers name

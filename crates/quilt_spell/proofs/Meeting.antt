@@ -12,7 +12,7 @@ use Rattle.quilt_record.specs.declared.record.Record.{Record}
 use Rattle.quilt_record.specs.Records.{Numbering, records_of, record_of}
 use Rattle.quilt_spell.specs.Written.{IsNumbering}
 use Rattle.quilt_spell.specs.Spelled.{SpellsUnder}
-use Rattle.quilt_spell.specs.Changing.{IsKept, IsOne, records_alone}
+use Rattle.quilt_spell.specs.Changing.{KeepsCapacity, IsOne, records_alone}
 use Rattle.quilt_spell.specs.Stepping.{IsPlaced, IsStep}
 use Rattle.quilt_loc.proofs.Members.{Contains-nil}
 use Rattle.quilt_spell.proofs.Written.{written_from, written_is, records_ascend}
@@ -64,7 +64,7 @@ numbers_len layers numbers num =
 -- each change of a layer has a plan
 pub plan_exists : (form n : ℕ) (numbers : Numbering) (rs : List Record) (layers : Map) (name : List ℕ) (number : ℕ) (new : Option Layer) → n ≤ 12
     → SpellsUnder form n numbers rs layers
-    → IsOne form n new → IsKept (finmap.get layers name) new → IsPlaced layers numbers name number (finmap.get layers name)
+    → IsOne form n new → KeepsCapacity (finmap.get layers name) new → IsPlaced layers numbers name number (finmap.get layers name)
     → IsStep form n layers numbers name number new (records_alone n name number (finmap.get layers name) new)
     (records_alone n name number new (finmap.get layers name))
 plan_exists form n numbers rs layers name number new le s fits kept placed =

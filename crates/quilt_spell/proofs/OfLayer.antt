@@ -14,7 +14,7 @@ use Rattle.quilt_record.specs.Records.{Numbering, capacity_of, record_of}
 use Rattle.quilt_loc.specs.Codes.{Rises}
 use Rattle.quilt_spell.specs.Written.{number_of, number_in, by_key, layer_records, IsWritten, IsNumbering}
 use Rattle.quilt_spell.specs.Spelled.{SpellsUnder}
-use Rattle.quilt_spell.specs.Changing.{facts_in, is_among, facts_alone, records_with, records_alone, IsKept, IsOne, LeadsTo}
+use Rattle.quilt_spell.specs.Changing.{facts_in, is_among, facts_alone, records_with, records_alone, KeepsCapacity, IsOne, LeadsTo}
 use Rattle.quilt_spell.specs.OfLayer.{kind_fact, kind_record, SpellsLayer, leaf_record, SpellsRegion}
 use Rattle.quilt_loc.proofs.Members.{Contains-here, Contains-there, Contains-cons_cases, Contains-map, Contains-map_from, Contains-filter, Contains-filter_from}
 use Rattle.quilt_loc.proofs.Rising.{Rises-filter}
@@ -166,7 +166,7 @@ module _ (form n : ℕ) (layers : Map) (numbers : Numbering) (name : List ℕ) (
     (num : IsNumbering layers numbers) (fits : IsOne form n new)
     (was : (l : Layer) → finmap.get layers name ≡ Some l → number_of numbers name ≡ number)
     (free : finmap.get layers name ≡ None → (b : List ℕ) → finmap.get numbers b ≡ Some number → ⊥)
-    (kept : IsKept (finmap.get layers name) new) (removed added : List Record)
+    (kept : KeepsCapacity (finmap.get layers name) new) (removed added : List Record)
     (leads : LeadsTo n name number (finmap.get layers name) new removed added) where
   none_or_some : (o : Option Layer) → (o ≡ None) ⊎ ((l : Layer) × (o ≡ Some l))
   none_or_some None = inl refl

@@ -11,7 +11,7 @@ use Rattle.quilt_record.specs.Records.{Numbering, capacity_of}
 use Rattle.quilt_loc.specs.Codes.{Rises}
 use Rattle.quilt_spell.specs.Written.{number_of, by_key, IsNumbering}
 use Rattle.quilt_spell.specs.Spelled.{SpellsUnder}
-use Rattle.quilt_spell.specs.Changing.{with_layer, IsKept, LeadsTo, IsEdited}
+use Rattle.quilt_spell.specs.Changing.{with_layer, KeepsCapacity, LeadsTo, IsEdited}
 use Rattle.quilt_spell.proofs.Maps.{same_or_not, get_inserted, get_others, get_removed, get_kept, entry_from_get, get_from_entry}
 use Rattle.quilt_spell.proofs.Spelling.{all_from}
 use Rattle.quilt_spell.proofs.Changes.{got_here, got_there}
@@ -170,7 +170,7 @@ module _ (form n : ℕ) (numbers : Numbering) (rs now : List Record) (layers : M
         written =
             edited_members form n layers numbers numbers name number (Some new) le (number_fits layers numbers s.numbering name old was).0 s.map s.numbering
             (λ l _. refl) (λ l _. refl) (λ b _. refl)
-            (subst (λ (o : Option Layer). IsKept o (Some new)) (sym was) kept) removed added
+            (subst (λ (o : Option Layer). KeepsCapacity o (Some new)) (sym was) kept) removed added
             (subst (λ (o : Option Layer). LeadsTo n name number o (Some new) removed added) (sym was) leads)
             rs now s.written edited;
       }
@@ -188,7 +188,7 @@ module _ (form n : ℕ) (numbers : Numbering) (rs now : List Record) (layers : M
         (λ l e. let no : None ≡ Some l = sym was ∙ e in cc)
         (λ l _. number_at (finmap.insert numbers name number) name number (get_inserted (slice_cmp nat_cmp) nat_list_cmp_total name_same numbers name number))
         (λ b d. ap (λ o. unwrap_or o 0) (get_others (slice_cmp nat_cmp) nat_list_cmp_total name_same numbers name number b d))
-        (subst (λ (o : Option Layer). IsKept o (Some new)) (sym was) tt) removed added
+        (subst (λ (o : Option Layer). KeepsCapacity o (Some new)) (sym was) tt) removed added
         (subst (λ (o : Option Layer). LeadsTo n name number o (Some new) removed added) (sym was) leads)
         rs now s.written edited;
   }
@@ -206,7 +206,7 @@ module _ (form n : ℕ) (numbers : Numbering) (rs now : List Record) (layers : M
             (number_fits layers numbers s.numbering name old was).0 s.map s.numbering
             (λ l _. refl) (λ l e. let no : None ≡ Some l = e in cc)
             (λ b d. ap (λ o. unwrap_or o 0) (get_kept (slice_cmp nat_cmp) nat_list_cmp_total name_same numbers name b d))
-            (subst (λ (o : Option Layer). IsKept o None) (sym was) tt) removed added
+            (subst (λ (o : Option Layer). KeepsCapacity o None) (sym was) tt) removed added
             (subst (λ (o : Option Layer). LeadsTo n name number o None removed added) (sym was) leads)
             rs now s.written edited;
       }

@@ -18,7 +18,7 @@ use Rattle.quilt_loc.specs.Codes.{Rises}
 use Rattle.quilt_spell.specs.Apart.{Apart}
 use Rattle.quilt_spell.specs.Written.{number_of, by_key}
 use Rattle.quilt_spell.specs.Spelled.{SpellsUnder}
-use Rattle.quilt_spell.specs.Changing.{with_layer, with_number, facts_in, facts_alone, IsKept, IsOne, LeadsTo, IsEdited}
+use Rattle.quilt_spell.specs.Changing.{with_layer, with_number, facts_in, facts_alone, KeepsCapacity, IsOne, LeadsTo, IsEdited}
 use Rattle.quilt_spell.specs.OfLayer.{kind_record}
 use Rattle.quilt_spell.specs.Stepping.{IsPlaced, IsStep}
 use Rattle.quilt_loc.proofs.Members.{Contains-range_from}
@@ -132,7 +132,7 @@ module _ (form n : ℕ) (numbers : Numbering) (rs : List Record) (layers : Map) 
           (subst (λ (o : Option Layer). LeadsTo n name number o None removed added) e step.leads))
       by_case (Some l) (Some m) e some step =
           let p = subst (IsPlaced layers numbers name number) e step.placed in
-          let kept = subst (λ (o : Option Layer). IsKept o (Some m)) e step.kept in
+          let kept = subst (λ (o : Option Layer). KeepsCapacity o (Some m)) e step.kept in
           let done = layer_becomes form n numbers rs now layers le s name removed added up edited l m e step.fits kept
           (subst (λ (k : ℕ). LeadsTo n name k (Some l) (Some m) removed added) p
           (subst (λ (o : Option Layer). LeadsTo n name number o (Some m) removed added) e step.leads)) in

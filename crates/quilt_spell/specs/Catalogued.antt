@@ -15,9 +15,9 @@ kind_of (Points capacity points) = kinds.Points capacity
 kind_of (Lines threshold segs cover) = kinds.Lines threshold
 
 -- the entry of a layer under its name
-abbrev pub entry_of : Numbering → List ℕ × Layer → Entry
-entry_of numbers e = record { number = number_of numbers e.0; name = e.0; kind = kind_of e.1 }
+abbrev pub catalog_entry : Numbering → List ℕ × Layer → Entry
+catalog_entry numbers e = record { number = number_of numbers e.0; name = e.0; kind = kind_of e.1 }
 
 -- the entries are those of the map's layers under these numbers, in the order of the names
 pub record IsCatalogOf (layers : Map) (numbers : Numbering) (entries : List Entry) : Type 0 where
-  pub each : entries ≡ map (entry_of numbers) (finmap.entries layers)
+  pub each : entries ≡ map (catalog_entry numbers) (finmap.entries layers)

@@ -45,9 +45,9 @@ abbrev pub records_alone : ℕ → List ℕ → ℕ → Option Layer → Option 
 records_alone n name number a b = records_with n name number a (facts_alone n a b)
 
 -- A layer under a name may become the other: a block holds as many points at most.
-abbrev pub IsKept : Option Layer → Option Layer → Type 0
-IsKept (Some a) (Some b) = capacity_of a ≡ capacity_of b
-IsKept a b = Unit {0}
+abbrev pub KeepsCapacity : Option Layer → Option Layer → Type 0
+KeepsCapacity (Some a) (Some b) = capacity_of a ≡ capacity_of b
+KeepsCapacity a b = Unit {0}
 
 -- where there is a layer, its values are those of one of this format and level
 abbrev pub IsOne : ℕ → ℕ → Option Layer → Type 0

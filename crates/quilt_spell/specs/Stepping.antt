@@ -5,7 +5,7 @@ use Rattle.quilt_types.specs.Layers.{Layer, Map, is_name}
 use Rattle.quilt_record.specs.declared.record.Record.{Record}
 use Rattle.quilt_record.specs.Records.{Numbering}
 use Rattle.quilt_spell.specs.Written.{number_of}
-use Rattle.quilt_spell.specs.Changing.{IsKept, IsOne, LeadsTo}
+use Rattle.quilt_spell.specs.Changing.{KeepsCapacity, IsOne, LeadsTo}
 
 -- a name that may come, with a number that no other has
 pub record IsFree (layers : Map) (numbers : Numbering) (name : List ℕ) (number : ℕ) : Type 0 where
@@ -24,6 +24,6 @@ IsPlaced layers numbers name number (Some layer) = number ≡ number_of numbers 
 pub record IsStep (form n : ℕ) (layers : Map) (numbers : Numbering) (name : List ℕ) (number : ℕ) (new : Option Layer)
     (removed added : List Record) : Type 0 where
   pub fits : IsOne form n new
-  pub kept : IsKept (finmap.get layers name) new
+  pub kept : KeepsCapacity (finmap.get layers name) new
   pub placed : IsPlaced layers numbers name number (finmap.get layers name)
   pub leads : LeadsTo n name number (finmap.get layers name) new removed added

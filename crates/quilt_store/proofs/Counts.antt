@@ -11,7 +11,7 @@ use Rattle.std.proofs.lemmas.Bool.{cases_lt, lt-ltb}
 use Rattle.std.specs.Option.{is_some}
 use Rattle.std.proofs.lemmas.List.{replicate-append-replicate}
 use Rattle.quilt_store.specs.Store.{count_free}
-use Rattle.quilt_store.specs.Memory.{is_free}
+use Rattle.quilt_store.specs.Memory.{is_free_place}
 
 abbrev pub count : List Bool → ℕ
 count free = length (filter (λ b. b) free)
@@ -29,27 +29,27 @@ count_most (false ∷ free) =
     let rest = count_most free in
     omega arith
 
-pub count_behind : (pre xs : List Bool) (k : ℕ) → k ≡ length pre → length (filter (is_free (pre ++ xs)) (range_with_len k (length xs))) ≡ count xs
+pub count_behind : (pre xs : List Bool) (k : ℕ) → k ≡ length pre → length (filter (is_free_place (pre ++ xs)) (range_with_len k (length xs))) ≡ count xs
 count_behind pre [] k e = refl
 count_behind pre (x ∷ xs) k e =
-    let here : is_free (pre ++ x ∷ xs) k ≡ x = ap (λ m. get_or (pre ++ x ∷ xs) m false) e ∙ get_or-append_seam pre x xs false in
+    let here : is_free_place (pre ++ x ∷ xs) k ≡ x = ap (λ m. get_or (pre ++ x ∷ xs) m false) e ∙ get_or-append_seam pre x xs false in
     let next : k + 1 ≡ length (pre ++ x ∷ []) = omega (arith, e, length-append pre (x ∷ [])) in
-    let rest : length (filter (is_free (pre ++ x ∷ xs)) (range_with_len (k + 1) (length xs))) ≡ count xs =
-    ap (λ l. length (filter (is_free l) (range_with_len (k + 1) (length xs)))) (sym (append_assoc pre (x ∷ []) xs))
+    let rest : length (filter (is_free_place (pre ++ x ∷ xs)) (range_with_len (k + 1) (length xs))) ≡ count xs =
+    ap (λ l. length (filter (is_free_place l) (range_with_len (k + 1) (length xs)))) (sym (append_assoc pre (x ∷ []) xs))
     ∙ count_behind (pre ++ x ∷ []) xs (k + 1) next in
-    ap (λ b. length (cond b (k ∷ filter (is_free (pre ++ x ∷ xs)) (range_with_len (k + 1) (length xs)))
-    (filter (is_free (pre ++ x ∷ xs)) (range_with_len (k + 1) (length xs))))) here
-    ∙ (by_case x (filter (is_free (pre ++ x ∷ xs)) (range_with_len (k + 1) (length xs))) (count xs) rest ∙ sym (count_cons x xs))
+    ap (λ b. length (cond b (k ∷ filter (is_free_place (pre ++ x ∷ xs)) (range_with_len (k + 1) (length xs)))
+    (filter (is_free_place (pre ++ x ∷ xs)) (range_with_len (k + 1) (length xs))))) here
+    ∙ (by_case x (filter (is_free_place (pre ++ x ∷ xs)) (range_with_len (k + 1) (length xs))) (count xs) rest ∙ sym (count_cons x xs))
   where
     by_case : (x : Bool) (l : List ℕ) (n : ℕ) → length l ≡ n → length (cond x (k ∷ l) l) ≡ cond x 1 0 + n
     by_case true l n h = ap suc h ∙ sym (one-add n)
     by_case false l n h = h ∙ sym (zero-add n)
 
 abbrev pub AreFromOne : List Bool → ℕ → Type 0
-AreFromOne free size = (page : ℕ) → is_free free page ≡ true → (1 ≤ page) × (page < size)
+AreFromOne free size = (page : ℕ) → is_free_place free page ≡ true → (1 ≤ page) × (page < size)
 
 -- the pages from 1 on, where only these are free
-pub count_of_free : (free : List Bool) (size : ℕ) → AreFromOne free size → length free ≡ size → 1 ≤ size → count_free (is_free free) size ≡ count free
+pub count_of_free : (free : List Bool) (size : ℕ) → AreFromOne free size → length free ≡ size → 1 ≤ size → count_free (is_free_place free) size ≡ count free
 count_of_free [] size f e some = absurd (omega arith)
 count_of_free (true ∷ free) size f e some = absurd (none (f 0 refl).0)
   where
@@ -57,7 +57,7 @@ count_of_free (true ∷ free) size f e some = absurd (none (f 0 refl).0)
     none h = omega arith
 count_of_free (false ∷ free) size f e some =
     let n : size - 1 ≡ length free = omega arith in
-    ap (λ m. length (filter (is_free (false ∷ free)) (range_with_len 1 m))) n ∙ count_behind (false ∷ []) free 1 refl
+    ap (λ m. length (filter (is_free_place (false ∷ free)) (range_with_len 1 m))) n ∙ count_behind (false ∷ []) free 1 refl
 
 first_below : (free : List Bool) → 0 < count free → position_or_len (λ b. b) free < length free
 first_below [] h = absurd (omega arith)
@@ -69,7 +69,7 @@ first_below (false ∷ free) h =
 
 -- no page before a place is free
 abbrev pub NoneBelow : List Bool → ℕ → Type 0
-NoneBelow free n = (page : ℕ) → page < n → is_free free page ≡ false
+NoneBelow free n = (page : ℕ) → page < n → is_free_place free page ≡ false
 
 count_from : (free : List Bool) (n : ℕ) → NoneBelow free n → count (drop n free) ≡ count free
 count_from free zero f = refl
@@ -81,7 +81,7 @@ count_from (b ∷ free) (suc n) f =
 
 -- a page that is free is found from there on
 pub found : (free : List Bool) (size n : ℕ) → AreFromOne free size → NoneBelow free n → length free ≡ size → 1 ≤ size
-    → 0 < count_free (is_free free) size → IsSome (position (λ b. b) (drop n free))
+    → 0 < count_free (is_free_place free) size → IsSome (position (λ b. b) (drop n free))
 found free size n f low e some h =
     let many : 0 < count free = subst (λ n. 0 < n) (count_of_free free size f e some) h in
     let left : 0 < count (drop n free) = subst (λ m. 0 < m) (sym (count_from free n low)) many in
@@ -91,7 +91,7 @@ found free size n f low e some h =
 -- the page is free, and none before it is
 pub record IsLowest (free : List Bool) (page : ℕ) : Type 0 where
   pub in_range : page < length free
-  pub is : is_free free page ≡ true
+  pub is : is_free_place free page ≡ true
   pub below : NoneBelow free page
 
 -- the first that is free from there on
@@ -104,17 +104,17 @@ lowest_at free n i low is =
       below = λ page h. elim (cases_lt page n) [ inl lt ↦ low page lt | inr ge ↦ ahead page h ge ];
     }
   where
-    ahead : (page : ℕ) → page < n + i → n ≤ page → is_free free page ≡ false
+    ahead : (page : ℕ) → page < n + i → n ≤ page → is_free_place free page ≡ false
     ahead page h ge =
         let p = position-Some (λ b. b) (drop n free) i false is in
         let at : n + (page - n) ≡ page = omega arith in
-        subst (λ q. is_free free q ≡ false) at (sym (get_or-drop n free (page - n) false) ∙ p.2 (page - n) (omega arith))
+        subst (λ q. is_free_place free q ≡ false) at (sym (get_or-drop n free (page - n) false) ∙ p.2 (page - n) (omega arith))
 
 -- what is written behind a place, or at it, leaves the pages before it
 pub none_below : (free : List Bool) (n i m : ℕ) (b : Bool) → NoneBelow free n → m ≤ n → m ≤ i → NoneBelow (set free i b) m
 none_below free n i m b low le here page h = get_or-set_other free i page b false (omega arith) ∙ low page (omega arith)
 
-still_free : (free : List Bool) (i page : ℕ) → is_free (set free i false) page ≡ true → is_free free page ≡ true
+still_free : (free : List Bool) (i page : ℕ) → is_free_place (set free i false) page ≡ true → is_free_place free page ≡ true
 still_free [] i page h = h
 still_free (b ∷ free) zero zero h = absurd (false_true h)
   where
@@ -124,7 +124,7 @@ still_free (b ∷ free) zero (suc page) h = h
 still_free (b ∷ free) (suc i) zero h = h
 still_free (b ∷ free) (suc i) (suc page) h = still_free free i page h
 
-count_taken : (free : List Bool) (i : ℕ) → is_free free i ≡ true → count free ≡ count (set free i false) + 1
+count_taken : (free : List Bool) (i : ℕ) → is_free_place free i ≡ true → count free ≡ count (set free i false) + 1
 count_taken [] i h = absurd (false_true h)
   where
     false_true : false ≡ true → ⊥
@@ -137,20 +137,20 @@ count_taken (b ∷ free) (suc i) h =
     omega (arith, count_cons b free, count_cons b (set free i false))
 
 -- it is no longer free
-pub taken : (free : List Bool) (size i n : ℕ) → AreFromOne free size → is_free free i ≡ true → n ≡ count free → (AreFromOne (set free i false) size)
+pub taken : (free : List Bool) (size i n : ℕ) → AreFromOne free size → is_free_place free i ≡ true → n ≡ count free → (AreFromOne (set free i false) size)
     × (n - 1 ≡ count (set free i false))
 taken free size i n f h e =
     let one = count_taken free i h in
     ((λ page k. f page (still_free free i page k)), omega arith)
 
-free_or_given : (free : List Bool) (i page : ℕ) → is_free (set free i true) page ≡ true → (is_free free page ≡ true) ⊎ (page ≡ i)
+free_or_given : (free : List Bool) (i page : ℕ) → is_free_place (set free i true) page ≡ true → (is_free_place free page ≡ true) ⊎ (page ≡ i)
 free_or_given [] i page h = inl h
 free_or_given (b ∷ free) zero zero h = inr refl
 free_or_given (b ∷ free) zero (suc page) h = inl h
 free_or_given (b ∷ free) (suc i) zero h = inl h
 free_or_given (b ∷ free) (suc i) (suc page) h = elim (free_or_given free i page h) [ inl k ↦ inl k | inr e ↦ inr (ap suc e) ]
 
-count_given : (free : List Bool) (i : ℕ) → i < length free → is_free free i ≡ false → count (set free i true) ≡ count free + 1
+count_given : (free : List Bool) (i : ℕ) → i < length free → is_free_place free i ≡ false → count (set free i true) ≡ count free + 1
 count_given [] i lt h = absurd (omega arith)
 count_given (b ∷ free) zero lt h =
     let none : cond {A = ℕ} b 1 0 ≡ 0 = ap (λ c. cond {A = ℕ} c 1 0) h in
@@ -161,7 +161,7 @@ count_given (b ∷ free) (suc i) lt h =
     omega (arith, count_cons b free, count_cons b (set free i true))
 
 -- it is free again
-pub given : (free : List Bool) (size i n : ℕ) → AreFromOne free size → length free ≡ size → (1 ≤ i) × (i < size) → is_free free i ≡ false → n ≡ count free
+pub given : (free : List Bool) (size i n : ℕ) → AreFromOne free size → length free ≡ size → (1 ≤ i) × (i < size) → is_free_place free i ≡ false → n ≡ count free
     → (AreFromOne (set free i true) size) × (n + 1 ≡ count (set free i true)) × (n + 1 ≤ size)
 given free size i n f e lt h m =
     let short : i < length free = subst (λ k. i < k) (sym e) lt.1 in
@@ -175,7 +175,7 @@ pub record AreFresh (pages : List (List ℕ)) (free : List Bool) (n : ℕ) : Typ
   pub zeros : pages ≡ replicate n (replicate 4096 0)
   pub tests : length free ≡ n
   pub from_one : AreFromOne free n
-  pub are_free : (page : ℕ) → 1 ≤ page → page < n → is_free free page ≡ true
+  pub are_free : (page : ℕ) → 1 ≤ page → page < n → is_free_place free page ≡ true
   pub counted : count free ≡ n - 1
 
 pub none_yet : AreFresh [] [] 0
@@ -187,16 +187,16 @@ none_yet = record {
   counted = refl;
 }
   where
-    true_false : (page : ℕ) → is_free [] page ≡ true → ⊥
+    true_false : (page : ℕ) → is_free_place [] page ≡ true → ⊥
     true_false page e = cc
 
-pushed : (free : List Bool) (b : Bool) (page : ℕ) → is_free (free ++ b ∷ []) page ≡ true → (is_free free page ≡ true) ⊎ ((page ≡ length free) × (b ≡ true))
+pushed : (free : List Bool) (b : Bool) (page : ℕ) → is_free_place (free ++ b ∷ []) page ≡ true → (is_free_place free page ≡ true) ⊎ ((page ≡ length free) × (b ≡ true))
 pushed [] b zero h = inr (refl, h)
 pushed [] b (suc page) h = inl h
 pushed (c ∷ free) b zero h = inl h
 pushed (c ∷ free) b (suc page) h = elim (pushed free b page h) [ inl k ↦ inl k | inr e ↦ inr (ap suc e.0, e.1) ]
 
-stays : (free : List Bool) (b : Bool) (page : ℕ) → is_free free page ≡ true → is_free (free ++ b ∷ []) page ≡ true
+stays : (free : List Bool) (b : Bool) (page : ℕ) → is_free_place free page ≡ true → is_free_place (free ++ b ∷ []) page ≡ true
 stays [] b page h = absurd (false_true h)
   where
     false_true : false ≡ true → ⊥
@@ -243,8 +243,8 @@ one_more pages free n b e f = record {
     last : (page : ℕ) → page ≡ n → 1 ≤ n → (1 ≤ page) × (page < n + 1)
     last page g h = (omega arith, omega arith)
 
-    here : (page : ℕ) → 1 ≤ page → page < n + 1 → n ≤ page → is_free (free ++ b ∷ []) page ≡ true
+    here : (page : ℕ) → 1 ≤ page → page < n + 1 → n ≤ page → is_free_place (free ++ b ∷ []) page ≡ true
     here page h k ge =
         let at : page ≡ length free = omega (arith, f.tests) in
         let some : 0 < n = omega arith in
-        ap (is_free (free ++ b ∷ [])) at ∙ get_or-append_seam free b [] false ∙ e ∙ lt-ltb 0 n some
+        ap (is_free_place (free ++ b ∷ [])) at ∙ get_or-append_seam free b [] false ∙ e ∙ lt-ltb 0 n some

@@ -10,5 +10,5 @@ pub record HasStopCause {T : Type 0} (before now : ℕ) (result : Result T Stop)
   pub device : IsErrOf result Device → Rose before now
 
 -- no page is said to be damaged
-abbrev pub IsSound : Stop → Type 0
-IsSound stop = (page : ℕ) → stop ≢ Damaged page
+abbrev pub IsNotDamage : Stop → Type 0
+IsNotDamage stop = (page : ℕ) → stop ≢ Damaged page

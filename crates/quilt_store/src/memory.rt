@@ -1,6 +1,6 @@
 ghost use Rattle.std.specs.Prelude.{◌≡◌, ◌+◌, ◌<◌, ◌≤◌, ℕ, true, false, length, replicate, Some, None, IfOk, IsOk, slice_index_or, slice_set, [], filter};
 ghost use Rattle.std.specs.Prelude.{drop, position, refl};
-ghost use Rattle.quilt_store.specs.Memory.{is_free};
+ghost use Rattle.quilt_store.specs.Memory.{is_free_place};
 
 use crate::{PageStore, StoreErr};
 use std::alloc::{AllocError, Global};
@@ -16,10 +16,10 @@ pub struct MemStore {
     ghost least: { 16 ≤ length pages.items },
     ghost most: { length pages.items ≤ 30000 },
     ghost tests: { length free.items ≡ length pages.items },
-    ghost from_one: { (page : ℕ) → is_free free.items page ≡ true → (1 ≤ page) × (page < length pages.items) },
+    ghost from_one: { (page : ℕ) → is_free_place free.items page ≡ true → (1 ≤ page) × (page < length pages.items) },
     ghost counted: { count ≡ length (filter (λ b. b) free.items) },
     ghost reaches: { lowest ≤ length free.items },
-    ghost below: { (page : ℕ) → page < lowest → is_free free.items page ≡ false },
+    ghost below: { (page : ℕ) → page < lowest → is_free_place free.items page ≡ false },
 }
 
 impl MemStore {
@@ -68,7 +68,7 @@ impl PageStore for MemStore {
 
     ghost told = { λ s. Some s.pages.items };
 
-    ghost free = { λ s. is_free s.free.items };
+    ghost free = { λ s. is_free_place s.free.items };
 
     ghost faults = { λ s. 0 };
 
@@ -112,7 +112,7 @@ impl PageStore for MemStore {
 
     fn write(&mut self, page: u32, bytes: &[u8; 4096]) -> Result<(), StoreErr>
         requires page { (1 ≤ page) × (page < length self.old.pages.items) }
-        requires taken { is_free self.old.free.items page ≡ false }
+        requires taken { is_free_place self.old.free.items page ≡ false }
         ensures ok { IsOk result }
         ensures pages { self.new.pages.items ≡ slice_set self.old.pages.items page bytes.now }
         ensures free { self.new.free.items ≡ self.old.free.items }

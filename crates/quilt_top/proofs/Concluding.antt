@@ -27,7 +27,7 @@ use Rattle.quilt_top.specs.Headline.{IsOneOf, IsStop, all_done, RunsText, summar
 use Rattle.quilt_top.specs.Openings.{run_ends, is_run_end, end_of}
 use Rattle.quilt_top.specs.Saying.{Says, SaysPrefix}
 use Rattle.quilt_top.specs.TextRun.{IsUntold, run_in}
-use Rattle.quilt_top.specs.Trying.{StandsForOne, StandsForLast, Tries, Tried, trial_run, Concludes, TriesPrefix, TriesWhole, TriesTo}
+use Rattle.quilt_top.specs.Trying.{StandsForOne, StandsForLast, TriesCommands, Tried, trial_run, Concludes, TriesPrefix, TriesWhole, TriesTo}
 use Rattle.quilt_top.proofs.logs.Events.{put_bytes-append, taken_bytes-append, nothing_taken, pages_untaken, pages_unput}
 use Rattle.quilt_top.proofs.turns.Fine.{moved}
 use Rattle.quilt_top.proofs.logs.Prefixes.{front_split, only_front, same_events, stops_at}
@@ -37,21 +37,21 @@ use Rattle.quilt_top.proofs.turns.Trials.{tries_none, one_first}
 
 -- ---- what is put
 
-concludes_none : (r : Run) (t u : Tale) → Tries r t u → Concludes r [] t u
+concludes_none : (r : Run) (t u : Tale) → TriesCommands r t u → Concludes r [] t u
 concludes_none r t u tries = record { middle = u; tries = tries; left = λ some. absurd (some refl); says = says_nothing u; text = adds_only_none is_of_text u }
 
 -- nothing of the summary is put
-front_none : (n : ℕ) (r : Run) (t u : Tale) → Tries r t u → TriesPrefix n r t u
+front_none : (n : ℕ) (r : Run) (t u : Tale) → TriesCommands r t u → TriesPrefix n r t u
 front_none n r t u tries = record { said = []; front = (summary n r, refl); concludes = concludes_none r t u tries }
 
 -- where pages alone were written
-pub tries_pages : (r : Run) (o m : Option Tale) → Goes (Tries r) o m → Goes (AddsOnly is_of_pages) o m
-tries_pages r o m tries = goes_weaker (Tries r) (AddsOnly is_of_pages) o m tries (λ t u so. so.pages)
+pub tries_pages : (r : Run) (o m : Option Tale) → Goes (TriesCommands r) o m → Goes (AddsOnly is_of_pages) o m
+tries_pages r o m tries = goes_weaker (TriesCommands r) (AddsOnly is_of_pages) o m tries (λ t u so. so.pages)
 
-pub goes_none : (n : ℕ) (r : Run) (o m : Option Tale) → Goes (Tries r) o m → Goes (TriesPrefix n r) o m
+pub goes_none : (n : ℕ) (r : Run) (o m : Option Tale) → Goes (TriesCommands r) o m → Goes (TriesPrefix n r) o m
 goes_none n r o m tries = goes_weaker _ _ o m tries (λ t u so. front_none n r t u so)
 
-pub goes_part : (n : ℕ) (r : Run) (all : List ℕ) (o m k : Option Tale) → all ≡ summary n r → Goes (Tries r) o m
+pub goes_part : (n : ℕ) (r : Run) (all : List ℕ) (o m k : Option Tale) → all ≡ summary n r → Goes (TriesCommands r) o m
     → IfSome m (λ t. LeavesNow t (StandsForLast r)) → Goes (SaysPrefix all) m k → Goes (AddsOnly is_of_text) m k
     → Goes (TriesPrefix n r) o k
 goes_part n r all None None None is tries leaves says text = tt
@@ -65,7 +65,7 @@ goes_part n r all (Some t) (Some u) (Some v) is tries leaves says text = record 
   concludes = record { middle = u; tries = tries; left = λ some. leaves; says = says.says; text = text };
 }
 
-pub goes_whole : (n : ℕ) (r : Run) (flag : Bool) (all : List ℕ) (o m k : Option Tale) → all ≡ summary n r → flag ≡ all_done r → Goes (Tries r) o m
+pub goes_whole : (n : ℕ) (r : Run) (flag : Bool) (all : List ℕ) (o m k : Option Tale) → all ≡ summary n r → flag ≡ all_done r → Goes (TriesCommands r) o m
     → IfSome m (λ t. LeavesNow t (StandsForLast r)) → Goes (Says all) m k
     → Goes (AddsOnly is_of_text) m k → IfSome k (λ t. StandsForLast r t.seen) → Goes (TriesWhole n r flag) o k
 goes_whole n r flag all None None None is done tries leaves says text last = tt
@@ -92,8 +92,8 @@ module _ (n k seed count : ℕ) (text : List ℕ) (level : k ≡ n) (is : text �
   same_text : (P : ℕ → List ℕ → Type 0) → P k text → P n (trial_text seed count n)
   same_text P p = subst (λ (l : List ℕ). P n l) is (subst (λ j. P j text) level p)
 
-  pub tries_as : (s : State) (o m : Option Tale) → Goes (Tries (run_in s (items_of k text))) o m → Goes (Tries (trial_run n s seed count)) o m
-  tries_as s o m tries = same_text (λ j l. Goes (Tries (run_in s (items_of j l))) o m) tries
+  pub tries_as : (s : State) (o m : Option Tale) → Goes (TriesCommands (run_in s (items_of k text))) o m → Goes (TriesCommands (trial_run n s seed count)) o m
+  tries_as s o m tries = same_text (λ j l. Goes (TriesCommands (run_in s (items_of j l))) o m) tries
 
   pub tried_as : (s now : State) (tally : Tally) → Tried k text [] s now tally → Tried n (trial_text seed count n) [] s now tally
   tried_as s now tally tried = same_text (λ j l. Tried j l [] s now tally) tried

@@ -13,7 +13,7 @@ use Rattle.quilt_top.specs.Replies.{state_after, replies_from, said_for}
 use Rattle.quilt_top.specs.Saying.{Says}
 
 -- these items were given, answered and their replies put
-pub record Answered (ended : Bool) (n : ℕ) (so_far flag : Bool) (s0 s1 : State) (c0 c1 : ℕ) (r0 r1 : List ℕ) (old new : Option Tale) : Type 0 where
+pub record ItemsAnswered (ended : Bool) (n : ℕ) (so_far flag : Bool) (s0 s1 : State) (c0 c1 : ℕ) (r0 r1 : List ℕ) (old new : Option Tale) : Type 0 where
   pub items : List Group
   pub gives : Gives ended n items r0 r1
   pub state : s1 ≡ state_after s0 items

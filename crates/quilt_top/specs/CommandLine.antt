@@ -5,8 +5,8 @@ use Rattle.clap.specs.declared.parser.matches.ArgMatches.{ArgMatches}
 use Rattle.quilt_top.specs.Words as table
 
 -- an argument that is read by its place
-abbrev pub placed : Text → Bool → Rule
-placed id required = record (new_rule id) { required = required }
+abbrev pub placed_argument : Text → Bool → Rule
+placed_argument id required = record (new_rule id) { required = required }
 
 -- the one option
 abbrev pub pool_option : Rule
@@ -20,8 +20,8 @@ bare = let app = new_app (codes "quilt") in
 -- four places, of which the last two may stay empty, and an option
 abbrev pub reader : App
 reader = with_rule (with_rule (with_rule (with_rule (with_rule bare
-    (placed (codes "mode") true)) (placed (codes "file") true))
-    (placed (codes "first") false)) (placed (codes "second") false)) pool_option
+    (placed_argument (codes "mode") true)) (placed_argument (codes "file") true))
+    (placed_argument (codes "first") false)) (placed_argument (codes "second") false)) pool_option
 
 -- the word of a place, where it has one
 abbrev pub listed : Option (List ℕ) → List (List ℕ)

@@ -24,17 +24,17 @@ use Rattle.quilt_edition.specs.Books as books
 use Rattle.quilt_map.specs.Sessions.{IsNumbered, IsOpened, changed_of, free_of, first_state}
 use Rattle.quilt_top.specs.declared.halt.Halt.{Halt}
 use Rattle.quilt_top.specs.declared.halt.Halt.TheVariants as halts
-use Rattle.quilt_top.specs.declared.opening.Opened.{Opened}
-use Rattle.quilt_top.specs.declared.opening.Opened.TheVariants as opened
-use Rattle.quilt_top.specs.declared.opening.Begun.{Begun}
-use Rattle.quilt_top.specs.declared.opening.Begun.TheVariants as begun
+use Rattle.quilt_top.specs.declared.opened.Opened.{Opened}
+use Rattle.quilt_top.specs.declared.opened.Opened.TheVariants as opened
+use Rattle.quilt_top.specs.declared.opened.Begun.{Begun}
+use Rattle.quilt_top.specs.declared.opened.Begun.TheVariants as begun
 use Rattle.quilt_top.specs.declared.run.End.{End}
 use Rattle.quilt_top.specs.declared.run.End.TheVariants as ends
 use Rattle.quilt_top.specs.Headline.{IsOneOf, IsNoMap, StandsForNothing}
 use Rattle.quilt_top.specs.TextRun.{run_in, RunsFrom, RunsWhole, Overruns, EndsBetween}
 
 -- nothing was done yet
-pub record IsNew (t : Tale) : Type 0 where
+pub record HasNoEvents (t : Tale) : Type 0 where
   pub log : t.log ≡ []
 
 -- Pages alone are written: at each event a map file keeps its home pages, and another file is left alone.
@@ -60,16 +60,16 @@ module _ {W : Type 0} {D : disk.Ghosts W} where
     pub free : (page : ℕ) → free_of book page ≡ books.published_free book page
 
   -- the state over the edition that the file of such a book stands for
-  pub record IsFirst (book : Book W D) (catalog : List Entry) (s : State) : Type 0 where
+  pub record IsFirstState (book : Book W D) (catalog : List Entry) (s : State) : Type 0 where
     pub edition : Edition
     pub opened : IsOpened book catalog edition
     pub state : s ≡ first_state (books.pages_of book) edition
 
   -- the world that each answer holds
-  abbrev pub world_in : Opened W D → W
-  world_in (opened.Map book catalog) = books.world_of book.value
-  world_in (opened.NotMap world) = world
-  world_in (opened.Stopped world stop) = world
+  abbrev pub opened_world : Opened W D → W
+  opened_world (opened.Map book catalog) = books.world_of book.value
+  opened_world (opened.NotMap world) = world
+  opened_world (opened.Stopped world stop) = world
 
   -- nothing is changed yet
   abbrev pub IsUnchanged : Opened W D → Type 0
@@ -86,14 +86,14 @@ module _ {W : Type 0} {D : disk.Ghosts W} where
   -- what the home pages of a book with this header are found to hold
   abbrev pub HoldsAs : ℕ → Head → Pages → Opened W D → Type 0
   HoldsAs n last pages (opened.Map book catalog) =
-      (e : Edition) × HoldsEdition pages e × IsFirst book.value catalog (first_state n e)
+      (e : Edition) × HoldsEdition pages e × IsFirstState book.value catalog (first_state n e)
   HoldsAs n last pages (opened.NotMap world) = ⊥
   HoldsAs n last pages (opened.Stopped world stop) = (page : ℕ) → stop ≡ stops.Damaged page → IsDamage pages last page
 
   -- what a file is found to be
   abbrev pub FindsAt : Pages → Opened W D → Type 0
   FindsAt start (opened.Map book catalog) =
-      (n : ℕ) × IsMapFile start n × (e : Edition) × Stands start e × IsFirst book.value catalog (first_state n e)
+      (n : ℕ) × IsMapFile start n × (e : Edition) × Stands start e × IsFirstState book.value catalog (first_state n e)
   FindsAt start (opened.NotMap world) = IsNoMap start
   FindsAt start (opened.Stopped world stop) =
       (page : ℕ) → stop ≡ stops.Damaged page → (n : ℕ) × IsMapFile start n × IsDamagePage (home start n) page × StandsForNothing start

@@ -14,7 +14,7 @@ use Rattle.quilt_top.specs.Replies.{state_after, replies_from, said_for}
 use Rattle.quilt_top.specs.TextRun.{PromptAt, IsUntold}
 
 -- so many bytes were taken, of them these items were given and answered, and the rest is kept
-pub record Reading (n count : ℕ) (flag : Bool) (s0 s1 : State) (c1 : ℕ) (rest : List ℕ) (old new : Tale) : Type 0 where
+pub record ReadSoFar (n count : ℕ) (flag : Bool) (s0 s1 : State) (c1 : ℕ) (rest : List ℕ) (old new : Tale) : Type 0 where
   pub untold : IsUntold old
   pub leaves : LeavesNow old (λ image. Stands image s0.last)
   pub items : List Group

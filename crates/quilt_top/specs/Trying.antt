@@ -51,7 +51,7 @@ abbrev pub StandsForLast : Run → Pages → Type 0
 StandsForLast r image = (k : ℕ) × (k + 1 ≡ length r.editions) × IsEdition r k image
 
 -- commands of the run are applied: pages alone are written, and at each event a stop leaves some edition of the run
-pub record Tries (r : Run) (old new : Tale) : Type 0 where
+pub record TriesCommands (r : Run) (old new : Tale) : Type 0 where
   pub pages : AddsOnly is_of_pages old new
   pub stops : Since old new (StandsForOne r)
 
@@ -77,7 +77,7 @@ summary_of done refused records edition =
 -- The commands of the run are applied, and then these bytes are put. Where they are some, a stop leaves the last edition.
 pub record Concludes (r : Run) (said : List ℕ) (old new : Tale) : Type 0 where
   pub middle : Tale
-  pub tries : Tries r old middle
+  pub tries : TriesCommands r old middle
   pub left : (said ≡ [] → ⊥) → LeavesNow middle (StandsForLast r)
   pub says : Says said middle new
   pub text : AddsOnly is_of_text middle new

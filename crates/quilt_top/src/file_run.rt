@@ -5,12 +5,12 @@ ghost use Rattle.quilt_world.specs.Causes.{Rose};
 ghost use Rattle.quilt_world.specs.declared.disk.Door.TheVariants as doors;
 ghost use Rattle.quilt_edition.specs.Books as books;
 ghost use Rattle.quilt_replies.specs.Answers.{State};
-ghost use Rattle.quilt_map.specs.Sessions.{IsAt, IsReady, world_of, level_of, changes_of};
+ghost use Rattle.quilt_map.specs.Sessions.{IsAt, IsSessionReady, session_world, level_of, changes_of};
 ghost use Rattle.quilt_top.specs.TextRun.{IsUntold};
 ghost use Rattle.quilt_top.specs.declared.orders.Source.TheVariants as sources;
 ghost use Rattle.quilt_top.specs.declared.run.End.TheVariants as ends;
 ghost use Rattle.quilt_top.specs.Openings as endings;
-ghost use Rattle.quilt_top.specs.Openings.{IsBegun, IsFirst, RunsTo, run_ends, is_run_end};
+ghost use Rattle.quilt_top.specs.Openings.{IsBegun, IsFirstState, RunsTo, run_ends, is_run_end};
 ghost use Rattle.quilt_top.specs.Words.{Run};
 ghost use Rattle.quilt_top.specs.Meanings.{run_from};
 ghost use Rattle.quilt_top.specs.Trying.{trial_run, TriesTo};
@@ -18,7 +18,7 @@ ghost use Rattle.quilt_top.specs.Headline.{KeepsPromises, WhereTold, HasEndCause
 ghost use Rattle.quilt_top.specs.Stronger.{KeepsMore};
 
 use crate::halt::Halt;
-use crate::opening::{Opened, open};
+use crate::opened::{Opened, open};
 use crate::orders::{RunFile, Source};
 use crate::run::End;
 use crate::text_run::run_text;
@@ -46,11 +46,11 @@ fn end_of(outcome: Result<bool, Halt>) -> End
 #[inline(never)]
 fn begin_session<W: World>(alloc: Global, book: Box<Book<W>>, catalog: Catalog) -> Session<W>
     requires { IsBegun book.value catalog }
-    ensures world { world_of result ≡ books.world_of book.value }
-    ensures ready { IsReady result }
+    ensures world { session_world result ≡ books.world_of book.value }
+    ensures ready { IsSessionReady result }
     ensures level { level_of result ≡ (books.last_of book.value).level }
     ensures changes { changes_of result ≡ 0 }
-    ensures at { (s : State) → IsFirst book.value catalog s → IsAt result s }
+    ensures at { (s : State) → IsFirstState book.value catalog s → IsAt result s }
 {
     Session::new(alloc, Box::into_inner(book), catalog)
 }
@@ -70,8 +70,8 @@ fn run_session<R: Threads + Sync, W: World>(
     ensures device { result.0 ≡ ends.Device → Rose (W.faults (books.world_of book.value)) (W.faults result.1) }
     ensures door { W.door result.1 ≡ W.door (books.world_of book.value) }
     ensures ends { is_run_end result.0 ≡ true }
-    ensures sound { (s : State) → IsFirst book.value catalog s → IsOneOf result.0 run_ends }
-    ensures runs { (s : State) → IsFirst book.value catalog s
+    ensures sound { (s : State) → IsFirstState book.value catalog s → IsOneOf result.0 run_ends }
+    ensures runs { (s : State) → IsFirstState book.value catalog s
         → Goes (RunsTo (books.last_of book.value).level s result.0) (W.told (books.world_of book.value)) (W.told result.1) }
 {
     let mut session = begin_session(alloc, book, catalog);
@@ -96,8 +96,8 @@ fn try_session<R: Threads + Sync, W: World>(
     ensures door { W.door result.1 ≡ W.door (books.world_of book.value) }
     ensures ends { is_run_end result.0 ≡ true }
     ensures short { result.0 ≢ ends.TooMuch }
-    ensures sound { (s : State) → IsFirst book.value catalog s → IsOneOf result.0 run_ends }
-    ensures tries { (s : State) → IsFirst book.value catalog s
+    ensures sound { (s : State) → IsFirstState book.value catalog s → IsOneOf result.0 run_ends }
+    ensures tries { (s : State) → IsFirstState book.value catalog s
         → Goes (TriesTo (books.last_of book.value).level (trial_run (books.last_of book.value).level s seed count) result.0)
         (W.told (books.world_of book.value)) (W.told result.1) }
 {

@@ -1,12 +1,12 @@
 //! The whole run: what the words of the command line ask for is done over a world, which is handed back.
 #![tactic(auto)]
 
-mod answering;
+mod answer;
 mod command_line;
 mod file_run;
 mod halt;
 mod make;
-mod opening;
+mod opened;
 mod orders;
 mod output;
 mod run;

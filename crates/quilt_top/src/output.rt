@@ -4,7 +4,7 @@ ghost use Rattle.quilt_world.specs.Causes.{HasCause};
 ghost use Rattle.quilt_world.specs.Doors.{IsOpen};
 ghost use Rattle.quilt_world.specs.Added.{AddsOnly, is_of_text};
 ghost use Rattle.quilt_replies.specs.Answers.{State};
-ghost use Rattle.quilt_map.specs.Sessions.{world_of, level_of, changes_of, IsAt, IsReady};
+ghost use Rattle.quilt_map.specs.Sessions.{session_world, level_of, changes_of, IsAt, IsSessionReady};
 ghost use Rattle.quilt_top.specs.Saying.{Says, SaysPrefix};
 
 use quilt_map::Session;
@@ -28,15 +28,15 @@ pub(crate) fn put_all<W: World>(world: &mut W, bytes: &[u8]) -> Result<(), Fault
 
 /// The same by the world that a session has.
 pub(crate) fn put_reply<W: World>(session: &mut Session<W>, bytes: &[u8]) -> Result<(), Fault>
-    requires { IsOpen (W.door (world_of session.old)) }
-    ensures cause { HasCause (W.faults (world_of session.old)) (W.faults (world_of session.new)) result }
-    ensures door { W.door (world_of session.new) ≡ W.door (world_of session.old) }
-    ensures said { OnOk result (Goes (Says bytes.now) (W.told (world_of session.old)) (W.told (world_of session.new))) }
-    ensures part { OnErr result (Goes (SaysPrefix bytes.now) (W.told (world_of session.old)) (W.told (world_of session.new))) }
-    ensures text { Goes (AddsOnly is_of_text) (W.told (world_of session.old)) (W.told (world_of session.new)) }
+    requires { IsOpen (W.door (session_world session.old)) }
+    ensures cause { HasCause (W.faults (session_world session.old)) (W.faults (session_world session.new)) result }
+    ensures door { W.door (session_world session.new) ≡ W.door (session_world session.old) }
+    ensures said { OnOk result (Goes (Says bytes.now) (W.told (session_world session.old)) (W.told (session_world session.new))) }
+    ensures part { OnErr result (Goes (SaysPrefix bytes.now) (W.told (session_world session.old)) (W.told (session_world session.new))) }
+    ensures text { Goes (AddsOnly is_of_text) (W.told (session_world session.old)) (W.told (session_world session.new)) }
     ensures level { level_of session.new ≡ level_of session.old }
     ensures changes { changes_of session.new ≡ changes_of session.old }
-    ensures ready { IsReady session.old → IsReady session.new }
+    ensures ready { IsSessionReady session.old → IsSessionReady session.new }
     ensures at { (s : State) → IsAt session.old s → IsAt session.new s }
 {
     let mut done = 0;

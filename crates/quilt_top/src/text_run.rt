@@ -5,14 +5,14 @@ ghost use Rattle.quilt_world.specs.Causes.{Rose};
 ghost use Rattle.quilt_world.specs.Doors.{IsOpen};
 ghost use Rattle.quilt_lang.specs.Reading.{HasNone};
 ghost use Rattle.quilt_replies.specs.Answers.{State};
-ghost use Rattle.quilt_map.specs.Sessions.{world_of, level_of, changes_of, IsAt, IsReady};
+ghost use Rattle.quilt_map.specs.Sessions.{session_world, level_of, changes_of, IsAt, IsSessionReady};
 ghost use Rattle.quilt_top.specs.declared.halt.Halt.TheVariants as halts;
 ghost use Rattle.quilt_words.specs.Items.{items_of};
-ghost use Rattle.quilt_top.specs.Answered.{Answered, PrefixOfAll, StopsBetween};
+ghost use Rattle.quilt_top.specs.Answered.{ItemsAnswered, PrefixOfAll, StopsBetween};
 ghost use Rattle.quilt_top.specs.Openings.{IsNoFault};
 ghost use Rattle.quilt_top.specs.TextRun.{run_in, IsUntold, RunsFrom, RunsWhole, Overruns, EndsBetween};
 
-use crate::answering::put_answer;
+use crate::answer::put_answer;
 use crate::halt::Halt;
 use quilt_lang::Lines;
 use quilt_map::Session;
@@ -32,25 +32,25 @@ fn answer_items<R: Threads + Sync, W: World>(
     ended: bool,
     so_far: bool,
 ) -> Result<bool, Halt>
-    requires open { IsOpen (W.door (world_of session.old)) }
-    requires ready { IsReady session.old }
+    requires open { IsOpen (W.door (session_world session.old)) }
+    requires ready { IsSessionReady session.old }
     requires level { level_of session.old ≡ lines.old.level }
-    ensures ready { OnOk result (IsReady session.new) }
-    ensures later { W.faults (world_of session.old) ≤ W.faults (world_of session.new) }
-    ensures device { IfErr result (λ e. e ≡ halts.Stopped stops.Device → Rose (W.faults (world_of session.old)) (W.faults (world_of session.new))) }
+    ensures ready { OnOk result (IsSessionReady session.new) }
+    ensures later { W.faults (session_world session.old) ≤ W.faults (session_world session.new) }
+    ensures device { IfErr result (λ e. e ≡ halts.Stopped stops.Device → Rose (W.faults (session_world session.old)) (W.faults (session_world session.new))) }
     ensures damaged { IfErr result (λ e. (page : ℕ) → e ≡ halts.Stopped (stops.Damaged page) → (s : State) → IsAt session.old s → ⊥) }
     ensures short { IfErr result (λ e. e ≡ halts.TooMuch → ⊥) }
-    ensures door { W.door (world_of session.new) ≡ W.door (world_of session.old) }
+    ensures door { W.door (session_world session.new) ≡ W.door (session_world session.old) }
     ensures level { lines.new.level ≡ lines.old.level }
     ensures same { IfOk result (λ done. level_of session.new ≡ level_of session.old) }
     ensures answered { IfOk result (λ done. (s : State) → IsAt session.old s → (now : State) × IsAt session.new now
-        × Answered ended lines.old.level so_far done s now (changes_of session.old) (changes_of session.new)
-        lines.old.rest lines.new.rest (W.told (world_of session.old)) (W.told (world_of session.new))) }
+        × ItemsAnswered ended lines.old.level so_far done s now (changes_of session.old) (changes_of session.new)
+        lines.old.rest lines.new.rest (W.told (session_world session.old)) (W.told (session_world session.new))) }
     ensures none { IfOk result (λ done. HasNone ended lines.old.level lines.new.rest) }
     ensures stopped { OnErr result ((s : State) → IsAt session.old s
-        → Goes (PrefixOfAll ended lines.old.level s (changes_of session.old) lines.old.rest) (W.told (world_of session.old)) (W.told (world_of session.new))) }
+        → Goes (PrefixOfAll ended lines.old.level s (changes_of session.old) lines.old.rest) (W.told (session_world session.old)) (W.told (session_world session.new))) }
     ensures between { IfErr result (λ e. e ≡ halts.Stopped stops.Memory → (s : State) → IsAt session.old s
-        → Goes (StopsBetween ended lines.old.level s lines.old.rest) (W.told (world_of session.old)) (W.told (world_of session.new))) }
+        → Goes (StopsBetween ended lines.old.level s lines.old.rest) (W.told (session_world session.old)) (W.told (session_world session.new))) }
 {
     let mut all_done = so_far;
     'items: while let Some(spelled) = lines.take_command(session.head().format, ended)? {
@@ -82,22 +82,22 @@ pub(crate) fn run_text<R: Threads + Sync, W: World>(
     alloc: Global,
     session: &mut Session<W>,
 ) -> Result<bool, Halt>
-    requires open { IsOpen (W.door (world_of session.old)) }
-    requires ready { IsReady session.old }
-    requires untold { IfSome (W.told (world_of session.old)) IsUntold }
+    requires open { IsOpen (W.door (session_world session.old)) }
+    requires ready { IsSessionReady session.old }
+    requires untold { IfSome (W.told (session_world session.old)) IsUntold }
     requires unchanged { changes_of session.old ≡ 0 }
-    ensures later { W.faults (world_of session.old) ≤ W.faults (world_of session.new) }
-    ensures device { IfErr result (λ e. e ≡ halts.Stopped stops.Device → Rose (W.faults (world_of session.old)) (W.faults (world_of session.new))) }
+    ensures later { W.faults (session_world session.old) ≤ W.faults (session_world session.new) }
+    ensures device { IfErr result (λ e. e ≡ halts.Stopped stops.Device → Rose (W.faults (session_world session.old)) (W.faults (session_world session.new))) }
     ensures damaged { IfErr result (λ e. (page : ℕ) → e ≡ halts.Stopped (stops.Damaged page) → (s : State) → IsAt session.old s → ⊥) }
-    ensures door { W.door (world_of session.new) ≡ W.door (world_of session.old) }
-    ensures runs { (s : State) → IsAt session.old s → Goes (RunsFrom (level_of session.old) s) (W.told (world_of session.old)) (W.told (world_of session.new)) }
+    ensures door { W.door (session_world session.new) ≡ W.door (session_world session.old) }
+    ensures runs { (s : State) → IsAt session.old s → Goes (RunsFrom (level_of session.old) s) (W.told (session_world session.old)) (W.told (session_world session.new)) }
     ensures whole { IfOk result (λ done. (s : State) → IsAt session.old s
-        → Goes (RunsWhole (level_of session.old) done s) (W.told (world_of session.old)) (W.told (world_of session.new))) }
+        → Goes (RunsWhole (level_of session.old) done s) (W.told (session_world session.old)) (W.told (session_world session.new))) }
     ensures too_much { IfErr result (λ e. e ≡ halts.TooMuch → (s : State) → IsAt session.old s
-        → Goes (λ old new. Overruns new) (W.told (world_of session.old)) (W.told (world_of session.new))) }
+        → Goes (λ old new. Overruns new) (W.told (session_world session.old)) (W.told (session_world session.new))) }
     ensures between { IfErr result (λ e. IsNoFault e → (s : State) → IsAt session.old s
-        → Goes (λ old new. EndsBetween (run_in s (items_of (level_of session.old) old.input)) new) (W.told (world_of session.old))
-        (W.told (world_of session.new))) }
+        → Goes (λ old new. EndsBetween (run_in s (items_of (level_of session.old) old.input)) new) (W.told (session_world session.old))
+        (W.told (session_world session.new))) }
 {
     let mut lines = Lines::new(alloc, session.head().level);
     let mut buffer = [0; 4096];

@@ -9,15 +9,15 @@ ghost use Rattle.quilt_words.specs.Forms.{form, Spelled};
 ghost use Rattle.quilt_words.specs.Items.{items_of};
 ghost use Rattle.quilt_replies.specs.Answers.{State};
 ghost use Rattle.quilt_replies.specs.Runs.{is_done};
-ghost use Rattle.quilt_map.specs.Sessions.{world_of, format_of, level_of, changes_of, IsAt, IsReady};
+ghost use Rattle.quilt_map.specs.Sessions.{session_world, format_of, level_of, changes_of, IsAt, IsSessionReady};
 ghost use Rattle.quilt_trial.specs.Rest.{newlines};
 ghost use Rattle.quilt_top.specs.declared.halt.Halt.TheVariants as halts;
 ghost use Rattle.quilt_top.specs.Answering.{Applies};
 ghost use Rattle.quilt_top.specs.Replies.{reply_to, state_then};
 ghost use Rattle.quilt_top.specs.TextRun.{run_in};
-ghost use Rattle.quilt_top.specs.Trying.{text_left, Tries, Tried, trial_run, summary_of, TriesPrefix, TriesWhole};
+ghost use Rattle.quilt_top.specs.Trying.{text_left, TriesCommands, Tried, trial_run, summary_of, TriesPrefix, TriesWhole};
 
-use crate::answering::answer_item;
+use crate::answer::answer_item;
 use crate::halt::Halt;
 use crate::output::put_reply;
 use crate::trial_items::TrialItems;
@@ -63,22 +63,22 @@ fn try_item<R: Threads + Sync, W: World>(
     session: &mut Session<W>,
     spelled: Result<Command, Code>,
 ) -> Result<bool, Halt>
-    requires ready { IsReady session.old }
+    requires ready { IsSessionReady session.old }
     requires spelled { IfOk spelled (λ command. Spelled (format_of session.old) (level_of session.old) command) }
-    ensures ready { OnOk result (IsReady session.new) }
+    ensures ready { OnOk result (IsSessionReady session.new) }
     ensures done { IfOk result (λ done. (item : Item) → form (format_of session.old) item ≡ spelled →
         (s : State) → IsAt session.old s → done ≡ is_done (reply_to s item)) }
     ensures at { OnOk result ((item : Item) → form (format_of session.old) item ≡ spelled →
         (s : State) → IsAt session.old s → IsAt session.new (state_then s item)) }
     ensures level { OnOk result (level_of session.new ≡ level_of session.old) }
-    ensures later { W.faults (world_of session.old) ≤ W.faults (world_of session.new) }
-    ensures device { IfErr result (λ e. e ≡ halts.Stopped stops.Device → Rose (W.faults (world_of session.old)) (W.faults (world_of session.new))) }
+    ensures later { W.faults (session_world session.old) ≤ W.faults (session_world session.new) }
+    ensures device { IfErr result (λ e. e ≡ halts.Stopped stops.Device → Rose (W.faults (session_world session.old)) (W.faults (session_world session.new))) }
     ensures damaged { IfErr result (λ e. (page : ℕ) → e ≡ halts.Stopped (stops.Damaged page) → (s : State) → IsAt session.old s → ⊥) }
     ensures short { IfErr result (λ e. e ≡ halts.TooMuch → ⊥) }
-    ensures door { W.door (world_of session.new) ≡ W.door (world_of session.old) }
+    ensures door { W.door (session_world session.new) ≡ W.door (session_world session.old) }
     ensures applies { (item : Item) → form (format_of session.old) item ≡ spelled →
         (s : State) → IsAt session.old s
-        → Goes (Applies s item (changes_of session.old)) (W.told (world_of session.old)) (W.told (world_of session.new)) }
+        → Goes (Applies s item (changes_of session.old)) (W.told (session_world session.old)) (W.told (session_world session.new)) }
 {
     let answer = answer_item(rt, alloc, session, spelled)?;
     Ok(answer.is_done)
@@ -91,16 +91,16 @@ fn try_items<R: Threads + Sync, W: World>(
     items: &mut TrialItems,
     session: &mut Session<W>,
 ) -> Result<Tally, Halt>
-    requires ready { IsReady session.old }
+    requires ready { IsSessionReady session.old }
     requires level { level_of session.old ≡ items.old.lines.level }
     requires few { newlines (text_left items.old) + 2 < 2 ^ 64 }
-    ensures later { W.faults (world_of session.old) ≤ W.faults (world_of session.new) }
-    ensures device { IfErr result (λ e. e ≡ halts.Stopped stops.Device → Rose (W.faults (world_of session.old)) (W.faults (world_of session.new))) }
+    ensures later { W.faults (session_world session.old) ≤ W.faults (session_world session.new) }
+    ensures device { IfErr result (λ e. e ≡ halts.Stopped stops.Device → Rose (W.faults (session_world session.old)) (W.faults (session_world session.new))) }
     ensures damaged { IfErr result (λ e. (page : ℕ) → e ≡ halts.Stopped (stops.Damaged page) → (s : State) → IsAt session.old s → ⊥) }
     ensures short { IfErr result (λ e. e ≡ halts.TooMuch → ⊥) }
-    ensures door { W.door (world_of session.new) ≡ W.door (world_of session.old) }
+    ensures door { W.door (session_world session.new) ≡ W.door (session_world session.old) }
     ensures tries { (s : State) → IsAt session.old s
-        → Goes (Tries (run_in s (items_of items.old.lines.level (text_left items.old)))) (W.told (world_of session.old)) (W.told (world_of session.new)) }
+        → Goes (TriesCommands (run_in s (items_of items.old.lines.level (text_left items.old)))) (W.told (session_world session.old)) (W.told (session_world session.new)) }
     ensures counted { IfOk result (λ tally. tally.done + tally.refused ≡ length (items_of items.old.lines.level (text_left items.old))) }
     ensures tried { IfOk result (λ tally. (s : State) → IsAt session.old s → (now : State) × IsAt session.new now
         × Tried items.old.lines.level (text_left items.old) [] s now tally) }
@@ -133,20 +133,20 @@ pub(crate) fn run_trial<R: Threads + Sync, W: World>(
     seed: u64,
     count: u32,
 ) -> Result<bool, Halt>
-    requires open { IsOpen (W.door (world_of session.old)) }
-    requires ready { IsReady session.old }
-    ensures later { W.faults (world_of session.old) ≤ W.faults (world_of session.new) }
-    ensures device { IfErr result (λ e. e ≡ halts.Stopped stops.Device → Rose (W.faults (world_of session.old)) (W.faults (world_of session.new))) }
+    requires open { IsOpen (W.door (session_world session.old)) }
+    requires ready { IsSessionReady session.old }
+    ensures later { W.faults (session_world session.old) ≤ W.faults (session_world session.new) }
+    ensures device { IfErr result (λ e. e ≡ halts.Stopped stops.Device → Rose (W.faults (session_world session.old)) (W.faults (session_world session.new))) }
     ensures damaged { IfErr result (λ e. (page : ℕ) → e ≡ halts.Stopped (stops.Damaged page) → (s : State) → IsAt session.old s → ⊥) }
     ensures short { IfErr result (λ e. e ≡ halts.TooMuch → ⊥) }
-    ensures door { W.door (world_of session.new) ≡ W.door (world_of session.old) }
+    ensures door { W.door (session_world session.new) ≡ W.door (session_world session.old) }
     ensures front { (s : State) → IsAt session.old s → Goes (TriesPrefix (level_of session.old) (trial_run (level_of session.old) s seed count))
-        (W.told (world_of session.old)) (W.told (world_of session.new)) }
+        (W.told (session_world session.old)) (W.told (session_world session.new)) }
     ensures whole { IfOk result (λ done. (s : State) → IsAt session.old s
-        → Goes (TriesWhole (level_of session.old) (trial_run (level_of session.old) s seed count) done) (W.told (world_of session.old))
-        (W.told (world_of session.new))) }
+        → Goes (TriesWhole (level_of session.old) (trial_run (level_of session.old) s seed count) done) (W.told (session_world session.old))
+        (W.told (session_world session.new))) }
     ensures unsaid { IfErr result (λ e. e ≡ halts.Stopped stops.Memory → (s : State) → IsAt session.old s
-        → Goes (AddsOnly is_of_pages) (W.told (world_of session.old)) (W.told (world_of session.new))) }
+        → Goes (AddsOnly is_of_pages) (W.told (session_world session.old)) (W.told (session_world session.new))) }
 {
     let mut items = TrialItems::new(alloc, seed, count, session.head().level);
     let tally = try_items(rt, alloc, &mut items, session)?;

@@ -1,7 +1,7 @@
 //! The text of a trial, line by line: commands that a generator of 64 bits draws.
 #![tactic(auto)]
 
-mod drawing;
+mod draws;
 mod generator;
 mod trial;
 

@@ -4,7 +4,7 @@ ghost use Rattle.quilt_lang.specs.Trials as trials;
 ghost use Rattle.quilt_trial.specs.Rest.{IsNext, newlines, publish_line, rest_at};
 ghost use Rattle.quilt_trial.specs.Drawing.{IsTextLine};
 
-use crate::drawing::draw_line;
+use crate::draws::draw_line;
 use crate::generator::Generator;
 use quilt_types::Text;
 use std::alloc::{AllocError, Global};

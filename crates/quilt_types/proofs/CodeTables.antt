@@ -3,7 +3,7 @@ use Rattle.std.proofs.Common.{◌≡◌, ℕ, zero, suc, ◌+◌, ◌*◌, ◌/�
 use Rattle.std.specs.List.{range_with_len}
 use Rattle.std.proofs.lemmas.List.FromFn.{get_or-map-range_with_len}
 use Rattle.quilt_types.specs.Codes.{interleaved, gathered}
-use Rattle.quilt_types.specs.declared.interleaving.TheConstants.{SPREAD, PLACES}
+use Rattle.quilt_types.specs.declared.location_code.TheConstants.{SPREAD, PLACES}
 use Rattle.quilt_types.proofs.CodeLaws.{interleaved_split, interleaved_low}
 
 -- ---- a coordinate's bits moved apart

@@ -2,7 +2,7 @@
 #![tactic(auto)]
 
 mod code;
-mod interleaving;
+mod location_code;
 mod name;
 mod plane;
 mod points;
@@ -11,7 +11,7 @@ mod stop;
 mod text;
 
 pub use code::Code;
-pub use interleaving::{code_of, pixel_of};
+pub use location_code::{code_of, pixel_of};
 pub use name::Name;
 pub use plane::{Block, Colour, Corner, Kind, Pixel, Point, Seg, Window};
 pub use points::PointList;

@@ -17,9 +17,9 @@ use Rattle.std.proofs.lemmas.Bool.{cases_lt}
 use Rattle.quilt_blocks.specs.Mosaic.{HasColour}
 use Rattle.quilt_raster.specs.Painting.{IsIn, place_of, in_cells}
 use Rattle.quilt_window.specs.declared.span.Span.{Span}
-use Rattle.quilt_window.specs.Copying.{IsSpan, source, copied_colour, square_at}
+use Rattle.quilt_window.specs.Copying.{FitsSide, source, copied_colour, square_at}
 
-pub span_room : (n : ℕ) (s : Span) → n ≤ 12 → IsSpan n s → (s.from + s.length ≤ 4096) × (s.to + s.length ≤ 4096)
+pub span_room : (n : ℕ) (s : Span) → n ≤ 12 → FitsSide n s → (s.from + s.length ≤ 4096) × (s.to + s.length ≤ 4096)
 span_room n s le h =
     let m = side_most n le in
     let t = h.there in

@@ -8,7 +8,7 @@ use Rattle.quilt_types.specs.Algebra.{colour_from}
 use Rattle.quilt_window.specs.declared.span.Span.{Span}
 
 -- both rows of places lie on the side of the level
-pub record IsSpan (n : ℕ) (s : Span) : Type 0 where
+pub record FitsSide (n : ℕ) (s : Span) : Type 0 where
   pub there : s.from + s.length ≤ side n
   pub here : s.to + s.length ≤ side n
 

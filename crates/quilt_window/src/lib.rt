@@ -1,10 +1,10 @@
 //! Windows and shifts: maps that take their colours from a part of another map, and are 0 elsewhere.
 #![tactic(auto)]
 
-mod copying;
-mod shifting;
+mod copy;
+mod crop;
+mod offset;
 mod span;
-mod windowing;
 
-pub use shifting::shift;
-pub use windowing::window;
+pub use crop::window;
+pub use offset::shift;

@@ -1,7 +1,7 @@
 ghost use Rattle.std.specs.Prelude.{◌≡◌, ℕ, ◌+◌, ◌-◌, ◌<◌, ◌≤◌, true, false, None};
 ghost use Rattle.quilt_types.specs.Plane.{side};
 ghost use Rattle.quilt_types.specs.Algebra.{moved};
-ghost use Rattle.quilt_window.specs.Copying.{IsSpan, source};
+ghost use Rattle.quilt_window.specs.Copying.{FitsSide, source};
 
 /// Places of one axis in a row that take what they have from as many places of another row.
 #[derive(Clone, Copy, Debug, PartialEq, Eq)]
@@ -15,7 +15,7 @@ impl Span {
     /// What is left of the side of a level when everything on it moves by a distance.
     pub fn moved(level: u8, by: i32) -> Span
         requires { level ≤ 12 }
-        ensures inside { IsSpan level result }
+        ensures inside { FitsSide level result }
         ensures value { (x : ℕ) → x < side level → source result x ≡ moved level x by }
     {
         let size = 1_u16 << level;

@@ -4,7 +4,7 @@ use Rattle.std.specs.Str.{bytes_eq}
 use Rattle.std.proofs.lemmas.Bool.{cases_Bool}
 use Rattle.quilt_types.specs.declared.code.Code.TheVariants as codes_of
 use Rattle.quilt_words.specs.Forms.{Further, Entry, table, or_err, ◌>>=◌, values_of, with_count, recolour_entry, points_entry, form_of_words}
-use Rattle.quilt_words.specs.Made.{made, row_formed, has_pairs, formed}
+use Rattle.quilt_words.specs.Made.{command_made, row_formed, has_pairs, formed}
 
 -- the number of words is looked at before the first of them
 counted_first : (b : Bool) (e : Entry) (more : Further) (ws : List (List ℕ)) →
@@ -15,7 +15,7 @@ counted_first false e more ws = refl
 
 row : (e : Entry) (more : Further) (ws : List (List ℕ)) →
     (with_count (length ws) e >>= λ (x : Entry). values_of x.arguments ws >>= λ vs. or_err codes_of.Word (x.command more vs))
-    ≡ made e.arguments e.command more ws
+    ≡ command_made e.arguments e.command more ws
 row e more ws = counted_first (length e.arguments == length ws) e more ws
 
 paired : (b : Bool) (e : Entry) (more : Further) (ws : List (List ℕ)) →

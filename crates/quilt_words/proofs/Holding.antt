@@ -20,7 +20,7 @@ use Rattle.quilt_words.specs.Items.{colour_bytes, points_of, points_joined, poin
 use Rattle.quilt_words.specs.Spelling.{number, row, hex_digit, cons_both, is_spelled, value_of}
 use Rattle.quilt_words.specs.Forms.{form, Spelled}
 use Rattle.quilt_words.specs.Made.{further_of}
-use Rattle.quilt_words.specs.Parsing.{Answers}
+use Rattle.quilt_words.specs.Parsing.{IsParsedAs}
 
 both_right : (a b : Bool) → (a && b) ≡ true → b ≡ true
 both_right true b is = is
@@ -346,7 +346,7 @@ further_fits f n group low high =
     either_fits f n (is_long group.line) (held_as f n (asked n group.line) group) (as_fits f n (asked n group.line) group (one_or_two f low high) refl)
 
 -- an item that some lines hold spells the command that is parsed of it
-pub spelled : (f : ℕ) (item : Item) (r : Result Command ParseErr) → Answers r (form f item) →
+pub spelled : (f : ℕ) (item : Item) (r : Result Command ParseErr) → IsParsedAs r (form f item) →
     IfOk r (λ command. (n : ℕ) (group : Group) → held f n group ≡ item → Spelled f n command)
 spelled f item (Err e) is = tt
 spelled f item (Ok command) is = λ n group same. (group, ap (form f) same ∙ is)

@@ -9,7 +9,7 @@ use Rattle.quilt_types.specs.Layers.{colours}
 use Rattle.quilt_words.specs.declared.command.Command.{Command}
 use Rattle.quilt_words.specs.declared.command.Command.TheVariants as commands
 use Rattle.quilt_words.specs.Forms.{Argument, Value, Called, Number, Further, colour, or_err, ◌>>=◌, values_of, pairs_of, recolour_command}
-use Rattle.quilt_words.specs.Made.{recoloured, has_pairs}
+use Rattle.quilt_words.specs.Made.{recoloured_command, has_pairs}
 use Rattle.std.proofs.lemmas.List.{length-map}
 use Rattle.quilt_words.specs.Pairs.{pairs_in, ReadsPair}
 use Rattle.quilt_words.specs.Spelling.{number, name}
@@ -60,7 +60,7 @@ pub pair_number : (count : ℕ) → has_pairs count ≡ true → count ≡ 2 + 2
 pair_number count is = grind arith
 
 pub recoloured_is : (f : ℕ) (more : Further) (a c : List ℕ) (ws : List (List ℕ)) → has_pairs (length (a ∷ c ∷ ws)) ≡ true →
-    recoloured f more (a ∷ c ∷ ws) ≡ recolours f a c ws
+    recoloured_command f more (a ∷ c ∷ ws) ≡ recolours f a c ws
 recoloured_is f more a c ws is =
     let pairs : ℕ = (length (a ∷ c ∷ ws) - 2) / 2 in
     let size : length ws ≡ 2 * pairs = omega (arith, pair_number (length (a ∷ c ∷ ws)) is) in
@@ -112,22 +112,22 @@ so_far_err f g xs i d pairs e within so reads =
     ∙ ap (λ (r : Result (List (Colour × Colour)) Code). r >>= λ ps. Ok (pairs ++ ps)) (reads (map g (drop (i + 2) xs)))
 
 pub words_are : {X : Type 0} (f : ℕ) (more : Further) (g : X → List ℕ) (xs : List X) (d : X) → has_pairs (length xs) ≡ true →
-    recoloured f more (map g xs) ≡ recolours f (g (get_or xs 0 d)) (g (get_or xs 1 d)) (map g (drop 2 xs))
+    recoloured_command f more (map g xs) ≡ recolours f (g (get_or xs 0 d)) (g (get_or xs 1 d)) (map g (drop 2 xs))
 words_are f more g xs d is =
     let number : length xs ≡ 2 + 2 * ((length xs - 2) / 2) = pair_number (length xs) is in
     let same : map g xs ≡ g (get_or xs 0 d) ∷ g (get_or xs 1 d) ∷ map g (drop 2 xs) = two_more g xs 0 d (omega (arith, number)) in
     let size : length (g (get_or xs 0 d) ∷ g (get_or xs 1 d) ∷ map g (drop 2 xs)) ≡ length xs = ap length (sym same) ∙ length-map xs g in
-    ap (recoloured f more) same ∙ recoloured_is f more (g (get_or xs 0 d)) (g (get_or xs 1 d)) (map g (drop 2 xs)) (ap has_pairs size ∙ is)
+    ap (recoloured_command f more) same ∙ recoloured_is f more (g (get_or xs 0 d)) (g (get_or xs 1 d)) (map g (drop 2 xs)) (ap has_pairs size ∙ is)
 
 -- two layers' names, and the pairs
 pub recolour_ok : {X : Type 0} (f : ℕ) (more : Further) (g : X → List ℕ) (xs : List X) (d : X) (a c : List ℕ) (pairs : List (Colour × Colour))
     → has_pairs (length xs) ≡ true →
     or_err codes_of.Name (name (g (get_or xs 0 d))) ≡ Ok a → or_err codes_of.Name (name (g (get_or xs 1 d))) ≡ Ok c
     → pairs_in f (map g (drop 2 xs)) ≡ Ok pairs →
-    recoloured f more (map g xs) ≡ Ok (commands.Recolour a c pairs)
+    recoloured_command f more (map g xs) ≡ Ok (commands.Recolour a c pairs)
 recolour_ok f more g xs d a c pairs is first second third = rw (words_are f more g xs d is, first, second, third) refl
 
 pub recolour_err : {X : Type 0} (f : ℕ) (more : Further) (g : X → List ℕ) (xs : List X) (d : X) (a c : List ℕ) (e : Code) → has_pairs (length xs) ≡ true →
     or_err codes_of.Name (name (g (get_or xs 0 d))) ≡ Ok a → or_err codes_of.Name (name (g (get_or xs 1 d))) ≡ Ok c →
-    pairs_in f (map g (drop 2 xs)) ≡ Err e → recoloured f more (map g xs) ≡ Err e
+    pairs_in f (map g (drop 2 xs)) ≡ Err e → recoloured_command f more (map g xs) ≡ Err e
 recolour_err f more g xs d a c e is first second third = rw (words_are f more g xs d is, first, second, third) refl

@@ -21,9 +21,9 @@ use Rattle.quilt_words.specs.Forms.{buffer_command, copy_command, drop_command, 
 use Rattle.quilt_words.specs.Forms.{put_command, rank_command, raster_command, recolour_command, rect_command, region_command, scatter_command, set_command}
 use Rattle.quilt_words.specs.Forms.{shift_command, show_command, union_command, unline_command, window_command}
 use Rattle.quilt_words.specs.Items.{Group, held, is_plain, words_of}
-use Rattle.quilt_words.specs.Parsing.{Answers}
+use Rattle.quilt_words.specs.Parsing.{IsParsedAs}
 use Rattle.quilt_words.specs.declared.parse_err.ParseErr.{ParseErr}
-use Rattle.quilt_words.specs.Made.{made, row_formed, recoloured, has_pairs, formed, further_of}
+use Rattle.quilt_words.specs.Made.{command_made, row_formed, recoloured_command, has_pairs, formed, further_of}
 use Rattle.quilt_words.specs.Spelling.{number, signed, name}
 use Rattle.quilt_words.proofs.Holding.{number_within, further_fits}
 use Rattle.quilt_words.proofs.Recolours.{paired, pair_number}
@@ -187,7 +187,7 @@ module _ (f n : ℕ) where
   Row arguments command = (more : Further) → FurtherFits f n more → Each arguments (λ vs. IfSome (command more vs) (IsFitting f n))
 
   by_row : (arguments : List Argument) (command : Further → List Value → Option Command) (more : Further) (ws : List (List ℕ)) (c : Command)
-      → Row arguments command → made arguments command more ws ≡ Ok c → FitsWith f n more c
+      → Row arguments command → command_made arguments command more ws ≡ Ok c → FitsWith f n more c
   by_row arguments command more ws c row is = elim (cases_Bool (length arguments == length ws)) [
     | inl same ↦
         let all : (values_of arguments ws >>= λ vs. or_err codes_of.Word (command more vs)) ≡ Ok c = rw same at is in
@@ -289,7 +289,7 @@ module _ (f n : ℕ) where
       subst (FitsWith f n more) same (record { fits = λ further. (fit.0, fit.1.0, record { number = many; each = pairs.1 }) })
   recolour_fits m within more vs c fit is = cc
 
-  recolour_made : (more : Further) (ws : List (List ℕ)) (c : Command) → recoloured f more ws ≡ Ok c → FitsWith f n more c
+  recolour_made : (more : Further) (ws : List (List ℕ)) (c : Command) → recoloured_command f more ws ≡ Ok c → FitsWith f n more c
   recolour_made more ws c is = elim (cases_Bool (has_pairs (length ws))) [
     | inl some ↦
         let m : ℕ = (length ws - 2) / 2 in
@@ -305,7 +305,7 @@ module _ (f n : ℕ) where
       row_formed (find p es) more ws ≡ Ok c → FitsWith f n more c
   by_found p [] more ws c rows is = cc
   by_found p (e ∷ es) more ws c rows is = elim (cases_Bool (p e)) [
-    | inl yes_ ↦ let it : made e.arguments e.command more ws ≡ Ok c = rw yes_ at is in by_row e.arguments e.command more ws c rows.0 it
+    | inl yes_ ↦ let it : command_made e.arguments e.command more ws ≡ Ok c = rw yes_ at is in by_row e.arguments e.command more ws c rows.0 it
     | inr not_ ↦ by_found p es more ws c rows.1 (rw not_ at is)
   ]
 
@@ -343,7 +343,7 @@ pub spelled_fits : (f n : ℕ) (c : Command) → 1 ≤ f → f ≤ 2 → Spelled
 spelled_fits f n c low high spelled = (item_good f n (held f n spelled.0) c spelled.1).fits (further_fits f n spelled.0 low high)
 
 -- and so what an item spells, where a group holds it
-pub fitting : (f : ℕ) (item : Item) (r : Result Command ParseErr) → Answers r (form f item) →
+pub fitting : (f : ℕ) (item : Item) (r : Result Command ParseErr) → IsParsedAs r (form f item) →
     IfOk r (λ command. (n : ℕ) (group : Group) → 1 ≤ f → f ≤ 2 → held f n group ≡ item → IsFitting f n command)
 fitting f item (Ok c) is = λ n group low high holds. spelled_fits f n c low high (group, ap (form f) holds ∙ is)
 fitting f item (Err e) is = tt

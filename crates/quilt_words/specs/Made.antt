@@ -12,16 +12,16 @@ use Rattle.quilt_words.specs.Forms.{Argument, Value, Further, Entry, table, or_e
 use Rattle.quilt_words.specs.Forms.{points_arguments, points_command, recolour_arguments, recolour_command}
 
 -- the command that so many arguments make, each as it is spelled
-abbrev pub made : List Argument → (Further → List Value → Option Command) → Further → List (List ℕ) → Result Command Code
-made arguments command more ws = counted arguments ws >>= λ vs. or_err codes_of.Word (command more vs)
+abbrev pub command_made : List Argument → (Further → List Value → Option Command) → Further → List (List ℕ) → Result Command Code
+command_made arguments command more ws = counted arguments ws >>= λ vs. or_err codes_of.Word (command more vs)
 
 -- from 1 to 16 pairs of colours
 abbrev pub has_pairs : ℕ → Bool
 has_pairs count = nat_le 4 count && nat_le count 34 && (count % 2 == 0)
 
 -- the command that the words behind `recolour` spell in a format, or the code of its refusal
-abbrev pub recoloured : ℕ → Further → List (List ℕ) → Result Command Code
-recoloured f more ws =
+abbrev pub recoloured_command : ℕ → Further → List (List ℕ) → Result Command Code
+recoloured_command f more ws =
     if has_pairs (length ws)
     then (values_of (recolour_arguments f ((length ws - 2) / 2)) ws >>= λ vs. or_err codes_of.Word (recolour_command more vs))
     else Err codes_of.Count
@@ -29,13 +29,13 @@ recoloured f more ws =
 -- the command that the words behind the word of a row spell, or the code of its refusal
 abbrev pub row_formed : Option Entry → Further → List (List ℕ) → Result Command Code
 row_formed None more ws = Err codes_of.Word
-row_formed (Some e) more ws = made e.arguments e.command more ws
+row_formed (Some e) more ws = command_made e.arguments e.command more ws
 
 -- the command that a word and the words behind it spell in a format, or the code of its refusal
 abbrev pub formed : ℕ → Further → List ℕ → List (List ℕ) → Result Command Code
 formed f more word ws =
-    if bytes_eq word (codes "recolour") then recoloured f more ws
-    else if bytes_eq word (codes "points") then made (points_arguments (length ws)) points_command more ws
+    if bytes_eq word (codes "recolour") then recoloured_command f more ws
+    else if bytes_eq word (codes "points") then command_made (points_arguments (length ws)) points_command more ws
     else row_formed (find (λ e. bytes_eq e.word word) (table f)) more ws
 
 -- no further lines, or some that are missing or not well formed

@@ -8,15 +8,15 @@ use Rattle.quilt_words.specs.Forms.{or_err, ◌>>=◌}
 use Rattle.quilt_words.specs.Spelling.{number}
 
 -- the colour that a word spells in a format, as a number; else the refusal `number`
-abbrev pub number_in : ℕ → List ℕ → Result ℕ Code
-number_in f word = or_err codes_of.Number (number 0 (colours f - 1) word)
+abbrev pub colour_number_in : ℕ → List ℕ → Result ℕ Code
+colour_number_in f word = or_err codes_of.Number (number 0 (colours f - 1) word)
 
 -- the pairs of a format that these words spell, or the code of the first that is ill-spelled
 abbrev pub pairs_in : ℕ → List (List ℕ) → Result (List (Colour × Colour)) Code
 pairs_in f [] = Ok []
 pairs_in f (o ∷ []) = Ok []
 pairs_in f (o ∷ n ∷ ws) =
-    number_in f o >>= λ a. number_in f n >>= λ b. pairs_in f ws >>= λ ps. Ok ((record { 0 = a }, record { 0 = b }) ∷ ps)
+    colour_number_in f o >>= λ a. colour_number_in f n >>= λ b. pairs_in f ws >>= λ ps. Ok ((record { 0 = a }, record { 0 = b }) ∷ ps)
 
 -- what one pair says of the words that begin with it
 abbrev pub ReadsPair : ℕ → Result (Colour × Colour) Code → List ℕ → List ℕ → Type 0

@@ -11,10 +11,10 @@ use Rattle.quilt_words.specs.declared.parse_err.ParseErr.{ParseErr}
 use Rattle.quilt_words.specs.declared.parse_err.ParseErr.TheVariants as errs
 
 -- the value or the code is this, unless memory ran out
-abbrev pub Answers : {A : Type 0} → Result A ParseErr → Result A Code → Type 0
-Answers (Ok x) r = r ≡ Ok x
-Answers (Err (errs.No code)) r = r ≡ Err code
-Answers (Err errs.Memory) r = Unit {0}
+abbrev pub IsParsedAs : {A : Type 0} → Result A ParseErr → Result A Code → Type 0
+IsParsedAs (Ok x) r = r ≡ Ok x
+IsParsedAs (Err (errs.No code)) r = r ≡ Err code
+IsParsedAs (Err errs.Memory) r = Unit {0}
 
 -- what may take memory to be parsed: further lines that are there and well formed, or a line of more words than are kept without it
 abbrev pub WantsMemory : Item → Type 0
@@ -25,9 +25,9 @@ WantsMemory (PointLines line points) = IsSome points ⊎ (8 < length (words_of l
 WantsMemory (RingLines line rings) = IsSome rings ⊎ (8 < length (words_of line))
 
 -- the values are what the parts of the answer are, or the code is the answer's
-abbrev pub Reads : {A : Type 0} → (A → List Value) → Result A Code → Result (List Value) Code → Type 0
-Reads values (Ok x) r = r ≡ Ok (values x)
-Reads values (Err code) r = r ≡ Err code
+abbrev pub ReadsAs : {A : Type 0} → (A → List Value) → Result A Code → Result (List Value) Code → Type 0
+ReadsAs values (Ok x) r = r ≡ Ok (values x)
+ReadsAs values (Err code) r = r ≡ Err code
 
 -- the values of so many arguments, or the code of the first refusal
 abbrev pub counted : List Argument → List (List ℕ) → Result (List Value) Code

@@ -1,7 +1,7 @@
 //! The command that a word makes of the words behind it.
 ghost use Rattle.std.specs.Prelude.{◌≡◌, ◌≤◌, ◌-◌, ◌%◌, ◌==◌, true, ℕ, [], ◌∷◌, map, length, codes};
 ghost use Rattle.quilt_words.specs.Forms.{Further};
-ghost use Rattle.quilt_words.specs.Made.{formed, row_formed, recoloured, made, spelled_by};
+ghost use Rattle.quilt_words.specs.Made.{formed, row_formed, recoloured_command, command_made, spelled_by};
 ghost use Rattle.quilt_words.specs.Words.{spelling, map_spelling, region_spelling, algebra_spelling, point_spelling, line_spelling};
 
 use crate::arguments::most_colour;

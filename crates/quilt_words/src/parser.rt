@@ -2,7 +2,7 @@ ghost use Rattle.std.specs.Prelude.{◌≡◌, ◌≢◌, ◌≤◌, ◌<◌, �
 ghost use Rattle.quilt_words.specs.Items.{Group, held, words_of};
 ghost use Rattle.quilt_words.specs.Forms.{form_of_words, form_of_line, form, Spelled};
 ghost use Rattle.quilt_words.specs.Made.{spelled_by};
-ghost use Rattle.quilt_words.specs.Parsing.{Answers, WantsMemory};
+ghost use Rattle.quilt_words.specs.Parsing.{IsParsedAs, WantsMemory};
 ghost use Rattle.quilt_words.specs.declared.parse_err.ParseErr.TheVariants as errs;
 ghost use Rattle.quilt_words.specs.Fitting.{IsFitting};
 
@@ -17,7 +17,7 @@ use std::alloc::Global;
 /// only for what further lines spell, and where the line has more than 8 words.
 #[tactic(auto, unfolding(crate::specs::Forms::form))]
 pub fn parse(alloc: Global, format: u8, item: &Item) -> Result<Command, ParseErr>
-    ensures form { Answers result (form format item.now) }
+    ensures form { IsParsedAs result (form format item.now) }
     ensures spelled { IfOk result (λ command. (n : ℕ) (group : Group) → held format n group ≡ item.now → Spelled format n command) }
     ensures fitting { IfOk result (λ command. (n : ℕ) (group : Group) → 1 ≤ format → format ≤ 2 → held format n group ≡ item.now →
         IsFitting format n command) }
@@ -43,7 +43,7 @@ pub fn parse_line(
     line: &[u8],
     further: &mut FurtherLines,
 ) -> Result<Command, ParseErr>
-    ensures form { Answers result (form_of_line format line.now (spelled_by further.old)) }
+    ensures form { IsParsedAs result (form_of_line format line.now (spelled_by further.old)) }
     ensures memory { IsErrOf result errs.Memory → 8 < length (words_of line.now) }
 {
     if !is_plain_line(line) {
@@ -60,7 +60,7 @@ pub fn parse_line(
 
 /// The command or the refusal, where memory could have run out.
 fn answered(parsed: Result<Command, Code>) -> Result<Command, ParseErr>
-    ensures form { Answers result parsed }
+    ensures form { IsParsedAs result parsed }
     ensures memory { result ≢ Err errs.Memory }
 {
     match parsed {

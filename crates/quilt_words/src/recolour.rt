@@ -1,7 +1,7 @@
 //! The command that gives colours new ones.
 ghost use Rattle.std.specs.Prelude.{◌≡◌, ◌≤◌, ◌-◌, ◌*◌, ◌/◌, ℕ, true, [], ◌∷◌, map, length, Ok, Err, IfOk};
 ghost use Rattle.quilt_words.specs.Forms.{Further};
-ghost use Rattle.quilt_words.specs.Made.{recoloured, has_pairs};
+ghost use Rattle.quilt_words.specs.Made.{recoloured_command, has_pairs};
 ghost use Rattle.quilt_words.specs.Pairs.{pairs_in, ReadsPair};
 
 use crate::arguments::{most_colour, parse_name, parse_number};
@@ -10,7 +10,7 @@ use quilt_types::{Code, Colour, Name};
 
 /// The command that makes a layer of another by 1 to 16 pairs of colours.
 pub fn recolour_command(format: u8, words: &[&[u8]]) -> Result<Command, Code>
-    ensures { (more : Further) → recoloured format more (map (λ w. w.now) words.now) ≡ result }
+    ensures { (more : Further) → recoloured_command format more (map (λ w. w.now) words.now) ≡ result }
 {
     if !is_number_of_words(words.len()) {
         return Err(Code::Count);

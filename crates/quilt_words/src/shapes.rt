@@ -2,14 +2,14 @@
 ghost use Rattle.std.specs.Prelude.{◌≡◌, ◌≤◌, ◌<◌, ◌^◌, ℕ, [], ◌∷◌, map, IfOk};
 ghost use Rattle.quilt_words.specs.Forms.{A_name, A_number, A_signed, Called, Number, Signed, coordinate, extent, label};
 ghost use Rattle.quilt_words.specs.Fitting.{IsWithin};
-ghost use Rattle.quilt_words.specs.Parsing.{Reads, counted};
+ghost use Rattle.quilt_words.specs.Parsing.{ReadsAs, counted};
 
 use crate::arguments::{parse_coordinate, parse_extent, parse_name, parse_number, parse_signed};
 use quilt_types::{Code, Name, Pixel, Seg, Window};
 
 /// No arguments.
 pub fn nothing(words: &[&[u8]]) -> Result<(), Code>
-    ensures { Reads (λ v. []) result (counted [] (map (λ w. w.now) words.now)) }
+    ensures { ReadsAs (λ v. []) result (counted [] (map (λ w. w.now) words.now)) }
 {
     match words {
         [] => Ok(()),
@@ -19,7 +19,7 @@ pub fn nothing(words: &[&[u8]]) -> Result<(), Code>
 
 /// A layer.
 pub fn one_name(words: &[&[u8]]) -> Result<Name, Code>
-    ensures { Reads (λ v. Called v ∷ []) result (counted (A_name ∷ []) (map (λ w. w.now) words.now)) }
+    ensures { ReadsAs (λ v. Called v ∷ []) result (counted (A_name ∷ []) (map (λ w. w.now) words.now)) }
 {
     match words {
         [a] => parse_name(a),
@@ -29,7 +29,7 @@ pub fn one_name(words: &[&[u8]]) -> Result<Name, Code>
 
 /// Two layers.
 pub fn two_names(words: &[&[u8]]) -> Result<(Name, Name), Code>
-    ensures { Reads (λ v. Called v.0 ∷ Called v.1 ∷ []) result (counted (A_name ∷ A_name ∷ []) (map (λ w. w.now) words.now)) }
+    ensures { ReadsAs (λ v. Called v.0 ∷ Called v.1 ∷ []) result (counted (A_name ∷ A_name ∷ []) (map (λ w. w.now) words.now)) }
 {
     let [a, b] = words else {
         return Err(Code::Count);
@@ -41,7 +41,7 @@ pub fn two_names(words: &[&[u8]]) -> Result<(Name, Name), Code>
 
 /// Three layers.
 pub fn three_names(words: &[&[u8]]) -> Result<(Name, Name, Name), Code>
-    ensures { Reads (λ v. Called v.0 ∷ Called v.1 ∷ Called v.2 ∷ []) result (counted (A_name ∷ A_name ∷ A_name ∷ []) (map (λ w. w.now) words.now)) }
+    ensures { ReadsAs (λ v. Called v.0 ∷ Called v.1 ∷ Called v.2 ∷ []) result (counted (A_name ∷ A_name ∷ A_name ∷ []) (map (λ w. w.now) words.now)) }
 {
     let [a, b, c] = words else {
         return Err(Code::Count);
@@ -54,7 +54,7 @@ pub fn three_names(words: &[&[u8]]) -> Result<(Name, Name, Name), Code>
 
 /// A layer and a number from `low` to `high`.
 pub fn name_number(words: &[&[u8]], low: u32, high: u32) -> Result<(Name, u32), Code>
-    ensures is { Reads (λ v. Called v.0 ∷ Number v.1 ∷ []) result (counted (A_name ∷ A_number low high ∷ []) (map (λ w. w.now) words.now)) }
+    ensures is { ReadsAs (λ v. Called v.0 ∷ Number v.1 ∷ []) result (counted (A_name ∷ A_number low high ∷ []) (map (λ w. w.now) words.now)) }
     ensures within { IfOk result (λ v. IsWithin low high v.1) }
 {
     let [a, n] = words else {
@@ -67,7 +67,7 @@ pub fn name_number(words: &[&[u8]], low: u32, high: u32) -> Result<(Name, u32), 
 
 /// A layer and a pixel.
 pub fn name_pixel(words: &[&[u8]]) -> Result<(Name, Pixel), Code>
-    ensures { Reads (λ v. Called v.0 ∷ Number v.1.x ∷ Number v.1.y ∷ []) result
+    ensures { ReadsAs (λ v. Called v.0 ∷ Number v.1.x ∷ Number v.1.y ∷ []) result
         (counted (A_name ∷ coordinate ∷ coordinate ∷ []) (map (λ w. w.now) words.now)) }
 {
     let [a, x, y] = words else {
@@ -81,7 +81,7 @@ pub fn name_pixel(words: &[&[u8]]) -> Result<(Name, Pixel), Code>
 
 /// A layer, a pixel and a number from `low` to `high`.
 pub fn name_pixel_number(words: &[&[u8]], low: u32, high: u32) -> Result<(Name, Pixel, u32), Code>
-    ensures is { Reads (λ v. Called v.0 ∷ Number v.1.x ∷ Number v.1.y ∷ Number v.2 ∷ []) result
+    ensures is { ReadsAs (λ v. Called v.0 ∷ Number v.1.x ∷ Number v.1.y ∷ Number v.2 ∷ []) result
         (counted (A_name ∷ coordinate ∷ coordinate ∷ A_number low high ∷ []) (map (λ w. w.now) words.now)) }
     ensures within { IfOk result (λ v. IsWithin low high v.2) }
 {
@@ -97,7 +97,7 @@ pub fn name_pixel_number(words: &[&[u8]], low: u32, high: u32) -> Result<(Name, 
 
 /// A layer and a window.
 pub fn name_window(words: &[&[u8]]) -> Result<(Name, Window), Code>
-    ensures { Reads (λ v. Called v.0 ∷ Number v.1.x ∷ Number v.1.y ∷ Number v.1.w ∷ Number v.1.h ∷ []) result
+    ensures { ReadsAs (λ v. Called v.0 ∷ Number v.1.x ∷ Number v.1.y ∷ Number v.1.w ∷ Number v.1.h ∷ []) result
         (counted (A_name ∷ coordinate ∷ coordinate ∷ extent ∷ extent ∷ []) (map (λ w. w.now) words.now)) }
 {
     let [a, x, y, w, h] = words else {
@@ -113,7 +113,7 @@ pub fn name_window(words: &[&[u8]]) -> Result<(Name, Window), Code>
 
 /// A layer, a window and a number from `low` to `high`.
 pub fn name_window_number(words: &[&[u8]], low: u32, high: u32) -> Result<(Name, Window, u32), Code>
-    ensures is { Reads (λ v. Called v.0 ∷ Number v.1.x ∷ Number v.1.y ∷ Number v.1.w ∷ Number v.1.h ∷ Number v.2 ∷ []) result
+    ensures is { ReadsAs (λ v. Called v.0 ∷ Number v.1.x ∷ Number v.1.y ∷ Number v.1.w ∷ Number v.1.h ∷ Number v.2 ∷ []) result
         (counted (A_name ∷ coordinate ∷ coordinate ∷ extent ∷ extent ∷ A_number low high ∷ []) (map (λ w. w.now) words.now)) }
     ensures within { IfOk result (λ v. IsWithin low high v.2) }
 {
@@ -131,7 +131,7 @@ pub fn name_window_number(words: &[&[u8]], low: u32, high: u32) -> Result<(Name,
 
 /// A layer, a window and a layer.
 pub fn name_window_name(words: &[&[u8]]) -> Result<(Name, Window, Name), Code>
-    ensures { Reads (λ v. Called v.0 ∷ Number v.1.x ∷ Number v.1.y ∷ Number v.1.w ∷ Number v.1.h ∷ Called v.2 ∷ []) result
+    ensures { ReadsAs (λ v. Called v.0 ∷ Number v.1.x ∷ Number v.1.y ∷ Number v.1.w ∷ Number v.1.h ∷ Called v.2 ∷ []) result
         (counted (A_name ∷ coordinate ∷ coordinate ∷ extent ∷ extent ∷ A_name ∷ []) (map (λ w. w.now) words.now)) }
 {
     let [a, x, y, w, h, c] = words else {
@@ -148,7 +148,7 @@ pub fn name_window_name(words: &[&[u8]]) -> Result<(Name, Window, Name), Code>
 
 /// A layer, how far to the right and down, and a layer.
 pub fn name_shift_name(words: &[&[u8]]) -> Result<(Name, i32, i32, Name), Code>
-    ensures { Reads (λ v. Called v.0 ∷ Signed v.1 ∷ Signed v.2 ∷ Called v.3 ∷ []) result
+    ensures { ReadsAs (λ v. Called v.0 ∷ Signed v.1 ∷ Signed v.2 ∷ Called v.3 ∷ []) result
         (counted (A_name ∷ A_signed ∷ A_signed ∷ A_name ∷ []) (map (λ w. w.now) words.now)) }
 {
     let [a, x, y, c] = words else {
@@ -163,7 +163,7 @@ pub fn name_shift_name(words: &[&[u8]]) -> Result<(Name, i32, i32, Name), Code>
 
 /// A layer, a radius and a layer.
 pub fn name_radius_name(words: &[&[u8]]) -> Result<(Name, u16, Name), Code>
-    ensures { Reads (λ v. Called v.0 ∷ Number v.1 ∷ Called v.2 ∷ []) result (counted (A_name ∷ coordinate ∷ A_name ∷ []) (map (λ w. w.now) words.now)) }
+    ensures { ReadsAs (λ v. Called v.0 ∷ Number v.1 ∷ Called v.2 ∷ []) result (counted (A_name ∷ coordinate ∷ A_name ∷ []) (map (λ w. w.now) words.now)) }
 {
     let [a, r, c] = words else {
         return Err(Code::Count);
@@ -176,7 +176,7 @@ pub fn name_radius_name(words: &[&[u8]]) -> Result<(Name, u16, Name), Code>
 
 /// A layer, a number from `low` to `high`, and a number of rings.
 pub fn name_number_rings(words: &[&[u8]], low: u32, high: u32) -> Result<(Name, u32, u32), Code>
-    ensures is { Reads (λ v. Called v.0 ∷ Number v.1 ∷ Number v.2 ∷ []) result
+    ensures is { ReadsAs (λ v. Called v.0 ∷ Number v.1 ∷ Number v.2 ∷ []) result
         (counted (A_name ∷ A_number low high ∷ A_number 1 1000 ∷ []) (map (λ w. w.now) words.now)) }
     ensures within { IfOk result (λ v. IsWithin low high v.1) }
 {
@@ -191,7 +191,7 @@ pub fn name_number_rings(words: &[&[u8]], low: u32, high: u32) -> Result<(Name, 
 
 /// A layer, an id and the ends of a segment.
 pub fn name_id_segment(words: &[&[u8]]) -> Result<(Name, u32, Seg), Code>
-    ensures { Reads (λ v. Called v.0 ∷ Number v.1 ∷ Number v.2.x1 ∷ Number v.2.y1 ∷ Number v.2.x2 ∷ Number v.2.y2 ∷ []) result
+    ensures { ReadsAs (λ v. Called v.0 ∷ Number v.1 ∷ Number v.2.x1 ∷ Number v.2.y1 ∷ Number v.2.x2 ∷ Number v.2.y2 ∷ []) result
         (counted (A_name ∷ label ∷ coordinate ∷ coordinate ∷ coordinate ∷ coordinate ∷ []) (map (λ w. w.now) words.now)) }
 {
     let [a, id, x1, y1, x2, y2] = words else {

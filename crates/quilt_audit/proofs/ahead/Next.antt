@@ -13,7 +13,7 @@ use Rattle.quilt_record.specs.Listing.{IsEntryOf}
 use Rattle.quilt_spell.specs.Spelled.{SpellsUnder}
 use Rattle.quilt_spell.specs.Written.{by_key, number_of}
 use Rattle.quilt_audit.specs.declared.run.Run.{Run}
-use Rattle.quilt_line_audit.specs.Layers.{Refuses}
+use Rattle.quilt_line_audit.specs.Layers.{RefusesRecord}
 use Rattle.quilt_audit.specs.Runs.{IsRun, IsRunFinished}
 use Rattle.quilt_audit.specs.Checking.{entry_record, IsSoFar, HasBegun}
 use Rattle.quilt_audit.proofs.Lists.{rises_behind}
@@ -111,7 +111,7 @@ module _ (form n : ℕ) (least : 1 ≤ n) (le : n ≤ 12) (es : List Entry) (las
 
     -- a record that is refused in its layer does not come
     pub next_taken : (some : 1 ≤ layer) → r.key.layer ≡ layer
-        → ((e : Entry) → Contains es e → e.number ≡ layer → IsRun form n rs layer e.kind run → Refuses form n rs layer e.kind r) → ⊥
+        → ((e : Entry) → Contains es e → e.number ≡ layer → IsRun form n rs layer e.kind run → RefusesRecord form n rs layer e.kind r) → ⊥
     next_taken some is refused =
         let c = f.current some in
         let l = entry_layer form n numbers layers rs (r ∷ rest) le s es last layer run f top c.0 c.1 in

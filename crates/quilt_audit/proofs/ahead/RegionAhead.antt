@@ -13,7 +13,7 @@ use Rattle.quilt_loc.proofs.Rising.{nat_less_from}
 use Rattle.quilt_record.specs.declared.record.Record.{Record}
 use Rattle.quilt_record.specs.Records.{record_of}
 use Rattle.quilt_blocks.specs.Cutting.{leaves_by_code, leaf_cmp}
-use Rattle.quilt_blocks.specs.Walk.{size_of}
+use Rattle.quilt_blocks.specs.Walk.{pixel_count}
 use Rattle.quilt_blocks.specs.Listing.{Follows, EndsInQuarters}
 use Rattle.quilt_blocks.proofs.Chains.{Follows-back, Follows-rises, Follows-member}
 use Rattle.quilt_blocks.proofs.Cuts.{leaves_rise, leaves_members, leaf_is, leaf_total}
@@ -123,7 +123,7 @@ module _ (form n : ℕ) (le : n ≤ 12) (layer : ℕ) (some : 1 ≤ layer) (grid
         let t = all_laid.size in
         let g = going.laid.size in
         let e : leaves_by_code n grid ≡ going.blocks = split ∙ ap (λ l. going.blocks ++ l) none ∙ append-nil going.blocks in
-        sym g ∙ ap size_of (sym e) ∙ t
+        sym g ∙ ap pixel_count (sym e) ∙ t
 
     no_members : (more : List (Block × ℕ)) → ((e : Block × ℕ) → Contains more e → ⊥) → more ≡ []
     no_members [] h = refl

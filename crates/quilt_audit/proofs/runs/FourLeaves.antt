@@ -6,8 +6,8 @@ use Rattle.quilt_types.specs.Plane.{side, parent_of, quarters_of, IsBlock}
 use Rattle.quilt_loc.proofs.Nesting.{IsBlock-parent_of, side_pos}
 use Rattle.quilt_loc.proofs.Quartered.{IsQuarter, quarters_are, side_le}
 use Rattle.quilt_blocks.specs.declared.leaf.Leaf.{Leaf}
-use Rattle.quilt_blocks.specs.Cutting.{pair_of}
-use Rattle.quilt_blocks.specs.Listing.{pairs_of}
+use Rattle.quilt_blocks.specs.Cutting.{leaf_pair}
+use Rattle.quilt_blocks.specs.Listing.{leaf_pairs}
 use Rattle.quilt_audit.specs.Covers.{AreFour}
 use Rattle.quilt_audit.specs.Regions.{AreSiblings}
 
@@ -26,35 +26,35 @@ parent_is n b p h small is =
 
 -- four tests that held
 pub siblings_from : (n : ℕ) (a b c d : Leaf) (p : Block) (qs : List Block) (z : Block) → IsParent n d.block p → qs ≡ quarters_of p
-    → pair_of a ≡ (get_or qs 0 z, d.colour.0) → pair_of b ≡ (get_or qs 1 z, d.colour.0) → pair_of c ≡ (get_or qs 2 z, d.colour.0)
-    → pair_of d ≡ (get_or qs 3 z, d.colour.0)
+    → leaf_pair a ≡ (get_or qs 0 z, d.colour.0) → leaf_pair b ≡ (get_or qs 1 z, d.colour.0) → leaf_pair c ≡ (get_or qs 2 z, d.colour.0)
+    → leaf_pair d ≡ (get_or qs 3 z, d.colour.0)
     → AreSiblings n (a ∷ b ∷ c ∷ d ∷ []) (p, d.colour.0)
 siblings_from n a b c d p qs z h is ea eb ec ed = record {
   block = h.block;
   wide = h.wide;
-  quarters = four (at 0 (pair_of a) ea) (at 1 (pair_of b) eb) (at 2 (pair_of c) ec) (at 3 (pair_of d) ed);
+  quarters = four (at 0 (leaf_pair a) ea) (at 1 (leaf_pair b) eb) (at 2 (leaf_pair c) ec) (at 3 (leaf_pair d) ed);
 }
   where
     at : (i : ℕ) (x : Block × ℕ) → x ≡ (get_or qs i z, d.colour.0) → x ≡ (get_or (quarters_of p) i z, d.colour.0)
     at i x e = e ∙ ap (λ (l : List Block). let y : Block × ℕ = (get_or l i z, d.colour.0) in y) is
 
-    four : pair_of a ≡ (get_or (quarters_of p) 0 z, d.colour.0) → pair_of b ≡ (get_or (quarters_of p) 1 z, d.colour.0)
-        → pair_of c ≡ (get_or (quarters_of p) 2 z, d.colour.0)
-        → pair_of d ≡ (get_or (quarters_of p) 3 z, d.colour.0) → pairs_of (a ∷ b ∷ c ∷ d ∷ []) ≡ map (λ q. (q, d.colour.0)) (quarters_of p)
+    four : leaf_pair a ≡ (get_or (quarters_of p) 0 z, d.colour.0) → leaf_pair b ≡ (get_or (quarters_of p) 1 z, d.colour.0)
+        → leaf_pair c ≡ (get_or (quarters_of p) 2 z, d.colour.0)
+        → leaf_pair d ≡ (get_or (quarters_of p) 3 z, d.colour.0) → leaf_pairs (a ∷ b ∷ c ∷ d ∷ []) ≡ map (λ q. (q, d.colour.0)) (quarters_of p)
     four f g h' k = λ i. f i ∷ g i ∷ h' i ∷ k i ∷ []
 
 -- what four siblings are
 pub record AreThese (p : Block) (col : ℕ) (qs : List Block) (z : Block) (a b c d : Leaf) : Type 0 where
-  pub first : pair_of a ≡ (get_or qs 0 z, col)
-  pub second : pair_of b ≡ (get_or qs 1 z, col)
-  pub third : pair_of c ≡ (get_or qs 2 z, col)
-  pub fourth : pair_of d ≡ (get_or qs 3 z, col)
+  pub first : leaf_pair a ≡ (get_or qs 0 z, col)
+  pub second : leaf_pair b ≡ (get_or qs 1 z, col)
+  pub third : leaf_pair c ≡ (get_or qs 2 z, col)
+  pub fourth : leaf_pair d ≡ (get_or qs 3 z, col)
 
 last_quarter : (n : ℕ) (a b c d : Leaf) (w : Block × ℕ) → AreSiblings n (a ∷ b ∷ c ∷ d ∷ []) w → IsQuarter n w.0 d.block
 last_quarter n a b c d w s =
     let h = w.0.side / 2 in
     let q : Block = record { x = w.0.x + h; y = w.0.y + h; side = h } in
-    let e : d.block ≡ q = ap (λ (l : List (Block × ℕ)). (get_or l 3 (pair_of d)).0) s.quarters in
+    let e : d.block ≡ q = ap (λ (l : List (Block × ℕ)). (get_or l 3 (leaf_pair d)).0) s.quarters in
     subst (IsQuarter n w.0) (sym e) (quarters_are n w.0 q s.block s.wide (3, omega arith, refl))
 
 pub siblings_small : (n : ℕ) (a b c d : Leaf) (w : Block × ℕ) → AreSiblings n (a ∷ b ∷ c ∷ d ∷ []) w → d.block.side ≡ side n → ⊥
@@ -70,8 +70,8 @@ pub siblings_alike : (n : ℕ) (a b c d : Leaf) (w : Block × ℕ) → AreSiblin
     → (c.colour.0 ≡ d.colour.0) × (c.block.side ≡ d.block.side)
 siblings_alike n a b c d w s =
     let all : List (Block × ℕ) = map (λ q. (q, w.1)) (quarters_of w.0) in
-    let third : pair_of c ≡ get_or all 2 (pair_of c) = ap (λ (l : List (Block × ℕ)). get_or l 2 (pair_of c)) s.quarters in
-    let fourth : pair_of d ≡ get_or all 3 (pair_of c) = ap (λ (l : List (Block × ℕ)). get_or l 3 (pair_of c)) s.quarters in (
+    let third : leaf_pair c ≡ get_or all 2 (leaf_pair c) = ap (λ (l : List (Block × ℕ)). get_or l 2 (leaf_pair c)) s.quarters in
+    let fourth : leaf_pair d ≡ get_or all 3 (leaf_pair c) = ap (λ (l : List (Block × ℕ)). get_or l 3 (leaf_pair c)) s.quarters in (
       ap (λ (x : Block × ℕ). x.1) third ∙ sym (ap (λ (x : Block × ℕ). x.1) fourth),
       ap (λ (x : Block × ℕ). x.0.side) third ∙ sym (ap (λ (x : Block × ℕ). x.0.side) fourth),
     )
@@ -79,17 +79,17 @@ siblings_alike n a b c d w s =
 pub siblings_are : (n : ℕ) (a b c d : Leaf) (w : Block × ℕ) (p : Block) (qs : List Block) (z : Block) → AreSiblings n (a ∷ b ∷ c ∷ d ∷ []) w
     → p ≡ parent_of d.block → qs ≡ quarters_of p → AreThese p d.colour.0 qs z a b c d
 siblings_are n a b c d w p qs z s is qs_are = record {
-  first = at 0 (pair_of a) (ap (λ (l : List (Block × ℕ)). get_or l 0 (pair_of a)) s.quarters);
-  second = at 1 (pair_of b) (ap (λ (l : List (Block × ℕ)). get_or l 1 (pair_of b)) s.quarters);
-  third = at 2 (pair_of c) (ap (λ (l : List (Block × ℕ)). get_or l 2 (pair_of c)) s.quarters);
-  fourth = at 3 (pair_of d) (ap (λ (l : List (Block × ℕ)). get_or l 3 (pair_of d)) s.quarters);
+  first = at 0 (leaf_pair a) (ap (λ (l : List (Block × ℕ)). get_or l 0 (leaf_pair a)) s.quarters);
+  second = at 1 (leaf_pair b) (ap (λ (l : List (Block × ℕ)). get_or l 1 (leaf_pair b)) s.quarters);
+  third = at 2 (leaf_pair c) (ap (λ (l : List (Block × ℕ)). get_or l 2 (leaf_pair c)) s.quarters);
+  fourth = at 3 (leaf_pair d) (ap (λ (l : List (Block × ℕ)). get_or l 3 (leaf_pair d)) s.quarters);
 }
   where
     whole : w.0 ≡ p
     whole = sym (last_quarter n a b c d w s).parent ∙ sym is
 
     colour : w.1 ≡ d.colour.0
-    colour = sym (ap (λ (l : List (Block × ℕ)). (get_or l 3 (pair_of d)).1) s.quarters)
+    colour = sym (ap (λ (l : List (Block × ℕ)). (get_or l 3 (leaf_pair d)).1) s.quarters)
 
     at : (i : ℕ) (x : Block × ℕ) → x ≡ (get_or (quarters_of w.0) i z, w.1) → x ≡ (get_or qs i z, d.colour.0)
     at i x e =
@@ -116,6 +116,6 @@ pub four_siblings : (n : ℕ) (a b c d : Block) (p q r s : Leaf) → p ≡ uncol
 four_siblings n a b c d p q r s ep eq er es w h = record {
   block = h.block;
   wide = h.wide;
-  quarters = (λ i. pair_of (ep i) ∷ pair_of (eq i) ∷ pair_of (er i) ∷ pair_of (es i) ∷ [])
+  quarters = (λ i. leaf_pair (ep i) ∷ leaf_pair (eq i) ∷ leaf_pair (er i) ∷ leaf_pair (es i) ∷ [])
       ∙ ap (map (λ (z : Block). let x : Block × ℕ = (z, 0) in x)) (sym h.quarters);
 }

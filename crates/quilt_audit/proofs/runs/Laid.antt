@@ -14,9 +14,9 @@ use Rattle.quilt_loc.proofs.Nesting.{side_pos}
 use Rattle.quilt_loc.proofs.Quartered.{quarters_are, side_le}
 use Rattle.quilt_record.specs.declared.record.Record.{Record}
 use Rattle.quilt_blocks.specs.declared.leaf.Leaf.{Leaf}
-use Rattle.quilt_blocks.specs.Cutting.{leaves_by_code, pair_of}
+use Rattle.quilt_blocks.specs.Cutting.{leaves_by_code, leaf_pair}
 use Rattle.quilt_blocks.specs.Mosaic.{HasColour}
-use Rattle.quilt_blocks.specs.Listing.{IsUnmerged, IsMaking, EndsInQuarters, pairs_of}
+use Rattle.quilt_blocks.specs.Listing.{IsUnmerged, IsMaking, EndsInQuarters, leaf_pairs}
 use Rattle.quilt_blocks.proofs.Chains.{size_of-nil, size_of-cons, size_of-append}
 use Rattle.quilt_blocks.proofs.Colours.{uniform-from_HasColour, colour_is}
 use Rattle.quilt_blocks.proofs.Cuts.{leaves_run, leaves_members, leaf_is}
@@ -53,44 +53,44 @@ pub HasBlocks-none : (rs : List Record) (k n : ℕ) → ((r : Record) → Contai
 HasBlocks-none rs k n apart = record { each = λ e c. absurd (Contains-nil e c); only = λ r c is. absurd (apart r c is) }
 
 -- ---- the last blocks
-pub EndsIn-more : (bs : List (Block × ℕ)) (a b c d : Leaf) → EndsIn bs (a ∷ b ∷ c ∷ []) → EndsIn (bs ++ pair_of d ∷ []) (b ∷ c ∷ d ∷ [])
+pub EndsIn-more : (bs : List (Block × ℕ)) (a b c d : Leaf) → EndsIn bs (a ∷ b ∷ c ∷ []) → EndsIn (bs ++ leaf_pair d ∷ []) (b ∷ c ∷ d ∷ [])
 EndsIn-more bs a b c d h = record {
   three = refl;
-  front = h.front ++ pair_of a ∷ [];
-  split = sym (append_assoc (pairs_of no_leaves) bs (pair_of d ∷ [])) ∙ ap (λ l. l ++ pair_of d ∷ []) h.split
-      ∙ append_assoc h.front (pairs_of (a ∷ b ∷ c ∷ [])) (pair_of d ∷ []) ∙ sym (append_assoc h.front (pair_of a ∷ []) (pairs_of (b ∷ c ∷ d ∷ [])));
+  front = h.front ++ leaf_pair a ∷ [];
+  split = sym (append_assoc (leaf_pairs no_leaves) bs (leaf_pair d ∷ [])) ∙ ap (λ l. l ++ leaf_pair d ∷ []) h.split
+      ∙ append_assoc h.front (leaf_pairs (a ∷ b ∷ c ∷ [])) (leaf_pair d ∷ []) ∙ sym (append_assoc h.front (leaf_pair a ∷ []) (leaf_pairs (b ∷ c ∷ d ∷ [])));
 }
 
 pub EndsIn-none : EndsIn [] no_leaves
 EndsIn-none = record { three = refl; front = []; split = refl }
 
-cut_front : (bs front : List (Block × ℕ)) (w : Block × ℕ) → 1 < w.0.side → pairs_of no_leaves ++ bs ≡ front ++ map (λ q. (q, w.1)) (quarters_of w.0)
+cut_front : (bs front : List (Block × ℕ)) (w : Block × ℕ) → 1 < w.0.side → leaf_pairs no_leaves ++ bs ≡ front ++ map (λ q. (q, w.1)) (quarters_of w.0)
     → (f : List (Block × ℕ)) × (bs ≡ f ++ map (λ q. (q, w.1)) (quarters_of w.0))
-cut_front bs [] w wide e = let g = ap (λ (l : List (Block × ℕ)). (get_or l 0 (pair_of nothing)).0.side) e in absurd (omega arith)
-cut_front bs (x ∷ []) w wide e = let g = ap (λ (l : List (Block × ℕ)). (get_or l 1 (pair_of nothing)).0.side) e in absurd (omega arith)
-cut_front bs (x ∷ y ∷ []) w wide e = let g = ap (λ (l : List (Block × ℕ)). (get_or l 2 (pair_of nothing)).0.side) e in absurd (omega arith)
+cut_front bs [] w wide e = let g = ap (λ (l : List (Block × ℕ)). (get_or l 0 (leaf_pair nothing)).0.side) e in absurd (omega arith)
+cut_front bs (x ∷ []) w wide e = let g = ap (λ (l : List (Block × ℕ)). (get_or l 1 (leaf_pair nothing)).0.side) e in absurd (omega arith)
+cut_front bs (x ∷ y ∷ []) w wide e = let g = ap (λ (l : List (Block × ℕ)). (get_or l 2 (leaf_pair nothing)).0.side) e in absurd (omega arith)
 cut_front bs (x ∷ y ∷ z ∷ f) w wide e = let r : bs ≡ f ++ map (λ q. (q, w.1)) (quarters_of w.0) = ap (λ (l : List (Block × ℕ)). drop 3 l) e in (f, r)
 
 -- four siblings are the last four blocks
 pub siblings_end : (n : ℕ) (bs : List (Block × ℕ)) (a b c d : Leaf) (w : Block × ℕ) → EndsIn bs (a ∷ b ∷ c ∷ [])
-    → AreSiblings n (a ∷ b ∷ c ∷ d ∷ []) w → EndsInQuarters n (bs ++ pair_of d ∷ []) w
+    → AreSiblings n (a ∷ b ∷ c ∷ d ∷ []) w → EndsInQuarters n (bs ++ leaf_pair d ∷ []) w
 siblings_end n bs a b c d w h s =
-    let all = sym (append_assoc (pairs_of no_leaves) bs (pair_of d ∷ [])) ∙ ap (λ l. l ++ pair_of d ∷ []) h.split
-    ∙ append_assoc h.front (pairs_of (a ∷ b ∷ c ∷ [])) (pair_of d ∷ []) ∙ ap (λ l. h.front ++ l) s.quarters in
-    let r = cut_front (bs ++ pair_of d ∷ []) h.front w s.wide all in
+    let all = sym (append_assoc (leaf_pairs no_leaves) bs (leaf_pair d ∷ [])) ∙ ap (λ l. l ++ leaf_pair d ∷ []) h.split
+    ∙ append_assoc h.front (leaf_pairs (a ∷ b ∷ c ∷ [])) (leaf_pair d ∷ []) ∙ ap (λ l. h.front ++ l) s.quarters in
+    let r = cut_front (bs ++ leaf_pair d ∷ []) h.front w s.wide all in
     record { block = s.block; wide = s.wide; front = r.0; split = r.1 }
 
 pub end_siblings : (n : ℕ) (bs : List (Block × ℕ)) (a b c d : Leaf) (w : Block × ℕ) → EndsIn bs (a ∷ b ∷ c ∷ [])
-    → EndsInQuarters n (bs ++ pair_of d ∷ []) w → AreSiblings n (a ∷ b ∷ c ∷ d ∷ []) w
+    → EndsInQuarters n (bs ++ leaf_pair d ∷ []) w → AreSiblings n (a ∷ b ∷ c ∷ d ∷ []) w
 end_siblings n bs a b c d w h q =
     let four : List (Block × ℕ) = map (λ r. (r, w.1)) (quarters_of w.0) in
-    let one = sym (append_assoc (pairs_of no_leaves) bs (pair_of d ∷ [])) ∙ ap (λ l. l ++ pair_of d ∷ []) h.split
-    ∙ append_assoc h.front (pairs_of (a ∷ b ∷ c ∷ [])) (pair_of d ∷ []) in
-    let two = ap (λ l. pairs_of no_leaves ++ l) q.split ∙ sym (append_assoc (pairs_of no_leaves) q.front four) in
+    let one = sym (append_assoc (leaf_pairs no_leaves) bs (leaf_pair d ∷ [])) ∙ ap (λ l. l ++ leaf_pair d ∷ []) h.split
+    ∙ append_assoc h.front (leaf_pairs (a ∷ b ∷ c ∷ [])) (leaf_pair d ∷ []) in
+    let two = ap (λ l. leaf_pairs no_leaves ++ l) q.split ∙ sym (append_assoc (leaf_pairs no_leaves) q.front four) in
     record {
       block = q.block;
       wide = q.wide;
-      quarters = same_tail h.front (pairs_of no_leaves ++ q.front) (pairs_of (a ∷ b ∷ c ∷ d ∷ [])) four refl (sym one ∙ two);
+      quarters = same_tail h.front (leaf_pairs no_leaves ++ q.front) (leaf_pairs (a ∷ b ∷ c ∷ d ∷ [])) four refl (sym one ∙ two);
     }
 
 -- ---- laid blocks

@@ -25,8 +25,8 @@ use Rattle.quilt_edits.proofs.Keys.{le_code}
 use Rattle.quilt_point_laws.proofs.OnBlocks.{IsOn, OfBlock}
 use Rattle.quilt_audit.specs.declared.tally.Tally.{Tally}
 use Rattle.quilt_audit.specs.declared.points.PointRun.{PointRun}
-use Rattle.quilt_line_audit.specs.Layers.{SpellsOne, IsLayerOf, Refuses, IsShort}
-use Rattle.quilt_audit.specs.Points.{IsTallied, IsPointRun, AreClosed, IsOpened, IsFinished, IsHeldIn, IsStart, count_of, recent_after}
+use Rattle.quilt_line_audit.specs.Layers.{SpellsOne, IsLayerOf, RefusesRecord, IsShort}
+use Rattle.quilt_audit.specs.Points.{IsTallied, IsPointRun, AreClosed, IsBlockBegun, IsFinished, IsHeldIn, IsPointStart, count_of, recent_after}
 use Rattle.quilt_audit.proofs.Lists.{rises_front, rises_behind}
 use Rattle.quilt_audit.proofs.runs.PointSteps.{opened, more_tallied, closes, begins_placed, begins_closed}
 use Rattle.quilt_audit.proofs.ahead.PointAhead.{on_layer, on_part, on_code, from_record, of_fits}
@@ -64,7 +64,7 @@ with_points form n rs layer capacity P f (Lines threshold segs cover) e s = absu
 
 pub refused : (form n : ℕ) (rs : List Record) (layer capacity : ℕ) (r : Record)
     → ((rest : List Record) (full : PointMap) → Rises by_key (rs ++ r ∷ rest) → SpellsOne form n (rs ++ r ∷ rest) layer (Points capacity full) → ⊥)
-    → Refuses form n rs layer (kinds.Points capacity) r
+    → RefusesRecord form n rs layer (kinds.Points capacity) r
 refused form n rs layer capacity r f rest l e up s = with_points form n (rs ++ r ∷ rest) layer capacity ⊥ (λ full t. f rest full up t) l e s
 
 pub point_code : (n c k : ℕ) (b : Block) (held : Option Point) → (record_of n c [] k (point_fact b held)).key.code ≡ code_from b
@@ -85,7 +85,7 @@ fact_read n c points b k least most r f o fit e = absurd o
 
 pub unread_refused : (form n : ℕ) → n ≤ 12 → (rs : List Record) (capacity : ℕ) (r : Record) → 1 ≤ r.key.layer → r.key.layer ≤ 255
     → ((b : Block) (held : Option Point) → IsRecordOf n capacity r r.key.layer (point_fact b held) → ⊥)
-    → Refuses form n rs r.key.layer (kinds.Points capacity) r
+    → RefusesRecord form n rs r.key.layer (kinds.Points capacity) r
 unread_refused form n le rs capacity r least most none =
     refused form n rs r.key.layer capacity r
     (λ rest full up s.
@@ -115,7 +115,7 @@ module _ (form n : ℕ) (least : 1 ≤ n) (le : n ≤ 12) (run : PointRun) (laye
 
   -- ---- refused
   pub outside_refused : (held : Option Point) → FactFits n (point_fact b held) → (IsHeldIn b held → ⊥)
-      → Refuses form n rs layer (kinds.Points run.bucket) (said held)
+      → RefusesRecord form n rs layer (kinds.Points run.bucket) (said held)
   outside_refused None fit out = absurd (out tt)
   outside_refused (Some x) fit out =
       refused form n rs layer run.bucket (said (Some x))
@@ -123,7 +123,7 @@ module _ (form n : ℕ) (least : 1 ≤ n) (le : n ≤ 12) (run : PointRun) (laye
       let o = there_of (Some x) fit rest full up s in
       out (subst (λ (z : Block). in_block z x.at ≡ true) (sym o.on.0) o.on.2))
 
-  wide_none : (c : ℕ) → IsStart c run → b ≡ run.last.block → ⊥
+  wide_none : (c : ℕ) → IsPointStart c run → b ≡ run.last.block → ⊥
   wide_none c s e =
       let z = ap (λ (d : Block). d.side) e ∙ ap (λ (t : Tally). t.block.side) s.tail in
       let p = side_pos n b hb in
@@ -131,7 +131,7 @@ module _ (form n : ℕ) (least : 1 ≤ n) (le : n ≤ 12) (run : PointRun) (laye
 
   pub more_refused : (held : Option Point) → FactFits n (point_fact b held) → b ≡ run.last.block
       → (1 ≤ count_of held → 1 ≤ run.last.count → run.last.count < run.bucket → ⊥)
-      → Refuses form n rs layer (kinds.Points run.bucket) (said held)
+      → RefusesRecord form n rs layer (kinds.Points run.bucket) (said held)
   more_refused None fit is none =
       refused form n rs layer run.bucket (said None)
       (λ rest full up s.
@@ -158,7 +158,7 @@ module _ (form n : ℕ) (least : 1 ≤ n) (le : n ≤ 12) (run : PointRun) (laye
       (h.so_far (rises_front by_key rs (said (Some x) ∷ rest) up)))
 
   pub code_refused : (held : Option Point) → FactFits n (point_fact b held) → (b ≡ run.last.block → ⊥) → (code_from b ≡ run.end → ⊥)
-      → Refuses form n rs layer (kinds.Points run.bucket) (said held)
+      → RefusesRecord form n rs layer (kinds.Points run.bucket) (said held)
   code_refused held fit other differs =
       refused form n rs layer run.bucket (said held)
       (λ rest full up s.
@@ -182,7 +182,7 @@ module _ (form n : ℕ) (least : 1 ≤ n) (le : n ≤ 12) (run : PointRun) (laye
       (h.so_far (rises_front by_key rs (said held ∷ rest) up)))
 
   pub enough_refused : (held : Option Point) → FactFits n (point_fact b held) → code_from b ≡ run.end → run.last.count < run.least
-      → Refuses form n rs layer (kinds.Points run.bucket) (said held)
+      → RefusesRecord form n rs layer (kinds.Points run.bucket) (said held)
   enough_refused held fit at few =
       refused form n rs layer run.bucket (said held)
       (λ rest full up s.
@@ -230,7 +230,7 @@ module _ (form n : ℕ) (least : 1 ≤ n) (le : n ≤ 12) (run : PointRun) (laye
   }
 
   pub opened_taken : (held : Option Point) → FactFits n (point_fact b held) → IsHeldIn b held → code_from b ≡ run.end → run.least ≤ run.last.count
-      → (next : PointRun) → IsOpened n run b (count_of held) next
+      → (next : PointRun) → IsBlockBegun n run b (count_of held) next
       → IsPointRun form n (rs ++ said held ∷ []) layer run.bucket next
   opened_taken held fit inside at enough next o = record {
     bucket = o.bucket;

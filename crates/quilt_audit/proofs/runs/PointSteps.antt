@@ -22,7 +22,7 @@ use Rattle.quilt_record.specs.declared.record.Record.{Record}
 use Rattle.quilt_record.specs.Records.{record_of}
 use Rattle.quilt_record.specs.Canonical.{FactFits, point_fact}
 use Rattle.quilt_blocks.specs.Listing.{Follows}
-use Rattle.quilt_blocks.specs.Walk.{size_of}
+use Rattle.quilt_blocks.specs.Walk.{pixel_count}
 use Rattle.quilt_blocks.proofs.Chains.{size_of-nil}
 use Rattle.quilt_spell.specs.Written.{by_key}
 use Rattle.quilt_spell.proofs.facts.FactKeys.{pixel_same}
@@ -38,7 +38,7 @@ use Rattle.quilt_point_laws.proofs.Plans.{AreIn-length, put_valid}
 use Rattle.quilt_audit.specs.declared.tally.Tally.{Tally}
 use Rattle.quilt_audit.specs.declared.points.PointRun.{PointRun}
 use Rattle.quilt_audit.specs.Covers.{AreFour, no_block, no_blocks}
-use Rattle.quilt_audit.specs.Points.{plain, HasFacts, ArePlaced, EndIn, AreClosed, total, blocks_behind, IsTallied, IsStart, IsBefore, IsLeast, recent_after, IsHeldIn}
+use Rattle.quilt_audit.specs.Points.{plain, HasFacts, ArePlaced, EndIn, AreClosed, total, blocks_behind, IsTallied, IsPointStart, IsBefore, IsLeast, recent_after, IsHeldIn}
 use Rattle.quilt_audit.specs.Points.{count_of, no_tally}
 use Rattle.quilt_audit.proofs.Lists.{last_cases, in_front, at_last, below_itself, rises_before}
 use Rattle.quilt_audit.proofs.Covering.{covers_more, covered_more, last_apart, last_four}
@@ -152,7 +152,7 @@ module _ (form n : ℕ) (le : n ≤ 12) (rs : List Record) (layer capacity end :
   follows : Follows n 0 (map plain (bs ++ b ∷ []))
   follows = let s = placed.size in covers_more n 0 bs b placed.follows hb (omega arith)
 
-  size : size_of (map plain (bs ++ b ∷ [])) ≡ code_to b
+  size : pixel_count (map plain (bs ++ b ∷ [])) ≡ code_to b
   size = let s = placed.size in let m = covered_more n bs b in omega arith
 
   pub next_bare : IsBare points b
@@ -442,7 +442,7 @@ no_entry e c =
     let z : None ≡ Some e.1 = sym (finmap.get-empty pixel_cmp e.0) ∙ get_from_entry pixel_cmp pixel_total pixel_same finmap.empty e c in
     cc
 
-none_is : (run : PointRun) (capacity : ℕ) → IsStart capacity run → recent_after run.recent run.last ≡ no_tally ∷ no_tally ∷ no_tally ∷ []
+none_is : (run : PointRun) (capacity : ℕ) → IsPointStart capacity run → recent_after run.recent run.last ≡ no_tally ∷ no_tally ∷ no_tally ∷ []
 none_is run capacity s = ap (λ (l : List Tally). recent_after l run.last) s.recent ∙ ap (λ (t : Tally). no_tally ∷ no_tally ∷ t ∷ []) s.tail
 
 tally_none : (t : Tally) → Contains (no_tally ∷ no_tally ∷ no_tally ∷ []) t → t ≡ no_tally

@@ -18,7 +18,7 @@ use Rattle.quilt_record.specs.declared.record.Record.{Record}
 use Rattle.quilt_record.specs.Records.{record_of}
 use Rattle.quilt_record.specs.Canonical.{IsRecordOf}
 use Rattle.quilt_blocks.specs.declared.leaf.Leaf.{Leaf}
-use Rattle.quilt_blocks.specs.Cutting.{leaves_by_code, pair_of}
+use Rattle.quilt_blocks.specs.Cutting.{leaves_by_code, leaf_pair}
 use Rattle.quilt_blocks.specs.Painting.{colours_of, grid_by_code}
 use Rattle.quilt_blocks.specs.Listing.{IsListed, grid_from}
 use Rattle.quilt_blocks.proofs.Chains.{length-colours_of, member_with, colour_in}
@@ -29,7 +29,7 @@ use Rattle.quilt_spell.specs.Catalogued.{kind_of}
 use Rattle.quilt_spell.specs.Written.{by_key}
 use Rattle.quilt_spell.specs.OfLayer.{leaf_record}
 use Rattle.quilt_region.proofs.Records.{leaf_is_record}
-use Rattle.quilt_line_audit.specs.Layers.{SpellsOne, IsLayerOf, Refuses, IsShort}
+use Rattle.quilt_line_audit.specs.Layers.{SpellsOne, IsLayerOf, RefusesRecord, IsShort}
 use Rattle.quilt_audit.specs.Regions.{AreLaid, IsGoing, AreSiblings, no_leaves, EndsIn}
 use Rattle.quilt_audit.proofs.runs.Laid.{making, HasBlocks-more, HasBlocks-none, EndsIn-more}
 use Rattle.quilt_audit.proofs.runs.Laid.{EndsIn-none, end_siblings, siblings_end, AreLaid-none, AreLaid-more}
@@ -52,12 +52,12 @@ with_region form n rs layer P f (Lines threshold segs cover) e s = absurd (let z
 
 refused : (form n : ℕ) (rs : List Record) (layer : ℕ) (r : Record)
     → ((rest : List Record) (grid : Grid) → Rises by_key (rs ++ r ∷ rest) → SpellsOne form n (rs ++ r ∷ rest) layer (Region grid) → ⊥)
-    → Refuses form n rs layer kinds.Region r
+    → RefusesRecord form n rs layer kinds.Region r
 refused form n rs layer r f rest l e up s = with_region form n (rs ++ r ∷ rest) layer ⊥ (λ grid t. f rest grid up t) l e s
 
 -- ---- a record that cannot be read
 pub unread_refused : (form n : ℕ) → n ≤ 12 → (rs : List Record) (r : Record) → 1 ≤ r.key.layer → r.key.layer ≤ 255
-    → ((b : Block) (c : Colour) → (form ≡ 1 → c.0 < 256) → IsRecordOf n 0 r r.key.layer (HasColour b c.0) → ⊥) → Refuses form n rs r.key.layer kinds.Region r
+    → ((b : Block) (c : Colour) → (form ≡ 1 → c.0 < 256) → IsRecordOf n 0 r r.key.layer (HasColour b c.0) → ⊥) → RefusesRecord form n rs r.key.layer kinds.Region r
 unread_refused form n le rs r least most none =
     refused form n rs r.key.layer r
     (λ rest grid up s.
@@ -77,34 +77,34 @@ module _ (form n : ℕ) (least : 1 ≤ n) (le : n ≤ 12) (layer : ℕ) (some : 
   three_here : recent ≡ get_or recent 0 z ∷ get_or recent 1 z ∷ get_or recent 2 z ∷ []
   three_here = three_are recent z g.ends.three
 
-  pub code_refused : (code_from leaf.block ≡ end → ⊥) → Refuses form n rs layer kinds.Region (leaf_record n layer (pair_of leaf))
+  pub code_refused : (code_from leaf.block ≡ end → ⊥) → RefusesRecord form n rs layer kinds.Region (leaf_record n layer (leaf_pair leaf))
   code_refused differs =
-      let r = leaf_record n layer (pair_of leaf) in
+      let r = leaf_record n layer (leaf_pair leaf) in
       refused form n rs layer r
-      (λ rest grid up s. differs (next_code form n le layer some grid rs (r ∷ rest) up s end recent g r rest refl (pair_of leaf) block refl))
+      (λ rest grid up s. differs (next_code form n le layer some grid rs (r ∷ rest) up s end recent g r rest refl (leaf_pair leaf) block refl))
 
   pub siblings_refused : (w : Block × ℕ) → AreSiblings n (get_or recent 0 z ∷ get_or recent 1 z ∷ get_or recent 2 z ∷ leaf ∷ []) w
-      → Refuses form n rs layer kinds.Region (leaf_record n layer (pair_of leaf))
+      → RefusesRecord form n rs layer kinds.Region (leaf_record n layer (leaf_pair leaf))
   siblings_refused w q =
-      let r = leaf_record n layer (pair_of leaf) in
+      let r = leaf_record n layer (leaf_pair leaf) in
       refused form n rs layer r
       (λ rest grid up s.
-      next_unmerged form n le layer some grid rs (r ∷ rest) up s end recent g r rest refl (pair_of leaf) block refl w
+      next_unmerged form n le layer some grid rs (r ∷ rest) up s end recent g r rest refl (leaf_pair leaf) block refl w
       (siblings_end n g.blocks (get_or recent 0 z) (get_or recent 1 z) (get_or recent 2 z) leaf w (subst (EndsIn g.blocks) three_here g.ends) q))
 
   pub leaf_taken : code_from leaf.block ≡ end → leaf.colour.0 < colours form → (next : ℕ) → next ≡ code_to leaf.block
       → ((w : Block × ℕ) → AreSiblings n (get_or recent 0 z ∷ get_or recent 1 z ∷ get_or recent 2 z ∷ leaf ∷ []) w → ⊥)
-      → IsGoing form n (rs ++ leaf_record n layer (pair_of leaf) ∷ []) layer next (get_or recent 1 z ∷ get_or recent 2 z ∷ leaf ∷ [])
+      → IsGoing form n (rs ++ leaf_record n layer (leaf_pair leaf) ∷ []) layer next (get_or recent 1 z ∷ get_or recent 2 z ∷ leaf ∷ [])
   leaf_taken at small next to apart =
       let a = get_or recent 0 z in
       let b = get_or recent 1 z in
       let c = get_or recent 2 z in
       let ends = subst (EndsIn g.blocks) three_here g.ends in
       let e : end + leaf.block.side * leaf.block.side ≡ next = omega arith in
-      subst (λ (k : ℕ). IsGoing form n (rs ++ leaf_record n layer (pair_of leaf) ∷ []) layer k (b ∷ c ∷ leaf ∷ [])) e (record {
-        blocks = g.blocks ++ pair_of leaf ∷ [];
-        has = HasBlocks-more rs layer n g.blocks g.has (pair_of leaf);
-        laid = AreLaid-more form n end g.blocks (pair_of leaf) least le g.laid block at small (λ w q. apart w (end_siblings n g.blocks a b c leaf w ends q));
+      subst (λ (k : ℕ). IsGoing form n (rs ++ leaf_record n layer (leaf_pair leaf) ∷ []) layer k (b ∷ c ∷ leaf ∷ [])) e (record {
+        blocks = g.blocks ++ leaf_pair leaf ∷ [];
+        has = HasBlocks-more rs layer n g.blocks g.has (leaf_pair leaf);
+        laid = AreLaid-more form n end g.blocks (leaf_pair leaf) least le g.laid block at small (λ w q. apart w (end_siblings n g.blocks a b c leaf w ends q));
         ends = EndsIn-more g.blocks a b c leaf ends;
       })
 

@@ -9,7 +9,7 @@ use Rattle.quilt_record.specs.declared.record.Record.{Record}
 use Rattle.quilt_spell.specs.Written.{by_key}
 use Rattle.quilt_line_audit.specs.declared.pair.Pair.{Pair}
 use Rattle.quilt_line_audit.specs.declared.run.LineRun.{LineRun}
-use Rattle.quilt_line_audit.specs.Runs.{IsStart, IsLineRun, pair_record, segment_record, is_of_part}
+use Rattle.quilt_line_audit.specs.Runs.{IsLineStart, IsLineRun, pair_record, segment_record, is_of_part}
 use Rattle.quilt_line_audit.proofs.Keys.{filter_none, part_false}
 use Rattle.quilt_line_audit.proofs.Whole.{whole_lines, short_lines}
 use Rattle.quilt_audit.specs.declared.regions.RegionRun.{RegionRun}
@@ -44,7 +44,7 @@ module _ (form n : ℕ) (rs : List Record) (layer : ℕ) (P : Kind → Type 0) w
   by_lines run f (kinds.Lines threshold) h = f threshold h
 
 -- ---- no record yet of a line layer
-pub lines_none : (n : ℕ) (rs : List Record) (layer threshold : ℕ) (run : LineRun) → 1 ≤ threshold → threshold ≤ 32 → IsStart run
+pub lines_none : (n : ℕ) (rs : List Record) (layer threshold : ℕ) (run : LineRun) → 1 ≤ threshold → threshold ≤ 32 → IsLineStart run
     → ((r : Record) → Contains rs r → r.key.layer ≡ layer → ⊥)
     → IsLineRun n rs layer threshold run
 lines_none n rs layer threshold run low high start none =

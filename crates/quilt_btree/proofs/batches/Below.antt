@@ -22,7 +22,7 @@ use Rattle.quilt_btree.specs.declared.edit.Edit.{Edit}
 use Rattle.quilt_btree.specs.declared.edit.Edit.TheVariants as edit
 use Rattle.quilt_btree.specs.Batches.{key_of, edit_keys, edited, edit_all, are_due, Fails, DidEdit}
 use Rattle.quilt_btree.specs.Subtree.{Subtree}
-use Rattle.quilt_btree.specs.Edits.{times, Becomes, CanEdit}
+use Rattle.quilt_btree.specs.Edits.{multiplicity, Becomes, CanEdit}
 use Rattle.quilt_btree.proofs.batches.Leaves.{IsEdited, edit_at, edit_all_between, are_due_between}
 use Rattle.quilt_btree.proofs.growth.Below.{cut_at_child, above_from, edit_spells}
 use Rattle.quilt_btree.proofs.growth.Fills.{one_less, within_put, child_low}
@@ -73,7 +73,7 @@ leaf_edited {told = told} now_told {free = free} size {page = page} bytes {is_ro
     let pages = can.pages in
     let s = can.subtree in
     let written = tells_at (λ old new. new ≡ slice_set old page bytes) told now_told pages wrote can.is_told in
-    let here : 1 ≤ times page used = subst (λ u. 1 ≤ times page u) (sym s.is_used) (first (times page (page ∷ [])) (times_here page [])) in
+    let here : 1 ≤ multiplicity page used = subst (λ u. 1 ≤ multiplicity page u) (sym s.is_used) (first (multiplicity page (page ∷ [])) (times_here page [])) in
     let left : new ≡ edit_all xs rs = d.is ∙ ap (edit_all xs) same in
     let under : list_all (is_below b.high) (edit_keys xs) ≡ true = subst (λ o. list_all (is_below o) (edit_keys xs) ≡ true) (sym top) below in
     let grown : Becomes pages (slice_set pages page bytes) free free page 1 is_root b used (edit_all xs rs) = record {

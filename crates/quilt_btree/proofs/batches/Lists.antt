@@ -13,7 +13,7 @@ use Rattle.quilt_node.specs.Pages.{is_ascending}
 use Rattle.quilt_node.specs.Nodes.{keys_of}
 use Rattle.quilt_btree.specs.declared.edit.Edit.{Edit}
 use Rattle.quilt_btree.specs.declared.edit.Edit.TheVariants as edit
-use Rattle.quilt_btree.specs.Batches.{edit_keys, is_due, edit_all, are_due, removed, added}
+use Rattle.quilt_btree.specs.Batches.{edit_keys, is_due, edit_all, are_due, removed, records_put}
 use Rattle.quilt_btree.specs.Runs.{without_all, put_all}
 use Rattle.quilt_btree.proofs.batches.Whole.{asc_edited}
 use Rattle.quilt_btree.proofs.lists.Lists.{filter_cond, put_last}
@@ -84,7 +84,7 @@ gone_keys p (edit.Replace r ∷ run) h =
 
 -- the list behind a batch is the old one without the keys that go, and with the records that come
 pub edits_are : (run : List Edit) (rs : List Record) → is_ascending (edit_keys run) ≡ true → is_ascending (keys_of rs) ≡ true → are_due run rs ≡ true
-    → edit_all run rs ≡ put_all (added run) (without_all (removed run) rs)
+    → edit_all run rs ≡ put_all (records_put run) (without_all (removed run) rs)
 edits_are [] rs o a d = refl
 edits_are (edit.Remove k ∷ run) rs o a d =
     let t = and_parts (is_due (edit.Remove k) rs) (are_due run (without k rs)) d in
@@ -92,10 +92,10 @@ edits_are (edit.Remove k ∷ run) rs o a d =
 edits_are (edit.Put r ∷ run) rs o a d =
     let t = and_parts (is_due (edit.Put r) rs) (are_due run (put r rs)) d in
     edits_are run (put r rs) (ascending_rest r.key (edit_keys run) o) (asc_edited (edit.Put r) rs a t.0) t.1
-    ∙ ap (put_all (added run)) (swap_all (removed run) r rs
+    ∙ ap (put_all (records_put run)) (swap_all (removed run) r rs
     (gone_keys (λ k. is_lt (key_cmp r.key k)) run (ascending_first r.key (edit_keys run) o)) a)
 edits_are (edit.Replace r ∷ run) rs o a d =
     let t = and_parts (is_due (edit.Replace r) rs) (are_due run (put r (without r.key rs))) d in
     edits_are run (put r (without r.key rs)) (ascending_rest r.key (edit_keys run) o) (asc_edited (edit.Replace r) rs a t.0) t.1
-    ∙ ap (put_all (added run)) (swap_all (removed run) r (without r.key rs)
+    ∙ ap (put_all (records_put run)) (swap_all (removed run) r (without r.key rs)
     (gone_keys (λ k. is_lt (key_cmp r.key k)) run (ascending_first r.key (edit_keys run) o)) (asc_without r.key rs a))

@@ -12,7 +12,7 @@ use Rattle.quilt_node.specs.Tree.{Bounds, is_above, is_below}
 use Rattle.quilt_world.specs.Tale.{Goes}
 use Rattle.quilt_btree.specs.declared.edit.Edit.{Edit}
 use Rattle.quilt_btree.specs.Batches.{edit_keys, edit_all, Fails, EditsLeaf, DidEdit}
-use Rattle.quilt_btree.specs.Edits.{times, CanEdit}
+use Rattle.quilt_btree.specs.Edits.{multiplicity, CanEdit}
 use Rattle.quilt_btree.specs.Subtree.{Subtree}
 use Rattle.quilt_btree.proofs.batches.Below.{leaf_edited, all_first}
 use Rattle.quilt_btree.proofs.lists.Counts.{times_here}
@@ -26,7 +26,7 @@ pub leaf_taken : (told : Option (List (List ℕ))) (free : ℕ → Bool) (page :
 leaf_taken told free page is_root b rs used can =
     let s : Subtree can.pages 1 is_root (page, b) rs used = can.subtree in
     used_not_free free used page can.apart
-    (subst (λ u. 1 ≤ times page u) (sym s.is_used) (first (times page (page ∷ [])) (times_here page [])))
+    (subst (λ u. 1 ≤ multiplicity page u) (sym s.is_used) (first (multiplicity page (page ∷ [])) (times_here page [])))
   where
     first : (t : ℕ) → t ≡ 1 + 0 → 1 ≤ t
     first t e = omega arith

@@ -24,7 +24,7 @@ use Rattle.quilt_node.proofs.Ascending.{ascending_cons}
 use Rattle.quilt_btree.specs.declared.tree.Tree.{Tree}
 use Rattle.quilt_btree.specs.declared.edit.Edit.{Edit}
 use Rattle.quilt_btree.specs.declared.edit.Edit.TheVariants as edit
-use Rattle.quilt_btree.specs.Batches.{edit_keys, is_due, edited, edit_all, are_due, more_of, fewer_of, cost_of, looks_of, more, fewer, cost, looks, removed, added, Fails, DidEdit, key_of}
+use Rattle.quilt_btree.specs.Batches.{edit_keys, is_due, edited, edit_all, are_due, more_of, fewer_of, cost_of, looks_of, more, fewer, cost, looks, removed, records_put, Fails, DidEdit, key_of}
 use Rattle.quilt_btree.specs.Edits.{CanEdit, IsWhole}
 use Rattle.quilt_btree.specs.Trees.{IsRooted}
 use Rattle.quilt_btree.proofs.batches.Leaves.{edit_at, taken, edit_all-append, are_due-append}
@@ -86,8 +86,8 @@ some_cost [] h = absurd (omega arith)
 some_cost (e ∷ run) h = let l = least_cost e in omega arith
 
 -- the list ascends behind an edit that was due
-other_way : (a b : Key) → is_lt (key_cmp a b) ≡ false → is_eq (key_cmp b a) ≡ false → is_lt (key_cmp b a) ≡ true
-other_way a b h g = on (key_cmp a b) (key_cmp b a) (key_total.antisymm a b) h g
+other_path : (a b : Key) → is_lt (key_cmp a b) ≡ false → is_eq (key_cmp b a) ≡ false → is_lt (key_cmp b a) ≡ true
+other_path a b h g = on (key_cmp a b) (key_cmp b a) (key_total.antisymm a b) h g
   where
     on : (o p : Ordering) → o ≡ ordering_reverse p → is_lt o ≡ false → is_eq p ≡ false → is_lt p ≡ true
     on o Less e h g = refl
@@ -105,7 +105,7 @@ asc_step r s rs true e a none h = and_from (is_lt (key_cmp r.key s.key)) (is_asc
 asc_step r s rs false e a none h =
     let n = or_parts (has_key r.key s) (list_any (has_key r.key) rs) none in
     ascending_cons s.key (keys_of (put r rs))
-    (within_put (λ m. is_lt (key_cmp s.key m)) r rs (other_way r.key s.key e n.0) (ascending_first s.key (keys_of rs) a)) h
+    (within_put (λ m. is_lt (key_cmp s.key m)) r rs (other_path r.key s.key e n.0) (ascending_first s.key (keys_of rs) a)) h
 
 pub asc_put : (r : Record) (rs : List Record) → is_ascending (keys_of rs) ≡ true → list_any (has_key r.key) rs ≡ false
     → is_ascending (keys_of (put r rs)) ≡ true
@@ -369,13 +369,13 @@ follows_all (e ∷ run) k l b some a is test =
     less : (n : ℕ) → suc n - 1 ≡ n
     less n = omega arith
 
-pub looks_are : (run : List Edit) → looks run ≡ 10 * length (removed run) + 6 * length (added run)
+pub looks_are : (run : List Edit) → looks run ≡ 10 * length (removed run) + 6 * length (records_put run)
 looks_are [] = refl
 looks_are (edit.Remove k ∷ run) = let h = looks_are run in omega arith
 looks_are (edit.Put r ∷ run) = let h = looks_are run in omega arith
 looks_are (edit.Replace r ∷ run) = let h = looks_are run in omega arith
 
-pub cost_is : (run : List Edit) → cost run ≡ 7 * length (removed run) + 6 * length (added run)
+pub cost_is : (run : List Edit) → cost run ≡ 7 * length (removed run) + 6 * length (records_put run)
 cost_is [] = refl
 cost_is (edit.Remove k ∷ run) = let h = cost_is run in omega arith
 cost_is (edit.Put r ∷ run) = let h = cost_is run in omega arith

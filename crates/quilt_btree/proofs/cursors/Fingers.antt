@@ -9,7 +9,7 @@ use Rattle.quilt_record.specs.declared.key.Key.{Key}
 use Rattle.quilt_record.specs.declared.record.Record.{Record}
 use Rattle.quilt_record.specs.Records.{key_cmp}
 use Rattle.quilt_record.proofs.Orders.{lt_le}
-use Rattle.quilt_node.specs.Nodes.{records_of}
+use Rattle.quilt_node.specs.Nodes.{page_records}
 use Rattle.quilt_node.specs.Pages.{leaf_of}
 use Rattle.quilt_node.specs.Tree.{is_below}
 use Rattle.quilt_btree.specs.declared.finger.Finger.{Finger}
@@ -30,7 +30,7 @@ leaf_of_finger {told = told} {t = t} {rs = rs} {bytes = bytes} a some is =
     let s = tree_spells told t rs ne is in
     let l = a.leads rs s.0 s.1 in
     record {
-      own = records_of bytes;
+      own = page_records bytes;
       is_leaf = a.leaf rs s.0;
       before = l.before;
       behind = l.behind;

@@ -9,13 +9,13 @@ use Rattle.quilt_record.specs.declared.key.Key.{Key}
 use Rattle.quilt_record.specs.declared.record.Record.{Record}
 use Rattle.quilt_record.specs.Records.{key_cmp}
 use Rattle.quilt_node.specs.Pages.{Inner, leaf_of, is_ascending}
-use Rattle.quilt_node.specs.Nodes.{records_of, keys_of}
+use Rattle.quilt_node.specs.Nodes.{page_records, keys_of}
 use Rattle.quilt_node.proofs.Places.{leaf_records}
 use Rattle.quilt_btree.specs.declared.tree.Tree.{Tree}
 use Rattle.quilt_btree.specs.declared.cursor.Cursor.{Cursor}
 use Rattle.quilt_btree.specs.Cursors.{StandsAt, StandsIn, IsSought, GoesBack, GoesBackTo}
 use Rattle.quilt_btree.specs.Lists.{IsLast, IsLower}
-use Rattle.quilt_btree.specs.Trees.{Spells, IsTree}
+use Rattle.quilt_btree.specs.Trees.{SpellsSubtree, IsTree}
 use Rattle.quilt_btree.proofs.cursors.Stands.{take_at, drop_at, over_le, parts_same, no_both}
 use Rattle.quilt_btree.proofs.lists.Rising.{all_append, all_map}
 use Rattle.quilt_btree.proofs.lists.RisingApart.{all_under, ascending_back}
@@ -43,16 +43,16 @@ last_lower k rs n r ne is low high =
       higher = subst (λ m. list_all (λ (l : Record). is_le (key_cmp k l.key)) (drop m rs) ≡ true) e high;
     }
 
-pub own_records : (bytes : List ℕ) (rs : List Record) → leaf_of bytes ≡ Some rs → leaf_of bytes ≡ Some (records_of bytes)
+pub own_records : (bytes : List ℕ) (rs : List Record) → leaf_of bytes ≡ Some rs → leaf_of bytes ≡ Some (page_records bytes)
 own_records bytes rs is = is ∙ ap Some (sym (leaf_records bytes rs is))
 
 module _ (old new : Option (List (List ℕ))) (page height child i : ℕ) (k : Key) (inner : Inner) where
   -- in a subtree
   pub lower_here : (r : Record) → AtFloor old new page height child i k inner
-      → ((rs : List Record) → Spells new child (height - 1) rs → IsLast k rs r) → (rs : List Record) → Spells old page height rs → IsLast k rs r
+      → ((rs : List Record) → SpellsSubtree new child (height - 1) rs → IsLast k rs r) → (rs : List Record) → SpellsSubtree old page height rs → IsLast k rs r
   lower_here r a f rs s =
       let at = leads_below old page height rs inner i k a.some a.above s a.reads a.place in
-      let h = f at.here (subst (λ c. Spells new c (height - 1) at.here) (sym a.is_child)
+      let h = f at.here (subst (λ c. SpellsSubtree new c (height - 1) at.here) (sym a.is_child)
       (along_told old new (slice_index inner.children i) (height - 1) at.here a.told at.spells)) in
       record {
         before = at.first ++ h.before;
@@ -65,11 +65,11 @@ module _ (old new : Option (List (List ℕ))) (page height child i : ℕ) (k : K
       }
 
   pub lower_none : AtFloor old new page height child i k inner → i ≡ 0
-      → ((rs : List Record) → Spells new child (height - 1) rs → list_all (λ (r : Record). is_le (key_cmp k r.key)) rs ≡ true) → (rs : List Record)
-      → Spells old page height rs → list_all (λ (r : Record). is_le (key_cmp k r.key)) rs ≡ true
+      → ((rs : List Record) → SpellsSubtree new child (height - 1) rs → list_all (λ (r : Record). is_le (key_cmp k r.key)) rs ≡ true) → (rs : List Record)
+      → SpellsSubtree old page height rs → list_all (λ (r : Record). is_le (key_cmp k r.key)) rs ≡ true
   lower_none a zero_place f rs s =
       let at = leads_below old page height rs inner i k a.some a.above s a.reads a.place in
-      let h = f at.here (subst (λ c. Spells new c (height - 1) at.here) (sym a.is_child)
+      let h = f at.here (subst (λ c. SpellsSubtree new c (height - 1) at.here) (sym a.is_child)
       (along_told old new (slice_index inner.children i) (height - 1) at.here a.told at.spells)) in
       subst (λ l. list_all (λ (r : Record). is_le (key_cmp k r.key)) l ≡ true)
       (sym (at.among.records ∙ ap (λ l. l ++ (at.here ++ at.last)) (at.none_before zero_place)))
@@ -83,16 +83,16 @@ last_cut (x ∷ y ∷ xs) r h = let m = last_cut (y ∷ xs) r h in (x ∷ m.0, a
 
 pub lower_before : {old new newer : Option (List (List ℕ))} {page height child prior i : ℕ} {k : Key} {inner : Inner} (r : Record)
     → AtFloor old new page height child i k inner → i ≢ 0 → newer ≡ old → prior ≡ slice_index inner.children (i - 1)
-    → ((rs : List Record) → Spells new child (height - 1) rs → list_all (λ (r : Record). is_le (key_cmp k r.key)) rs ≡ true)
-    → ((rs : List Record) → Spells newer prior (height - 1) rs → last_or None rs ≡ Some r) → {rs : List Record} → Spells old page height rs
+    → ((rs : List Record) → SpellsSubtree new child (height - 1) rs → list_all (λ (r : Record). is_le (key_cmp k r.key)) rs ≡ true)
+    → ((rs : List Record) → SpellsSubtree newer prior (height - 1) rs → last_or None rs ≡ Some r) → {rs : List Record} → SpellsSubtree old page height rs
     → IsLast k rs r
 lower_before {old = old} {new = new} {newer = newer} {page = page} {height = height} {i = i} {k = k} {inner = inner} r a some t is f g {rs = rs} s =
     let at = leads_below old page height rs inner i k a.some a.above s a.reads a.place in
-    let h = f at.here (subst (λ c. Spells new c (height - 1) at.here) (sym a.is_child)
+    let h = f at.here (subst (λ c. SpellsSubtree new c (height - 1) at.here) (sym a.is_child)
     (along_told old new (slice_index inner.children i) (height - 1) at.here a.told at.spells)) in
     let n : i ≡ suc (i - 1) = omega arith in
     let b = at.before (i - 1) n in
-    let c = last_cut b.1 r (g b.1 (subst (λ c. Spells newer c (height - 1) b.1) (sym is)
+    let c = last_cut b.1 r (g b.1 (subst (λ c. SpellsSubtree newer c (height - 1) b.1) (sym is)
     (along_told old newer (slice_index inner.children (i - 1)) (height - 1) b.1 t b.3))) in
     let front : at.first ≡ (b.0 ++ c.0) ++ r ∷ [] = b.2 ∙ ap (λ l. b.0 ++ l) c.1 ∙ sym (append_assoc b.0 c.0 (r ∷ [])) in
     record {
@@ -105,10 +105,10 @@ lower_before {old = old} {new = new} {newer = newer} {page = page} {height = hei
 
 -- the cursor goes back within its leaf
 pub goes_back : {told : Option (List (List ℕ))} {t : Tree} (r : Record) {bytes : List ℕ} {place : ℕ} (low : ℕ) {high : Option Key}
-    {before after : List Record} → place ≡ suc low → slice_get (records_of bytes) low ≡ Some r → StandsAt told t bytes place high before after
+    {before after : List Record} → place ≡ suc low → slice_get (page_records bytes) low ≡ Some r → StandsAt told t bytes place high before after
     → GoesBackTo told t r bytes low high before after
 goes_back r {bytes = bytes} low e at s =
-    let here = records_of bytes in
+    let here = page_records bytes in
     record {
       rest = s.first ++ take low here;
       records = s.is_before ∙ ap (λ n. s.first ++ take n here) e ∙ ap (λ l. s.first ++ l) (take_at here low r at)
@@ -142,11 +142,11 @@ tree_ascends told t rs ne is =
 
 module _ (told : Option (List (List ℕ))) (t : Tree) (c : Cursor) (first : Record) (before after : List Record) where
   -- what stands around the first record of a leaf
-  first_parts : t.height ≢ 0 → c.place ≡ 0 → (0 < length (records_of c.bytes) → slice_get (records_of c.bytes) 0 ≡ Some first)
+  first_parts : t.height ≢ 0 → c.place ≡ 0 → (0 < length (page_records c.bytes) → slice_get (page_records c.bytes) 0 ≡ Some first)
       → IsTree told t (before ++ after) → StandsIn told t c before after
       → (list_all (λ (l : Record). is_lt (key_cmp l.key first.key)) before ≡ true) × (list_all (λ (l : Record). is_le (key_cmp first.key l.key)) after ≡ true)
   first_parts ne e at is s =
-      let here = records_of c.bytes in
+      let here = page_records c.bytes in
       let some = s.some in
       let front = drop_at here 0 first (at (omega arith)) in
       let behind : after ≡ first ∷ (drop 1 here ++ s.last) = s.is_after ∙ ap (λ n. drop n here ++ s.last) e ∙ ap (λ l. l ++ s.last) front in
@@ -155,8 +155,8 @@ module _ (told : Option (List (List ℕ))) (t : Tree) (c : Cursor) (first : Reco
       (p.0, subst (λ l. list_all (λ (l : Record). is_le (key_cmp first.key l.key)) l ≡ true) (sym behind) p.1)
 
   -- no record stands before the first leaf
-  pub none_back : 1 ≤ t.height → c.place ≡ 0 → (0 < length (records_of c.bytes) → slice_get (records_of c.bytes) 0 ≡ Some first)
-      → ((rs : List Record) → Spells told t.root t.height rs → IsLower first.key rs None) → IsTree told t (before ++ after)
+  pub none_back : 1 ≤ t.height → c.place ≡ 0 → (0 < length (page_records c.bytes) → slice_get (page_records c.bytes) 0 ≡ Some first)
+      → ((rs : List Record) → SpellsSubtree told t.root t.height rs → IsLower first.key rs None) → IsTree told t (before ++ after)
       → StandsIn told t c before after → before ≡ []
   none_back some e at lower is s =
       let ne : t.height ≢ 0 = omega arith in
@@ -172,8 +172,8 @@ module _ (told : Option (List (List ℕ))) (t : Tree) (c : Cursor) (first : Reco
 
 -- the cursor goes back into another leaf
 pub back_over : (told : Option (List (List ℕ))) (t : Tree) (c d : Cursor) (first r : Record) (before after : List Record) → 1 ≤ t.height → c.place ≡ 0
-    → (0 < length (records_of c.bytes) → slice_get (records_of c.bytes) 0 ≡ Some first)
-    → ((rs : List Record) → Spells told t.root t.height rs → IsLast first.key rs r)
+    → (0 < length (page_records c.bytes) → slice_get (page_records c.bytes) 0 ≡ Some first)
+    → ((rs : List Record) → SpellsSubtree told t.root t.height rs → IsLast first.key rs r)
     → ((rs : List Record) → IsTree told t rs → IsSought told t d r.key rs)
     → IsTree told t (before ++ after) → StandsIn told t c before after → GoesBack told t r d before after
 back_over told t c d first r before after some e at lower sought is s =

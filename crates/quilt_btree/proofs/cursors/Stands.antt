@@ -11,12 +11,12 @@ use Rattle.quilt_record.specs.declared.record.Record.{Record}
 use Rattle.quilt_record.specs.Records.{key_cmp}
 use Rattle.quilt_record.proofs.Orders.{lt_le, lt_to_le}
 use Rattle.quilt_node.specs.Pages.{leaf_of}
-use Rattle.quilt_node.specs.Nodes.{IsFound, records_of}
+use Rattle.quilt_node.specs.Nodes.{IsFound, page_records}
 use Rattle.quilt_btree.specs.declared.tree.Tree.{Tree}
 use Rattle.quilt_btree.specs.declared.cursor.Cursor.{Cursor}
 use Rattle.quilt_btree.specs.Cursors.{IsParted, StandsAt, StandsIn, IsSoughtAt, GoesOverTo}
 use Rattle.quilt_btree.specs.Arrivals.{Arrives}
-use Rattle.quilt_btree.specs.Trees.{IsTree, LeadsTo, IsCut, is_past}
+use Rattle.quilt_btree.specs.Trees.{IsTree, LeadsToLeaf, IsCut, is_past}
 use Rattle.quilt_btree.specs.Searches.{AreOf}
 use Rattle.quilt_btree.proofs.lists.Lists.{gt_not_le}
 use Rattle.quilt_btree.proofs.lists.Rising.{all_follow, all_append}
@@ -69,7 +69,7 @@ are_before old new page bytes same shown = subst (λ o. AreOf o page bytes) same
 
 module _ (told : Option (List (List ℕ))) (t : Tree) (k : Key) (rs : List Record) where
   -- what stands behind the leaf that a key leads to
-  further_at : (here : List Record) (high : Option Key) (l : LeadsTo k rs here None high) → IsCut told t.root t.height k None here high
+  further_at : (here : List Record) (high : Option Key) (l : LeadsToLeaf k rs here None high) → IsCut told t.root t.height k None here high
       → IsTree told t rs → t.height ≢ 0 → MatchOption high (l.behind ≡ []) (λ h. IsParted told t h (l.before ++ here) l.behind)
   further_at here None l cut is ne = none l.behind l.bounded
     where
@@ -89,16 +89,16 @@ module _ (told : Option (List (List ℕ))) (t : Tree) (k : Key) (rs : List Recor
       }
 
   pub sought : (bytes : List ℕ) (place : ℕ) (high : Option Key) → Arrives told t.root t.height k None bytes high → 1 ≤ t.height → IsTree told t rs
-      → place ≤ length (records_of bytes)
-      → (leaf_of bytes ≡ Some (records_of bytes) → list_all (λ r. is_lt (key_cmp r.key k)) (take place (records_of bytes)) ≡ true)
-      → (leaf_of bytes ≡ Some (records_of bytes) → list_all (λ r. is_le (key_cmp k r.key)) (drop place (records_of bytes)) ≡ true)
+      → place ≤ length (page_records bytes)
+      → (leaf_of bytes ≡ Some (page_records bytes) → list_all (λ r. is_lt (key_cmp r.key k)) (take place (page_records bytes)) ≡ true)
+      → (leaf_of bytes ≡ Some (page_records bytes) → list_all (λ r. is_le (key_cmp k r.key)) (drop place (page_records bytes)) ≡ true)
       → IsSoughtAt told t bytes place high k rs
   sought bytes place high a some is inside low up =
       let ne : t.height ≢ 0 = omega arith in
       let s = tree_spells told t rs ne is in
       let leaf = a.leaf rs s.0 in
       let l = a.leads rs s.0 s.1 in
-      let here = records_of bytes in
+      let here = page_records bytes in
       record {
         before = l.before ++ take place here;
         after = drop place here ++ l.behind;
@@ -155,7 +155,7 @@ module _ (told : Option (List (List ℕ))) (t : Tree) where
       let ne : t.height ≢ 0 = omega arith in
       let s = tree_spells told t (before ++ after) ne is in
       let l = a.leads (before ++ after) s.0 s.1 in
-      let here = records_of bytes in
+      let here = page_records bytes in
       let from = a.cut.starts p.pages (before ++ after) p.is_told s.0 s.1 p.divides in
       let same = parts_same k before after l.before (here ++ l.behind) l.records p.lower p.higher l.lower
       (all_append (λ (r : Record). is_le (key_cmp k r.key)) here l.behind from (over_le k l.behind l.higher)) in
@@ -169,11 +169,11 @@ module _ (told : Option (List (List ℕ))) (t : Tree) where
         further = further_at told t k (before ++ after) here high l a.cut is ne;
       }
 
-  pub goes_over : (r : Record) (bytes : List ℕ) (place : ℕ) (high : Option Key) (before after : List Record) → place < length (records_of bytes)
-      → slice_get (records_of bytes) place ≡ Some r → StandsAt told t bytes place high before after
+  pub goes_over : (r : Record) (bytes : List ℕ) (place : ℕ) (high : Option Key) (before after : List Record) → place < length (page_records bytes)
+      → slice_get (page_records bytes) place ≡ Some r → StandsAt told t bytes place high before after
       → GoesOverTo told t r bytes (place + 1) high before after
   goes_over r bytes place high before after lt at s =
-      let here = records_of bytes in
+      let here = page_records bytes in
       record {
         rest = drop (suc place) here ++ s.last;
         records = s.is_after ∙ ap (λ l. l ++ s.last) (drop_at here place r at);
@@ -189,10 +189,10 @@ module _ (told : Option (List (List ℕ))) (t : Tree) where
         };
       }
 
-  pub stands_further : (c : Cursor) (k : Key) (before after : List Record) → length (records_of c.bytes) ≤ c.place → c.high ≡ Some k
+  pub stands_further : (c : Cursor) (k : Key) (before after : List Record) → length (page_records c.bytes) ≤ c.place → c.high ≡ Some k
       → StandsIn told t c before after → IsParted told t k before after
   stands_further c k before after le is s =
-      let p : IsParted told t k (s.first ++ records_of c.bytes) s.last =
-      subst (λ o. MatchOption o (s.last ≡ []) (λ k. IsParted told t k (s.first ++ records_of c.bytes) s.last)) is s.further in
-      subst (λ l. IsParted told t k l after) (sym (s.is_before ∙ ap (λ l. s.first ++ l) (take_all c.place (records_of c.bytes) le)))
-      (subst (λ l. IsParted told t k (s.first ++ records_of c.bytes) l) (sym (s.is_after ∙ ap (λ l. l ++ s.last) (drop_past (records_of c.bytes) c.place le))) p)
+      let p : IsParted told t k (s.first ++ page_records c.bytes) s.last =
+      subst (λ o. MatchOption o (s.last ≡ []) (λ k. IsParted told t k (s.first ++ page_records c.bytes) s.last)) is s.further in
+      subst (λ l. IsParted told t k l after) (sym (s.is_before ∙ ap (λ l. s.first ++ l) (take_all c.place (page_records c.bytes) le)))
+      (subst (λ l. IsParted told t k (s.first ++ page_records c.bytes) l) (sym (s.is_after ∙ ap (λ l. l ++ s.last) (drop_past (page_records c.bytes) c.place le))) p)

@@ -11,8 +11,8 @@ use Rattle.quilt_node.specs.Pages.{Inner, inner_of}
 use Rattle.quilt_node.specs.Nodes.{IsPlace}
 use Rattle.quilt_node.specs.Tree.{Bounds, bounded, are_within, is_above, is_below}
 use Rattle.quilt_btree.specs.Subtree.{Row, Subtree}
-use Rattle.quilt_btree.specs.Edits.{times, CanEdit}
-use Rattle.quilt_btree.specs.Trees.{ReadsInner, Spells}
+use Rattle.quilt_btree.specs.Edits.{multiplicity, CanEdit}
+use Rattle.quilt_btree.specs.Trees.{ReadsInner, SpellsSubtree}
 use Rattle.quilt_btree.proofs.lists.Counts.{times-append, times-three}
 use Rattle.quilt_btree.proofs.stores.Moves.{AreApart, apart_some}
 use Rattle.quilt_btree.proofs.subtrees.Trees.{IsInnerList, inner_list}
@@ -99,9 +99,9 @@ module _ (told : Option (List (List ℕ))) (free : ℕ → Bool) (page height : 
       let row = subst (λ (x : Inner). Row (Subtree can.pages (suc n.0) false) (bounded x.children x.keys b) rs s.under) same s.children in
       let down = leads_down inner b i rs s.under can.pages n.0 (slice_index_or can.pages page []) k list within p row in
       let at = down.at in
-      let inside : (p : ℕ) → times p at.here_used ≤ times p used = λ p.
-      part (times p used) (times p s.under) (times p (page ∷ [])) (times p at.last_used) (times p at.here_used) (times p at.first_used)
-      (ap (times p) s.is_used ∙ times-append p s.under (page ∷ [])) (ap (times p) at.is_used ∙ times-three p at.last_used at.here_used at.first_used) in
+      let inside : (p : ℕ) → multiplicity p at.here_used ≤ multiplicity p used = λ p.
+      part (multiplicity p used) (multiplicity p s.under) (multiplicity p (page ∷ [])) (multiplicity p at.last_used) (multiplicity p at.here_used) (multiplicity p at.first_used)
+      (ap (multiplicity p) s.is_used ∙ times-append p s.under (page ∷ [])) (ap (multiplicity p) at.is_used ∙ times-three p at.last_used at.here_used at.first_used) in
       record {
         pages = can.pages;
         is_told = can.is_told;
@@ -125,6 +125,6 @@ module _ (told : Option (List (List ℕ))) (free : ℕ → Bool) (page height : 
       part : (u d g l h f : ℕ) → u ≡ d + g → d ≡ l + h + f → h ≤ u
       part u d g l h f e q = omega arith
 
-  pub edit_spells : (rs : List Record) (used : List ℕ) → CanEdit told free page height is_root b rs used → Spells told page height rs
+  pub edit_spells : (rs : List Record) (used : List ℕ) → CanEdit told free page height is_root b rs used → SpellsSubtree told page height rs
   edit_spells rs used can =
       record { pages = can.pages; is_told = can.is_told; is_root = is_root; bounds = b; used = used; subtree = can.subtree }

@@ -13,7 +13,7 @@ use Rattle.quilt_btree.specs.declared.outcomes.Removed.{Removed}
 use Rattle.quilt_btree.specs.declared.outcomes.Removed.TheVariants as removed
 use Rattle.quilt_record.specs.Lists.{has_key}
 use Rattle.quilt_btree.specs.Outcomes.{was_there, was_found}
-use Rattle.quilt_btree.specs.Trees.{Spells, ReadsLeaf, ReadsInner, IsTree}
+use Rattle.quilt_btree.specs.Trees.{SpellsSubtree, ReadsLeaf, ReadsInner, IsTree}
 use Rattle.quilt_btree.proofs.subtrees.Descending.{leaf_spells, leads_below, along_told}
 use Rattle.quilt_btree.proofs.ways.Leaves.{found_any, gap_any}
 use Rattle.quilt_btree.proofs.lists.Lists.{any_between}
@@ -21,7 +21,7 @@ use Rattle.quilt_btree.proofs.subtrees.Whole.{tree_spells, no_records}
 
 -- the answer is whether the key is in the subtree's list
 abbrev pub Finds : Option (List (List ℕ)) → ℕ → ℕ → Key → Bool → Type 0
-Finds told page height k b = (rs : List Record) → Spells told page height rs → b ≡ list_any (has_key k) rs
+Finds told page height k b = (rs : List Record) → SpellsSubtree told page height rs → b ≡ list_any (has_key k) rs
 
 module _ (told : Option (List (List ℕ))) (page height i : ℕ) (k : Key) (leaf : List Record) (reads : ReadsLeaf told page leaf) where
   -- a search in a leaf
@@ -47,7 +47,7 @@ module _ (told : Option (List (List ℕ))) (k : Key) (b : Bool) where
       → Finds then_told child (height - 1) k b → Finds told page height k b
   finds_below then_told page height child i inner l f rs s =
       let low = leads_below told page height rs inner i k l.some l.above s l.reads l.place in
-      f low.here (subst (λ c. Spells then_told c (height - 1) low.here) (sym l.is_child)
+      f low.here (subst (λ c. SpellsSubtree then_told c (height - 1) low.here) (sym l.is_child)
       (along_told told then_told (slice_index inner.children i) (height - 1) low.here l.same low.spells))
       ∙ sym (any_between k low.first low.here low.last rs low.among)
 
@@ -73,12 +73,12 @@ new_finds (Ok o) A k new f = λ rs a. not_there o new ∙ f rs a
 
 pub new_in_leaf : (r : Result Inserted Stop) (told : Option (List (List ℕ))) (page : ℕ) (k : Key) → IfOk r (λ o. o ≢ There)
     → ((height : ℕ) → height ≡ 1 → Finds told page height k false)
-    → IfOk r (λ o. (height : ℕ) (rs : List Record) → height ≡ 1 → Spells told page height rs → was_there o ≡ list_any (has_key k) rs)
+    → IfOk r (λ o. (height : ℕ) (rs : List Record) → height ≡ 1 → SpellsSubtree told page height rs → was_there o ≡ list_any (has_key k) rs)
 new_in_leaf (Err e) told page k new f = new
 new_in_leaf (Ok o) told page k new f = λ height rs one s. not_there o new ∙ f height one rs s
 
 pub there_in_leaf : (r : Result Inserted Stop) (told : Option (List (List ℕ))) (page height : ℕ) (k : Key) → height ≡ 1
-    → IfOk r (λ o. (h : ℕ) (rs : List Record) → h ≡ 1 → Spells told page h rs → was_there o ≡ list_any (has_key k) rs)
+    → IfOk r (λ o. (h : ℕ) (rs : List Record) → h ≡ 1 → SpellsSubtree told page h rs → was_there o ≡ list_any (has_key k) rs)
     → IfOk r (λ o. Finds told page height k (was_there o))
 there_in_leaf (Err e) told page height k one f = f
 there_in_leaf (Ok o) told page height k one f = λ rs s. f height rs one s
@@ -98,7 +98,7 @@ found_finds (Err e) told page height k some f = some
 found_finds (Ok o) told page height k some f = λ rs s. not_missing o some ∙ f rs s
 
 pub found_in_leaf : (r : Result Removed Stop) (told : Option (List (List ℕ))) (page height : ℕ) (k : Key) → height ≡ 1
-    → IfOk r (λ o. (h : ℕ) (rs : List Record) → h ≡ 1 → Spells told page h rs → was_found o ≡ list_any (has_key k) rs)
+    → IfOk r (λ o. (h : ℕ) (rs : List Record) → h ≡ 1 → SpellsSubtree told page h rs → was_found o ≡ list_any (has_key k) rs)
     → IfOk r (λ o. Finds told page height k (was_found o))
 found_in_leaf (Err e) told page height k one f = f
 found_in_leaf (Ok o) told page height k one f = λ rs s. f height rs one s

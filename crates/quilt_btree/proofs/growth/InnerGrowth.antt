@@ -12,7 +12,7 @@ use Rattle.quilt_node.proofs.Ascending.{all_take, all_drop}
 use Rattle.quilt_store.specs.Store.{FreesOnly}
 use Rattle.quilt_world.specs.Tale.{Goes}
 use Rattle.quilt_btree.specs.Subtree.{Row, Subtree}
-use Rattle.quilt_btree.specs.Edits.{times, Becomes, Separated}
+use Rattle.quilt_btree.specs.Edits.{multiplicity, Becomes, Separated}
 use Rattle.quilt_btree.specs.Inserts.{IsPending, DidPut}
 use Rattle.quilt_btree.specs.declared.outcomes.Inserted.TheVariants as inserted
 use Rattle.quilt_btree.proofs.lists.Counts.{times-append}
@@ -58,21 +58,21 @@ pub record AreParts (inner : Inner) (left right : List ℕ) (key : Key) : Type 0
   pub parts : slice_get inner.keys 126 ≡ Some key
 
 counted : (p new page : ℕ) (under rest first : List ℕ) → under ≡ rest ++ first
-    → times p ((rest ++ new ∷ []) ++ (first ++ page ∷ [])) ≡ times p (new ∷ (under ++ page ∷ []))
+    → multiplicity p ((rest ++ new ∷ []) ++ (first ++ page ∷ [])) ≡ multiplicity p (new ∷ (under ++ page ∷ []))
 counted p new page under rest first e =
-    order (times p ((rest ++ new ∷ []) ++ (first ++ page ∷ []))) (times p (rest ++ new ∷ [])) (times p (first ++ page ∷ [])) (times p rest)
-    (times p (new ∷ [])) (times p first) (times p (page ∷ []))
-    (times p (new ∷ (under ++ page ∷ []))) (times p (under ++ page ∷ [])) (times p under)
+    order (multiplicity p ((rest ++ new ∷ []) ++ (first ++ page ∷ []))) (multiplicity p (rest ++ new ∷ [])) (multiplicity p (first ++ page ∷ [])) (multiplicity p rest)
+    (multiplicity p (new ∷ [])) (multiplicity p first) (multiplicity p (page ∷ []))
+    (multiplicity p (new ∷ (under ++ page ∷ []))) (multiplicity p (under ++ page ∷ [])) (multiplicity p under)
     (times-append p (rest ++ new ∷ []) (first ++ page ∷ [])) (times-append p rest (new ∷ [])) (times-append p first (page ∷ []))
-    (times-append p (new ∷ []) (under ++ page ∷ [])) (times-append p under (page ∷ [])) (ap (times p) e ∙ times-append p rest first)
+    (times-append p (new ∷ []) (under ++ page ∷ [])) (times-append p under (page ∷ [])) (ap (multiplicity p) e ∙ times-append p rest first)
   where
     order : (t a b r n f g s u v : ℕ) → t ≡ a + b → a ≡ r + n → b ≡ f + g → s ≡ n + u → u ≡ v + g → v ≡ r + f → t ≡ s
     order t a b r n f g s u v e1 e2 e3 e4 e5 e6 = omega arith
 
-none_each : (p : ℕ) (under rest first : List ℕ) → under ≡ rest ++ first → times p under ≡ 0 → (times p rest ≡ 0) × (times p first ≡ 0)
+none_each : (p : ℕ) (under rest first : List ℕ) → under ≡ rest ++ first → multiplicity p under ≡ 0 → (multiplicity p rest ≡ 0) × (multiplicity p first ≡ 0)
 none_each p under rest first e h =
-    let n = ap (times p) e ∙ times-append p rest first in
-    (left (times p under) (times p rest) (times p first) n h, right (times p under) (times p rest) (times p first) n h)
+    let n = ap (multiplicity p) e ∙ times-append p rest first in
+    (left (multiplicity p under) (multiplicity p rest) (multiplicity p first) n h, right (multiplicity p under) (multiplicity p rest) (multiplicity p first) n h)
   where
     left : (u r f : ℕ) → u ≡ r + f → u ≡ 0 → r ≡ 0
     left u r f e h = omega arith
@@ -111,7 +111,7 @@ put_split {told = told} now_told {free = free} {now = now} size {page = page} {n
     let size_same : length news ≡ length pages = both.moves.size in
     let page_none = none_each page under row.rest_used row.first_used row.is_used (apart_above free under page p.apart) in
     let new_none = none_each new under row.rest_used row.first_used row.is_used
-    (none_below (times new (under ++ page ∷ [])) (times new under) (times new (page ∷ [])) (times-append new under (page ∷ [])) both.unused) in
+    (none_below (multiplicity new (under ++ page ∷ [])) (multiplicity new under) (multiplicity new (page ∷ [])) (times-append new under (page ∷ [])) both.unused) in
     let separated : Separated pages news free now page (suc (suc p.below)) b (under ++ page ∷ []) all key new = record {
       first = row.first;
       rest = row.rest;

@@ -15,10 +15,10 @@ use Rattle.quilt_btree.specs.declared.tree.Tree.{Tree}
 use Rattle.quilt_btree.specs.declared.outcomes.Inserted.TheVariants as inserted
 use Rattle.quilt_btree.specs.declared.outcomes.Removed.TheVariants as removed
 use Rattle.quilt_record.specs.Lists.{has_key, put, without}
-use Rattle.quilt_store.specs.Stops.{IsSound}
+use Rattle.quilt_store.specs.Stops.{IsNotDamage}
 use Rattle.quilt_btree.specs.Subtree.{Subtree}
 use Rattle.quilt_btree.specs.Trees.{IsRooted}
-use Rattle.quilt_btree.specs.Edits.{times, account, Moves, Becomes, CanEdit, CanInsert, HasItsPages}
+use Rattle.quilt_btree.specs.Edits.{multiplicity, account, KeepsAccount, Becomes, CanEdit, CanInsert, HasItsPages}
 use Rattle.quilt_btree.specs.Inserts.{AreFew}
 use Rattle.quilt_btree.specs.Rebalancing.{HasGiven}
 use Rattle.quilt_btree.proofs.lists.Counts.{times_here}
@@ -55,7 +55,7 @@ at_root told free t rs ne w =
 -- a subtree that has come of a tree by an edit is the tree
 pub kept_again : {pages news : List (List ℕ)} {now_told : Option (List (List ℕ))} {free now : ℕ → Bool} (root height records : ℕ) {used uses : List ℕ}
     (all : List Record) → now_told ≡ Some news → 1 ≤ height → Subtree news height true (root, everywhere) all uses
-    → Moves pages news free now used uses → AreApart free used
+    → KeepsAccount pages news free now used uses → AreApart free used
     → HasItsPages now_told now (record { root = root; height = height; records = records }) all
 unfolding tree_again
 kept_again {pages = pages} {news = news} {now_told = now_told} {free = free} {now = now} root height records {used = used} {uses = uses} all is some s m apart =
@@ -76,8 +76,8 @@ module _ (told : Option (List (List ℕ))) (free : ℕ → Bool) (t : Tree) (rs 
   same_tree now_told now p q w = subst (λ o. HasItsPages o now t rs) (sym p) (subst (λ g. HasItsPages told g t rs) (sym q) w)
 
   pub sound_kept : (e : Stop) (size : ℕ) (k : Key) → t.height ≢ 0
-      → ((is_root : Bool) (b : Bounds) (rs : List Record) (used : List ℕ) → CanInsert told free size t.root t.height is_root b k rs used → AreFew rs → IsSound e)
-      → AreFew rs → t.height < count_free free size → HasItsPages told free t rs → IsSound e
+      → ((is_root : Bool) (b : Bounds) (rs : List Record) (used : List ℕ) → CanInsert told free size t.root t.height is_root b k rs used → AreFew rs → IsNotDamage e)
+      → AreFew rs → t.height < count_free free size → HasItsPages told free t rs → IsNotDamage e
   sound_kept e size k ne f few room w =
       let a = at_root told free t rs ne w in
       f true everywhere rs a.used (insert_can told free size t k rs room a) few
@@ -117,7 +117,7 @@ module _ (r : Record) (told now_told : Option (List (List ℕ))) (free now : ℕ
       let news = slice_set pages new bytes in
       let inside = all_told told size new pages many w.tree.is_told range.1 in
       let one : 1 ≤ 1 = omega arith in
-      let here : 1 ≤ times new (new ∷ []) = first (times new (new ∷ [])) (times_here new []) in
+      let here : 1 ≤ multiplicity new (new ∷ []) = first (multiplicity new (new ∷ [])) (times_here new []) in
       let moves = moves_then (moves_taken pages free now [] new was_free taken)
       (moves_written pages now (new ∷ []) new bytes (used_account now (new ∷ []) new here)) in
       kept_again new 1 1 (put r rs) (written.1 ∙ ap Some written.2) one
@@ -236,8 +236,8 @@ module _ (k : Key) (told mid now_told : Option (List (List ℕ))) (free between 
 module _ (told : Option (List (List ℕ))) (free : ℕ → Bool) (t : Tree) where
   -- A removal.
   pub sound_out : (e : Stop) (rs : List Record) → t.height ≢ 0
-      → ((is_root : Bool) (b : Bounds) (rs : List Record) (used : List ℕ) → CanEdit told free t.root t.height is_root b rs used → IsSound e)
-      → HasItsPages told free t rs → IsSound e
+      → ((is_root : Bool) (b : Bounds) (rs : List Record) (used : List ℕ) → CanEdit told free t.root t.height is_root b rs used → IsNotDamage e)
+      → HasItsPages told free t rs → IsNotDamage e
   sound_out e rs ne f w = let a = at_root told free t rs ne w in f true everywhere rs a.used a.can
 
   pub out_shrunk : (r : Result Bool Stop) (k : Key) (now_told : Option (List (List ℕ))) (now : ℕ → Bool) (new less : Tree) → OnOk r (new ≡ less)
@@ -290,7 +290,7 @@ module _ (k : Key) (told now_told : Option (List (List ℕ))) (free now : ℕ �
       let only = did.1.left.1 in
       let apart = apart_then did.1.pages did.1.news free now a.used (only.uses ++ t.root ∷ []) only.moves a.can.apart in (
         used_not_free now (only.uses ++ t.root ∷ []) t.root apart
-            (some (times t.root (only.uses ++ t.root ∷ [])) (times t.root only.uses) (removals.last_used t.root only.uses)),
+            (some (multiplicity t.root (only.uses ++ t.root ∷ [])) (multiplicity t.root only.uses) (removals.last_used t.root only.uses)),
         removals.two_left did.1.news only.below false (child, everywhere) (without k rs) only.uses t.records only.subtree
             (exact told free t rs k a number did.0),
         removals.tall_above did.1.news t.height child (without k rs) only.below only.uses only.is_height only.subtree,
@@ -299,8 +299,8 @@ module _ (k : Key) (told now_told : Option (List (List ℕ))) (free now : ℕ �
       some : (n m : ℕ) → n ≡ suc m → 1 ≤ n
       some n m e = omega arith
 
-pub out_sound : (r : Result Bool Stop) (told : Option (List (List ℕ))) (free : ℕ → Bool) (t : Tree) (A B : Type 0) → IfErr r (λ e. A → B → IsSound e)
+pub out_sound : (r : Result Bool Stop) (told : Option (List (List ℕ))) (free : ℕ → Bool) (t : Tree) (A B : Type 0) → IfErr r (λ e. A → B → IsNotDamage e)
     → ((rs : List Record) → HasItsPages told free t rs → length rs ≡ t.records → A × B)
-    → IfErr r (λ e. (rs : List Record) → HasItsPages told free t rs → length rs ≡ t.records → IsSound e)
+    → IfErr r (λ e. (rs : List Record) → HasItsPages told free t rs → length rs ≡ t.records → IsNotDamage e)
 out_sound (Ok o) told free t A B s f = s
 out_sound (Err e) told free t A B s f = λ rs w n. let d = f rs w n in s d.0 d.1

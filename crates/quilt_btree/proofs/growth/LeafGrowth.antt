@@ -17,13 +17,13 @@ use Rattle.quilt_node.proofs.Ascending.{ascending_insert, all_take, all_drop}
 use Rattle.quilt_store.specs.Store.{FreesOnly}
 use Rattle.quilt_world.specs.Tale.{Goes}
 use Rattle.quilt_record.specs.Lists.{has_key, put}
-use Rattle.quilt_btree.specs.Edits.{times, Moves, Becomes, Separated, CanInsert, DidInsert}
+use Rattle.quilt_btree.specs.Edits.{multiplicity, KeepsAccount, Becomes, Separated, CanInsert, DidInsert}
 use Rattle.quilt_btree.specs.declared.outcomes.Inserted.TheVariants as inserted
 use Rattle.quilt_btree.proofs.lists.Counts.{times_here}
 use Rattle.quilt_btree.proofs.stores.Moves.{moves_written, used_account}
 use Rattle.quilt_btree.proofs.lists.Rising.{all_append, map_all}
 use Rattle.quilt_btree.proofs.subtrees.Trees.{leaf_list, keys_append}
-use Rattle.quilt_btree.specs.Trees.{ReadsLeaf, Spells}
+use Rattle.quilt_btree.specs.Trees.{ReadsLeaf, SpellsSubtree}
 use Rattle.quilt_btree.proofs.ways.Leaves.{put_gap, gap_any, found_any, same_le}
 use Rattle.quilt_btree.proofs.lists.Separators.{separated_at}
 use Rattle.quilt_btree.proofs.stores.Writes.{tells_at, TellsAll, all_told, both_written}
@@ -131,7 +131,7 @@ leaf_split {told = told} now_told {free = free} {now = now} {size = size} {page 
     let xs = insert rs i r in
     let news = slice_set (slice_set pages page left) new right in
     let written = tells_at (λ old now. now ≡ slice_set (slice_set old page left) new right) told now_told pages wrote told_is in
-    let here : 1 ≤ times page used = subst (λ u. 1 ≤ times page u) (sym s.is_used) (first (times page (page ∷ [])) (times_here page [])) in
+    let here : 1 ≤ multiplicity page used = subst (λ u. 1 ≤ multiplicity page u) (sym s.is_used) (first (multiplicity page (page ∷ [])) (times_here page [])) in
     let both = both_written pages free now used page new left right can.can_edit.apart here (all_told told size page pages is.many told_is is.inside)
     (all_told told size new pages is.many told_is inside_new) t f in
     let old_list = leaf_list (slice_index_or pages page []) rs s.page in
@@ -152,7 +152,7 @@ leaf_split {told = told} now_told {free = free} {now = now} {size = size} {page 
       records = sym (take-append-drop 72 xs);
       low = sides.above;
       high = sides.below;
-      moves = subst (λ u. Moves pages news free now used (new ∷ u)) s.is_used both.moves;
+      moves = subst (λ u. KeepsAccount pages news free now used (new ∷ u)) s.is_used both.moves;
     } in
     record {
       pages = pages;
@@ -184,7 +184,7 @@ module _ (told now_told : Option (List (List ℕ))) (free now : ℕ → Bool) (s
       let pages = can.can_edit.pages in
       let s = can.can_edit.subtree in
       let written = tells_at (λ old new. new ≡ slice_set old page bytes) told now_told pages wrote can.can_edit.is_told in
-      let here : 1 ≤ times page used = subst (λ u. 1 ≤ times page u) (sym s.is_used) (first (times page (page ∷ [])) (times_here page [])) in
+      let here : 1 ≤ multiplicity page used = subst (λ u. 1 ≤ multiplicity page u) (sym s.is_used) (first (multiplicity page (page ∷ [])) (times_here page [])) in
       let is_put : insert rs i r ≡ put r rs = put_gap r rs i is.gap in
       let grown : Becomes pages (slice_set pages page bytes) free free page 1 is_root b used (insert rs i r) = record {
         uses = used;
@@ -232,6 +232,6 @@ module _ (told : Option (List (List ℕ))) (free : ℕ → Bool) (size page : �
       cc
 
   pub leaf_can_spell : (is_root : Bool) (b : Bounds) (rs : List Record) (used : List ℕ) → CanInsert told free size page 1 is_root b k rs used
-      → Spells told page 1 rs
+      → SpellsSubtree told page 1 rs
   leaf_can_spell is_root b rs used can =
       record { pages = can.can_edit.pages; is_told = can.can_edit.is_told; is_root = is_root; bounds = b; used = used; subtree = can.can_edit.subtree }

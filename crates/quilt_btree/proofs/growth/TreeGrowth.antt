@@ -19,10 +19,10 @@ use Rattle.quilt_store.specs.Store.{FreesOnly, count_free}
 use Rattle.quilt_world.specs.Tale.{Goes}
 use Rattle.quilt_btree.specs.declared.tree.Tree.{Tree}
 use Rattle.quilt_record.specs.Lists.{has_key, put}
-use Rattle.quilt_store.specs.Stops.{IsSound}
-use Rattle.quilt_btree.specs.Subtree.{Row, Subtree, IsFresh}
+use Rattle.quilt_store.specs.Stops.{IsNotDamage}
+use Rattle.quilt_btree.specs.Subtree.{Row, Subtree, AreFreshPages}
 use Rattle.quilt_btree.specs.Trees.{IsRooted, IsTree}
-use Rattle.quilt_btree.specs.Edits.{times, account, Moves, Separated, CanInsert, DidInsert, IsWhole}
+use Rattle.quilt_btree.specs.Edits.{multiplicity, account, KeepsAccount, Separated, CanInsert, DidInsert, IsWhole}
 use Rattle.quilt_btree.specs.Inserts.{AreFew}
 use Rattle.quilt_btree.specs.declared.outcomes.Inserted.{Inserted}
 use Rattle.quilt_btree.specs.declared.outcomes.Inserted.TheVariants as inserted
@@ -52,7 +52,7 @@ root_found pages root zero rs visited some w = absurd (omega arith)
 root_found pages root (suc h) rs visited some w = walk_found pages (suc h) true (root, everywhere) [] rs visited w
 
 pub root_again : (pages : List (List ℕ)) (root height : ℕ) (rs : List Record) (used : List ℕ) → 1 ≤ height
-    → Subtree pages height true (root, everywhere) rs used → IsFresh used [] → walk_of pages root height ≡ Whole rs (used ++ [])
+    → Subtree pages height true (root, everywhere) rs used → AreFreshPages used [] → walk_of pages root height ≡ Whole rs (used ++ [])
 unfolding walk_of
 root_again pages root zero rs used some s fresh = absurd (omega arith)
 root_again pages root (suc h) rs used some s fresh = walk_again pages (suc h) true (root, everywhere) [] rs used s fresh
@@ -67,7 +67,7 @@ pub record IsWholeFrom (told : Option (List (List ℕ))) (free : ℕ → Bool) (
   pub apart : AreApart free used
   pub left : 6 ≤ count_free free size
 
-at_most_one : (free : ℕ → Bool) (used : List ℕ) (size : ℕ) → FreeIn free size → ((p : ℕ) → times p used ≤ 1)
+at_most_one : (free : ℕ → Bool) (used : List ℕ) (size : ℕ) → FreeIn free size → ((p : ℕ) → multiplicity p used ≤ 1)
     → ((p : ℕ) → 1 ≤ p → p < size → account free used p ≡ 1) → AreApart free used
 at_most_one free used size inside once balance p = by_case (free p) refl
   where
@@ -79,7 +79,7 @@ at_most_one free used size inside once balance p = by_case (free p) refl
 
     by_case : (b : Bool) → free p ≡ b → account free used p ≤ 1
     by_case true e = let range = inside p e in same (account free used p) (balance p range.0 range.1)
-    by_case false e = nothing (cond {A = ℕ} (free p) 1 0) (times p used) (ap (λ b. cond {A = ℕ} b 1 0) e) (once p)
+    by_case false e = nothing (cond {A = ℕ} (free p) 1 0) (multiplicity p used) (ap (λ b. cond {A = ℕ} b 1 0) e) (once p)
 
 -- a subtree whose pages are apart is a tree
 unfoldable pub tree_again : (news : List (List ℕ)) (now_told : Option (List (List ℕ))) (now : ℕ → Bool) (root height records : ℕ)
@@ -90,7 +90,7 @@ tree_again news now_told now root height records uses all is some s apart = reco
   pages = news;
   is_told = is;
   visited = uses ++ [];
-  walk = root_again news root height all uses some s (fresh_from_once uses (λ p. once (cond {A = ℕ} (now p) 1 0) (times p uses) (apart p)));
+  walk = root_again news root height all uses some s (fresh_from_once uses (λ p. once (cond {A = ℕ} (now p) 1 0) (multiplicity p uses) (apart p)));
 }
   where
     once : (c t : ℕ) → c + t ≤ 1 → t ≤ 1
@@ -99,7 +99,7 @@ tree_again news now_told now root height records uses all is some s apart = reco
 -- A subtree that has come of a whole tree by an edit is the whole tree.
 pub whole_again : {pages news : List (List ℕ)} {now_told : Option (List (List ℕ))} {free now : ℕ → Bool} (size root height records : ℕ)
     {used uses : List ℕ} (all : List Record) → now_told ≡ Some news → 1 ≤ height → Subtree news height true (root, everywhere) all uses
-    → Moves pages news free now used uses → AreApart free used → ((p : ℕ) → 1 ≤ p → p < size → account free used p ≡ 1) → length all ≡ records
+    → KeepsAccount pages news free now used uses → AreApart free used → ((p : ℕ) → 1 ≤ p → p < size → account free used p ≡ 1) → length all ≡ records
     → IsWhole now_told now size (record { root = root; height = height; records = records }) all
 unfolding tree_again
 whole_again {pages = pages} {news = news} {now_told = now_told} {free = free} {now = now} size root height records {used = used} {uses = uses} all is some s m apart
@@ -188,8 +188,8 @@ few_records size records rs is room most = below size (length rs) records is roo
 
 pub sound_root : (e : Stop) {told : Option (List (List ℕ))} {free : ℕ → Bool} {size : ℕ} {t : Tree} (k : Key) {rs : List Record}
     → IsInserting told free size t → t.height ≢ 0
-    → ((is_root : Bool) (b : Bounds) (rs : List Record) (used : List ℕ) → CanInsert told free size t.root t.height is_root b k rs used → AreFew rs → IsSound e)
-    → IsWhole told free size t rs → IsSound e
+    → ((is_root : Bool) (b : Bounds) (rs : List Record) (used : List ℕ) → CanInsert told free size t.root t.height is_root b k rs used → AreFew rs → IsNotDamage e)
+    → IsWhole told free size t rs → IsNotDamage e
 sound_root e {told = told} {free = free} {size = size} {t = t} k {rs = rs} i ne f w =
     let x = insert_from told free size t rs i ne w in
     f true everywhere rs x.used (whole_can told free size t.root t.height k rs i.rooted.height x)
@@ -265,8 +265,8 @@ two_pages n size a b e h g =
     one : (a : ℕ) → (1 ≤ a) × (a < size) → (nat_le 1 a && nat_lt a n) ≡ true
     one a h = test a n size e h.0 h.1
 
-behind_all : (p new : ℕ) (used : List ℕ) → times p (used ++ new ∷ []) ≡ times p (new ∷ used)
-behind_all p new used = turn (times p (used ++ new ∷ [])) (times p used) (times p (new ∷ [])) (times p (new ∷ used)) (times-append p used (new ∷ []))
+behind_all : (p new : ℕ) (used : List ℕ) → multiplicity p (used ++ new ∷ []) ≡ multiplicity p (new ∷ used)
+behind_all p new used = turn (multiplicity p (used ++ new ∷ [])) (multiplicity p used) (multiplicity p (new ∷ [])) (multiplicity p (new ∷ used)) (times-append p used (new ∷ []))
     (times-append p (new ∷ []) used)
   where
     turn : (t u n s : ℕ) → t ≡ u + n → s ≡ n + u → t ≡ s
@@ -279,7 +279,7 @@ pub record IsRegrown (pages : List (List ℕ)) (now_told : Option (List (List �
   pub is : now_told ≡ Some news
   pub uses : List ℕ
   pub subtree : Subtree news height true (root, everywhere) all uses
-  pub moves : Moves pages news free now used uses
+  pub moves : KeepsAccount pages news free now used uses
 
 pub regrown_split : {told mid_told now_told : Option (List (List ℕ))} {pages mids : List (List ℕ)} {free mid now : ℕ → Bool} {size : ℕ} {t : Tree}
     {all : List Record} {used : List ℕ} {key : Key} {right new : ℕ} {bytes : List ℕ} (h : ℕ) → IsRooted size t → TellsAll told size → t.height ≡ suc h
@@ -372,7 +372,7 @@ module _ (r : Record) (told now_told : Option (List (List ℕ))) (free now : ℕ
       let balance : (p : ℕ) → 1 ≤ p → p < size → account free [] p ≡ 1 = λ p low high. subst (λ u. account free u p ≡ 1) no_pages (w.balance p low high) in
       let apart = at_most_one free [] size i.inside (λ p. nothing) balance in
       let one : 1 ≤ 1 = omega arith in
-      let here : 1 ≤ times new (new ∷ []) = first (times new (new ∷ [])) (times_here new []) in
+      let here : 1 ≤ multiplicity new (new ∷ []) = first (multiplicity new (new ∷ [])) (times_here new []) in
       let moves = moves_then (moves_taken pages free now [] new was_free taken)
       (moves_written pages now (new ∷ []) new bytes (used_account now (new ∷ []) new here)) in (
         sym (ap (λ l. not (list_any (has_key r.key) l)) no_rs),

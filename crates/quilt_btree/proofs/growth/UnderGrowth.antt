@@ -16,10 +16,10 @@ use Rattle.quilt_node.specs.Tree.{Bounds, bounded}
 use Rattle.quilt_node.proofs.Ascending.{all_take, all_drop}
 use Rattle.quilt_store.specs.Store.{count_free}
 use Rattle.quilt_record.specs.Lists.{has_key, put}
-use Rattle.quilt_store.specs.Stops.{IsSound}
+use Rattle.quilt_store.specs.Stops.{IsNotDamage}
 use Rattle.quilt_btree.specs.Subtree.{Row, Subtree}
 use Rattle.quilt_btree.specs.Trees.{ReadsInner}
-use Rattle.quilt_btree.specs.Edits.{Moves, Becomes, HasInserted, CanInsert, DidInsert}
+use Rattle.quilt_btree.specs.Edits.{KeepsAccount, Becomes, HasInserted, CanInsert, DidInsert}
 use Rattle.quilt_btree.specs.Inserts.{HasPut, IsPending, DidPut, AreFew}
 use Rattle.quilt_btree.specs.declared.outcomes.Inserted.{Inserted}
 use Rattle.quilt_btree.specs.declared.outcomes.Inserted.TheVariants as inserted
@@ -178,12 +178,12 @@ pub record IsToTake (r : Record) (told now_told : Option (List (List ℕ))) (fre
   pub not_there : list_any (has_key r.key) rs ≡ false
   pub under : List ℕ
   pub pending : IsPending now_told now page is_root b (with_child inner i key right) (put r rs) under
-  pub moves : Moves pages news free now used (under ++ page ∷ [])
+  pub moves : KeepsAccount pages news free now used (under ++ page ∷ [])
   pub tall : inner.height ≡ height
 
 has_put : (r : Record) {pages mid : List (List ℕ)} (news : List (List ℕ)) {free between : ℕ → Bool} (now : ℕ → Bool) (page height : ℕ)
     (is_root : Bool) (b : Bounds) (rs : List Record) {used more : List ℕ} (o : Inserted) → list_any (has_key r.key) rs ≡ false
-    → Moves pages mid free between used more → HasPut mid news between now page height is_root b more (put r rs) o
+    → KeepsAccount pages mid free between used more → HasPut mid news between now page height is_root b more (put r rs) o
     → HasInserted r pages news free now page height is_root b rs used o
 has_put r news now page height is_root b rs inserted.There none m h = absurd h
 has_put r news now page height is_root b rs inserted.Done none m h =
@@ -278,7 +278,7 @@ module _ (r : Record) (told then_told : Option (List (List ℕ))) (free then_fre
               (sym (put_between r x.at.first x.at.here x.at.last rs x.among)) next.row;
           apart = apart_then x.pages did.news free now (x.under ++ page ∷ []) (next.uses ++ page ∷ []) next.moves x.apart;
         };
-        moves = subst (λ u. Moves x.pages did.news free now u (next.uses ++ page ∷ [])) (sym x.is_used) next.moves;
+        moves = subst (λ u. KeepsAccount x.pages did.news free now u (next.uses ++ page ∷ [])) (sym x.is_used) next.moves;
         tall = x.inner_height ∙ sym x.is_height;
       }
     where
@@ -322,9 +322,9 @@ module _ (r : Record) (told then_told : Option (List (List ℕ))) (free then_fre
       → DidInsert r then_told mid_told then_free mid child (height - 1) is_root b rs used (inserted.Split key right))
       → IfErr result (λ e. (is_root : Bool) (b : Bounds) (all : List Record) (under : List ℕ)
       → IsPending mid_told mid page is_root b (with_child inner i key right) all under → 0 < count_free mid mid_size → (inner.height ≡ 3
-      → length inner.children < 254) → IsSound e)
+      → length inner.children < 254) → IsNotDamage e)
       → IfErr result (λ e. (is_root : Bool) (b : Bounds) (rs : List Record) (used : List ℕ) → CanInsert told free size page height is_root b r.key rs used
-      → AreFew rs → IsSound e)
+      → AreFew rs → IsNotDamage e)
   sound_child (Ok o) mid_told mid mid_size same few f g = g
   sound_child (Err e) mid_told mid mid_size same few f g = λ is_root b rs used can small.
       let x =
@@ -341,8 +341,8 @@ pub sound_under : (e : Stop) {told : Option (List (List ℕ))} (then_told : Opti
     (then_size : ℕ) {page height : ℕ} (child i : ℕ) {k : Key} (inner : Inner) {is_root : Bool} {b : Bounds} {rs : List Record} {used : List ℕ}
     → LeadsToChild told then_told free then_free size then_size page height child i k inner
     → ((is_root : Bool) (b : Bounds) (rs : List Record) (used : List ℕ) → CanInsert then_told then_free then_size child (height - 1) is_root b k rs used → AreFew rs
-    → IsSound e)
-    → CanInsert told free size page height is_root b k rs used → AreFew rs → IsSound e
+    → IsNotDamage e)
+    → CanInsert told free size page height is_root b k rs used → AreFew rs → IsNotDamage e
 sound_under e {told = told} then_told {free = free} then_free {size = size} then_size {page = page} {height = height} child i {k = k} inner {is_root = is_root} {b = b} {rs = rs} {used = used} l f can few =
     let x = insert_below told then_told free then_free size then_size page height child i k inner is_root b rs used l can in
     f false (child_bounds inner b i) x.at.here x.at.here_used
@@ -355,9 +355,9 @@ sound_under e {told = told} then_told {free = free} then_free {size = size} then
 
 -- a leaf at height 1
 pub sound_leaf : (result : Result Inserted Stop) (told : Option (List (List ℕ))) (free : ℕ → Bool) (size page : ℕ) {height : ℕ} (k : Key) → height ≡ 1
-    → IfErr result (λ e. (is_root : Bool) (b : Bounds) (rs : List Record) (used : List ℕ) → CanInsert told free size page 1 is_root b k rs used → IsSound e)
+    → IfErr result (λ e. (is_root : Bool) (b : Bounds) (rs : List Record) (used : List ℕ) → CanInsert told free size page 1 is_root b k rs used → IsNotDamage e)
     → IfErr result (λ e. (is_root : Bool) (b : Bounds) (rs : List Record) (used : List ℕ) → CanInsert told free size page height is_root b k rs used → AreFew rs
-    → IsSound e)
+    → IsNotDamage e)
 sound_leaf (Ok o) told free size page k one f = f
 sound_leaf (Err e) told free size page k one f =
     λ is_root b rs used can few. f is_root b rs used (subst (λ h. CanInsert told free size page h is_root b k rs used) one can)

@@ -12,7 +12,7 @@ use Rattle.quilt_record.specs.declared.key.Key.{Key}
 use Rattle.quilt_record.specs.declared.record.Record.{Record}
 use Rattle.quilt_record.specs.Records.{key_cmp}
 use Rattle.quilt_record.specs.Lists.{has_key, put, without}
-use Rattle.quilt_btree.specs.Lists.{value_in, value_of, is_at_most, floor_of}
+use Rattle.quilt_btree.specs.Lists.{value_in, value_at_key, is_at_most, floor_of}
 use Rattle.quilt_record.proofs.Orders.{key_total, is_Less, lt_not_eq, gt_not_eq, lt_to_le}
 use Rattle.quilt_btree.proofs.lists.Rising.{all_follow}
 
@@ -98,8 +98,8 @@ find_between p before here behind f g =
     find-append p before (here ++ behind) ∙ ap (λ o. option_or o (find p (here ++ behind))) (find_none p before f)
     ∙ find-append p here behind ∙ ap (λ o. option_or (find p here) o) (find_none p behind g) ∙ option_or_none (find p here)
 
-pub value_between : (k : Key) (before here behind rs : List Record) → IsAmong k before here behind rs → value_of k rs ≡ value_of k here
-unfolding value_of
+pub value_between : (k : Key) (before here behind rs : List Record) → IsAmong k before here behind rs → value_at_key k rs ≡ value_at_key k here
+unfolding value_at_key
 value_between k before here behind rs h =
     ap value_in
     (ap (find (has_key k)) h.records ∙ find_between (has_key k) before here behind (below_other k before h.lower) (above_other k behind h.higher))

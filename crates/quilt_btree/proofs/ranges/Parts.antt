@@ -10,7 +10,7 @@ use Rattle.quilt_record.specs.declared.key.Key.{Key}
 use Rattle.quilt_record.specs.declared.record.Record.{Record}
 use Rattle.quilt_record.specs.Records.{key_cmp}
 use Rattle.quilt_node.specs.Pages.{leaf_of}
-use Rattle.quilt_node.specs.Nodes.{records_of}
+use Rattle.quilt_node.specs.Nodes.{page_records}
 use Rattle.quilt_node.proofs.Ascending.{all_drop}
 use Rattle.quilt_node.proofs.Places.{leaf_records}
 use Rattle.quilt_btree.specs.Lists.{is_from_to}
@@ -105,12 +105,12 @@ module _ (low high : Key) (first last : ℕ) where
   pub part_added : {T E : Type 0} (result : Result T E) (most : ℕ) (bytes : List ℕ) (old new : List Record)
       → ((rs : List Record) → leaf_of bytes ≡ Some rs → list_all (λ r. is_lt (key_cmp r.key low)) (take first rs) ≡ true)
       → ((rs : List Record) → leaf_of bytes ≡ Some rs → list_all (λ r. is_lt (key_cmp high r.key)) (drop last rs) ≡ true)
-      → OnOk result (new ≡ take most (old ++ filter (is_from_to low high) (part first last (records_of bytes))))
+      → OnOk result (new ≡ take most (old ++ filter (is_from_to low high) (part first last (page_records bytes))))
       → OnOk result ((some : List Record) × (new ≡ take most (old ++ filter (is_from_to low high) some)) × ((rs : List Record) → leaf_of bytes ≡ Some rs
       → filter (is_from_to low high) some ≡ filter (is_from_to low high) rs))
   part_added (Err e) most bytes old new below above is = is
   part_added (Ok v) most bytes old new below above is = (
-    part first last (records_of bytes),
+    part first last (page_records bytes),
     is,
     λ rs l. ap (λ xs. filter (is_from_to low high) (part first last xs)) (leaf_records bytes rs l) ∙ part_filter rs (below rs l) (above rs l),
   )

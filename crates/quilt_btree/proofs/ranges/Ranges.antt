@@ -12,7 +12,7 @@ use Rattle.quilt_record.specs.declared.record.Record.{Record}
 use Rattle.quilt_record.specs.Records.{key_cmp}
 use Rattle.quilt_btree.specs.Lists.{is_from_to, range_of}
 use Rattle.quilt_node.specs.Tree.{is_below}
-use Rattle.quilt_btree.specs.Trees.{LeadsTo, IsAsFar, is_past}
+use Rattle.quilt_btree.specs.Trees.{LeadsToLeaf, IsAsFar, is_past}
 use Rattle.quilt_record.proofs.Orders.{lt_le, le_le, lt_to_le, not_le}
 use Rattle.quilt_btree.proofs.lists.Rising.{all_follow, all_append}
 use Rattle.quilt_btree.proofs.lists.Lists.{AreBelow, filter_all, filter_none, filter_cond, gt_not_le}
@@ -110,7 +110,7 @@ from_later low from high rs le h =
     (λ r g. ap (λ b. b && is_le (key_cmp r.key high)) (g ∙ sym (le_le low from r.key le g))) rs h
 
 -- what a search came to, all of it from the key on
-pub all_from : (k : Key) (rs leaf : List Record) (start high : Option Key) (l : LeadsTo k rs leaf start high)
+pub all_from : (k : Key) (rs leaf : List Record) (start high : Option Key) (l : LeadsToLeaf k rs leaf start high)
     → list_all (λ (r : Record). is_le (key_cmp k r.key)) leaf ≡ true
     → list_all (λ (r : Record). is_le (key_cmp k r.key)) (leaf ++ l.behind) ≡ true
 all_from k rs leaf start high l h =
@@ -124,7 +124,7 @@ module _ (low high : Key) where
       (all_follow (λ (r : Record). is_lt (key_cmp r.key low)) (λ r. not (is_from_to low high r))
       (λ r g. ap (λ b. not (b && is_le (key_cmp r.key high))) (gt_not_le r.key low g)) rs h)
 
-  pub range_first : (most : ℕ) (rs leaf new : List Record) (start up : Option Key) (l : LeadsTo low rs leaf start up)
+  pub range_first : (most : ℕ) (rs leaf new : List Record) (start up : Option Key) (l : LeadsToLeaf low rs leaf start up)
       → new ≡ take most ([] ++ filter (is_from_to low high) leaf) → new ≡ range_of low high most (l.before ++ leaf)
   unfolding range_of
   range_first most rs leaf new start up l is =
@@ -132,7 +132,7 @@ module _ (low high : Key) where
       (filter-append (is_from_to low high) l.before leaf ∙ ap (λ x. x ++ filter (is_from_to low high) leaf) (none_below l.before l.lower)))
 
 module _ (low from high : Key) (most : ℕ) (rs leaf new : List Record) (start : Option Key) where
-  pub range_more : (old : List Record) (up : Option Key) (l : LeadsTo from rs leaf start up)
+  pub range_more : (old : List Record) (up : Option Key) (l : LeadsToLeaf from rs leaf start up)
       → list_all (λ (r : Record). is_le (key_cmp from r.key)) leaf ≡ true → is_le (key_cmp low from) ≡ true → IsAsFar low high most from rs old
       → new ≡ take most (old ++ filter (is_from_to from high) leaf) → new ≡ range_of low high most (l.before ++ leaf)
   unfolding range_of
@@ -146,7 +146,7 @@ module _ (low from high : Key) (most : ℕ) (rs leaf new : List Record) (start :
       ∙ ap (take most) (sym (filter-append P l.before leaf))
 
   -- the range goes on from the next key
-  pub range_next : (next : Key) (l : LeadsTo from rs leaf start (Some next)) → is_below start from ≡ true
+  pub range_next : (next : Key) (l : LeadsToLeaf from rs leaf start (Some next)) → is_below start from ≡ true
       → new ≡ range_of low high most (l.before ++ leaf) → IsAsFar low high most next rs new
   range_next next l under is = record {
     done = l.before ++ leaf;
@@ -186,7 +186,7 @@ past_none low high (Some next) rs f h =
     and_false true = refl
     and_false false = refl
 
-module _ (low from high : Key) (most : ℕ) (rs leaf new : List Record) (start up : Option Key) (l : LeadsTo from rs leaf start up) where
+module _ (low from high : Key) (most : ℕ) (rs leaf new : List Record) (start up : Option Key) (l : LeadsToLeaf from rs leaf start up) where
   -- the range ends here
   pub range_ends : ((next : Key) → up ≡ Some next → is_le (key_cmp next high) ≡ false) → new ≡ range_of low high most (l.before ++ leaf)
       → new ≡ range_of low high most rs

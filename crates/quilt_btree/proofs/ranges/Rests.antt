@@ -9,10 +9,10 @@ use Rattle.quilt_record.specs.declared.key.Key.{Key}
 use Rattle.quilt_record.specs.declared.record.Record.{Record}
 use Rattle.quilt_record.specs.Records.{key_cmp}
 use Rattle.quilt_types.specs.declared.stop.Stop.{Stop}
-use Rattle.quilt_store.specs.Stops.{IsSound}
+use Rattle.quilt_store.specs.Stops.{IsNotDamage}
 use Rattle.quilt_btree.specs.declared.tree.Tree.{Tree}
 use Rattle.quilt_btree.specs.Lists.{is_from_to, range_of}
-use Rattle.quilt_btree.specs.Trees.{Spells, IsTree, LeadsTo, IsCut, IsBound, Divides, Before}
+use Rattle.quilt_btree.specs.Trees.{SpellsSubtree, IsTree, LeadsToLeaf, IsCut, IsBound, Divides, Before}
 use Rattle.quilt_record.proofs.Orders.{le_lt, lt_to_le}
 use Rattle.quilt_btree.proofs.ways.Leaves.{same_le}
 use Rattle.quilt_btree.proofs.subtrees.Whole.{tree_spells, no_records}
@@ -21,16 +21,16 @@ use Rattle.quilt_btree.proofs.ranges.Ranges.{range_more, range_first, range_next
 -- the leaf that a search for the key came to, and what of it was added to the list
 pub record CameTo (told : Option (List (List ℕ))) (t : Tree) (from high : Key) (most : ℕ) (leaf old new : List Record) (up : Option Key) : Type 0 where
   pub some : t.height ≢ 0
-  pub leads : (rs : List Record) (s : Spells told t.root t.height rs) → s.bounds.high ≡ None → LeadsTo from rs leaf None up
+  pub leads : (rs : List Record) (s : SpellsSubtree told t.root t.height rs) → s.bounds.high ≡ None → LeadsToLeaf from rs leaf None up
   pub cut : IsCut told t.root t.height from None leaf up
   pub seen : List Record
   pub added : new ≡ take most (old ++ filter (is_from_to from high) seen)
-  pub same : (rs : List Record) → Spells told t.root t.height rs → filter (is_from_to from high) seen ≡ filter (is_from_to from high) leaf
+  pub same : (rs : List Record) → SpellsSubtree told t.root t.height rs → filter (is_from_to from high) seen ≡ filter (is_from_to from high) leaf
 
 module _ (told : Option (List (List ℕ))) (t : Tree) (from high : Key) where
   -- the records of the leaf were added, where the tree is sound
   leaf_added : (most : ℕ) (leaf old new rs : List Record) (up : Option Key) (c : CameTo told t from high most leaf old new up)
-      → Spells told t.root t.height rs → new ≡ take most (old ++ filter (is_from_to from high) leaf)
+      → SpellsSubtree told t.root t.height rs → new ≡ take most (old ++ filter (is_from_to from high) leaf)
   leaf_added most leaf old new rs up c s = c.added ∙ ap (λ l. take most (old ++ l)) (c.same rs s)
 
   -- each leaf but the first adds a record, where the range goes on
@@ -39,13 +39,13 @@ module _ (told : Option (List (List ℕ))) (t : Tree) (from high : Key) where
       → is_le (key_cmp next high) ≡ true → 1 ≤ length leaf → length old ≤ most → (length new ≡ most → ⊥) → length new ≡ length old → ⊥
   rest_adds next most leaf old new rs up c is pages is_told d e le some room ne same =
       let s = tree_spells told t rs c.some is in
-      let l = subst (λ o. LeadsTo from rs leaf None o) e (c.leads rs s.0 s.1) in
+      let l = subst (λ o. LeadsToLeaf from rs leaf None o) e (c.leads rs s.0 s.1) in
       adds_some from high next most old new leaf (leaf_added most leaf old new rs up c s.0) some
       (c.cut.starts pages rs is_told s.0 s.1 d) l.here_under le room ne same
 
 module _ (told : Option (List (List ℕ))) (t : Tree) (low from high : Key) (most : ℕ) (leaf old new rs : List Record) (up : Option Key)
     (c : CameTo told t from high most leaf old new up) (is : IsTree told t rs) (b : Before told t low high most from rs old) where
-  pub rest_so_far : (l : LeadsTo from rs leaf None up) × (new ≡ range_of low high most (l.before ++ leaf))
+  pub rest_so_far : (l : LeadsToLeaf from rs leaf None up) × (new ≡ range_of low high most (l.before ++ leaf))
   rest_so_far =
       let s = tree_spells told t rs c.some is in
       let l = c.leads rs s.0 s.1 in (
@@ -73,11 +73,11 @@ later low from next h g = lt_to_le (key_cmp low next) (le_lt low from next h g)
 module _ (told : Option (List (List ℕ))) (t : Tree) (low : Key) where
   -- and it goes on from the next key
   pub rest_goes_on : (from high next : Key) (most : ℕ) (leaf old new rs : List Record) (up : Option Key)
-      (c : CameTo told t from high most leaf old new up) (is : IsTree told t rs) (l : LeadsTo from rs leaf None up)
+      (c : CameTo told t from high most leaf old new up) (is : IsTree told t rs) (l : LeadsToLeaf from rs leaf None up)
       → new ≡ range_of low high most (l.before ++ leaf) → is_le (key_cmp low from) ≡ true → up ≡ Some next → Before told t low high most next rs new
   rest_goes_on from high next most leaf old new rs up c is l so_far le e =
       let s = tree_spells told t rs c.some is in
-      let on = subst (λ o. (l : LeadsTo from rs leaf None o) × (new ≡ range_of low high most (l.before ++ leaf))) e (l, so_far) in (
+      let on = subst (λ o. (l : LeadsToLeaf from rs leaf None o) × (new ≡ range_of low high most (l.before ++ leaf))) e (l, so_far) in (
         is.pages,
         is.is_told,
         next_divides is.pages t.height t.root up next e (c.cut.ends is.pages rs s.0 is.is_told s.1 refl),
@@ -87,7 +87,7 @@ module _ (told : Option (List (List ℕ))) (t : Tree) (low : Key) where
       )
 
   pub first_so_far : (high : Key) (most : ℕ) (leaf new rs : List Record) (up : Option Key) (c : CameTo told t low high most leaf [] new up)
-      (is : IsTree told t rs) → (l : LeadsTo low rs leaf None up) × (new ≡ range_of low high most (l.before ++ leaf))
+      (is : IsTree told t rs) → (l : LeadsToLeaf low rs leaf None up) × (new ≡ range_of low high most (l.before ++ leaf))
   first_so_far high most leaf new rs up c is =
       let s = tree_spells told t rs c.some is in
       let l = c.leads rs s.0 s.1 in
@@ -167,8 +167,8 @@ loop_ends {told = told} {now = now} t high start from most first old new same is
 
 pub loop_sound : (e : Stop) (told now : Option (List (List ℕ))) (t : Tree) (high start from : Key) (most : ℕ) (first old : List Record) → now ≡ told
     → ((low : Key) (rs : List Record) → IsTree told t rs → Before told t low high most start rs first → Before told t low high most from rs old)
-    → ((low : Key) (rs : List Record) → IsTree now t rs → Before now t low high most from rs old → IsSound e)
-    → (low : Key) (rs : List Record) → IsTree told t rs → Before told t low high most start rs first → IsSound e
+    → ((low : Key) (rs : List Record) → IsTree now t rs → Before now t low high most from rs old → IsNotDamage e)
+    → (low : Key) (rs : List Record) → IsTree told t rs → Before told t low high most start rs first → IsNotDamage e
 loop_sound e told now t high start from most first old same s f = λ low rs tree b.
     f low rs (along_tree told now t rs same tree) (along_before told now t low high most from rs old same (s low rs tree b))
 
@@ -184,8 +184,8 @@ loop_reads None None None first old new more f g = f
 
 module _ (told now : Option (List (List ℕ))) (t : Tree) (low high next : Key) (most : ℕ) (leaf new : List Record) where
   pub first_sound : (up : Option Key) (e : Stop) → now ≡ told → CameTo told t low high most leaf [] new up → up ≡ Some next
-      → ((l : Key) (rs : List Record) → IsTree now t rs → Before now t l high most next rs new → IsSound e) → (rs : List Record) → IsTree told t rs
-      → IsSound e
+      → ((l : Key) (rs : List Record) → IsTree now t rs → Before now t l high most next rs new → IsNotDamage e) → (rs : List Record) → IsTree told t rs
+      → IsNotDamage e
   first_sound up e same c is f = λ rs tree.
       f low rs (along_tree told now t rs same tree)
       (along_before told now t low high most next rs new same (first_goes_on told t low high next most leaf new rs up c tree is))

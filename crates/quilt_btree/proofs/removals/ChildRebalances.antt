@@ -12,8 +12,8 @@ use Rattle.quilt_btree.specs.declared.outcomes.Rebalanced.TheVariants as rebalan
 use Rattle.quilt_btree.specs.declared.outcomes.Removed.{Removed}
 use Rattle.quilt_btree.specs.declared.outcomes.Removed.TheVariants as removed
 use Rattle.quilt_btree.specs.Subtree.{Row, Subtree}
-use Rattle.quilt_btree.specs.Edits.{times, Moves, Becomes, IsNearlyFull, DidLeave}
-use Rattle.quilt_btree.specs.Rebalancing.{HasRebalanced, DidRebalance, Writes, HasDropped}
+use Rattle.quilt_btree.specs.Edits.{multiplicity, KeepsAccount, Becomes, IsNearlyFull, DidLeave}
+use Rattle.quilt_btree.specs.Rebalancing.{HasRebalanced, DidRebalance, WritesInner, HasDropped}
 use Rattle.quilt_btree.proofs.lists.Counts.{times-append, times_here}
 use Rattle.quilt_btree.proofs.stores.Moves.{AreApart, apart_then, used_not_free}
 use Rattle.quilt_btree.proofs.rows.Splices.{parent_written, becomes_then}
@@ -47,7 +47,7 @@ pub record ChildrenRebalanced (mid : Option (List (List ℕ))) (free between : �
   pub is : mid ≡ Some news
   pub uses : List ℕ
   pub row : Row (Subtree news (suc below) false) (bounded inner.children inner.keys b) rs uses
-  pub moves : Moves pages news free between used (uses ++ page ∷ [])
+  pub moves : KeepsAccount pages news free between used (uses ++ page ∷ [])
   pub apart : AreApart between (uses ++ page ∷ [])
   pub within : are_within b inner.keys ≡ true
   pub is_height : inner.height ≡ suc (suc below)
@@ -82,7 +82,7 @@ module _ (told mid : Option (List (List ℕ))) (free between : ℕ → Bool) (pa
         row = subst (λ x. Row S (bounded x (remove inner.keys j) b) rs changed.uses) (sym kids)
             (subst (λ x. Row S (bounded (n.cut.ca ++ left ∷ n.cut.cb) x b) rs changed.uses) (sym keys)
             (subst (λ x. Row S (bounded (n.cut.ca ++ left ∷ n.cut.cb) (n.cut.ka ++ n.cut.kb) b) x changed.uses) (sym n.records) row));
-        moves = subst (λ u. Moves n.pages m.news free between u (changed.uses ++ page ∷ [])) (sym n.is_used) changed.moves;
+        moves = subst (λ u. KeepsAccount n.pages m.news free between u (changed.uses ++ page ∷ [])) (sym n.is_used) changed.moves;
         apart = apart_then n.pages m.news free between (n.under ++ page ∷ []) (changed.uses ++ page ∷ []) changed.moves apart;
         within = subst (λ x. are_within b x ≡ true) (sym keys) (within_less n.cut.ka key n.cut.kb b n.within);
         is_height = n.inner_height;
@@ -142,7 +142,7 @@ module _ (told : Option (List (List ℕ))) (free : ℕ → Bool) (page below : �
           row = subst (λ x. Row S (bounded x (slice_set inner.keys j separator) b) rs changed.uses) (sym n.cut.children)
               (subst (λ x. Row S (bounded (n.cut.ca ++ left ∷ right ∷ n.cut.cb) x b) rs changed.uses) (sym keys)
               (subst (λ x. Row S (bounded (n.cut.ca ++ left ∷ right ∷ n.cut.cb) (n.cut.ka ++ separator ∷ n.cut.kb) b) x changed.uses) (sym n.records) row));
-          moves = subst (λ u. Moves n.pages m.news free between u (changed.uses ++ page ∷ [])) (sym n.is_used) changed.moves;
+          moves = subst (λ u. KeepsAccount n.pages m.news free between u (changed.uses ++ page ∷ [])) (sym n.is_used) changed.moves;
           apart = apart_then n.pages m.news free between (n.under ++ page ∷ []) (changed.uses ++ page ∷ []) changed.moves apart;
           within = subst (λ x. are_within b x ≡ true) (sym keys) fits.within;
           is_height = n.inner_height;
@@ -156,13 +156,13 @@ pub record PageRebalanced (now_told : Option (List (List ℕ))) (free now : ℕ 
   pub becomes : Becomes pages news free now page (suc (suc below)) r b used rs
   pub page_is : inner_of (length news) (slice_index_or news page []) ≡ Some inner
 
-page_in : (p : ℕ) (under : List ℕ) → 1 ≤ times p (under ++ p ∷ [])
+page_in : (p : ℕ) (under : List ℕ) → 1 ≤ multiplicity p (under ++ p ∷ [])
 page_in p under = let e = times_here p [] in let f = times-append p under (p ∷ []) in omega arith
 
 module _ (mid : Option (List (List ℕ))) (free between : ℕ → Bool) (page below : ℕ) (pages : List (List ℕ)) (inner : Inner) (b : Bounds)
     (rs : List Record) (used : List ℕ) where
   pub page_rebalanced : (now_told : Option (List (List ℕ))) (now : ℕ → Bool) (r : Bool)
-      → ChildrenRebalanced mid free between page below pages inner b rs used → Writes page inner mid now_told → now ≡ between → page < length pages
+      → ChildrenRebalanced mid free between page below pages inner b rs used → WritesInner page inner mid now_told → now ≡ between → page < length pages
       → (r || nat_le 127 (length inner.children)) ≡ true → PageRebalanced now_told free now page below r pages inner b rs used
   page_rebalanced now_told now r m writes f inside enough =
       let w = writes m.news m.is in
@@ -249,7 +249,7 @@ module _ (told mid now_told : Option (List (List ℕ))) (free between now : ℕ 
             is_height = e;
             uses = m.uses;
             subtree = one_row S (child, b) rs m.uses (subst (λ x. Row S x rs m.uses) only m.row);
-            moves = subst (λ g. Moves n.pages m.news free g used (m.uses ++ page ∷ [])) (sym f) m.moves;
+            moves = subst (λ g. KeepsAccount n.pages m.news free g used (m.uses ++ page ∷ [])) (sym f) m.moves;
           },
         );
       }
@@ -266,7 +266,7 @@ module _ (told mid now_told : Option (List (List ℕ))) (free between now : ℕ 
   -- and after a move
   pub left_separated : (separator : Key) → height ≡ suc (suc below) → (n : Neighbours told free page below inner j left key right is_root b rs used)
       → ChildrenRebalanced mid free between page below n.pages (with_key inner j separator) b rs used → page < length n.pages → now ≡ between
-      → Writes page (with_key inner j separator) mid now_told → DidLeave told now_told free now page height is_root b used rs removed.Done
+      → WritesInner page (with_key inner j separator) mid now_told → DidLeave told now_told free now page height is_root b used rs removed.Done
   left_separated separator e n m inside f writes =
       let p = page_rebalanced mid free between page below n.pages (with_key inner j separator) b rs used now_told now is_root m writes f inside
       n.enough in

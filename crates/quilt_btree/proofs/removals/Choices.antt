@@ -12,9 +12,9 @@ use Rattle.quilt_btree.specs.declared.outcomes.Rebalanced.{Rebalanced}
 use Rattle.quilt_btree.specs.declared.outcomes.Rebalanced.TheVariants as rebalanced
 use Rattle.quilt_btree.specs.declared.outcomes.Removed.{Removed}
 use Rattle.quilt_btree.specs.declared.outcomes.Removed.TheVariants as removed
-use Rattle.quilt_store.specs.Stops.{IsSound}
+use Rattle.quilt_store.specs.Stops.{IsNotDamage}
 use Rattle.quilt_btree.specs.Edits.{DidLeave}
-use Rattle.quilt_btree.specs.Rebalancing.{CanRebalance, DidRebalance, HasUnderfull, Writes, HasDropped}
+use Rattle.quilt_btree.specs.Rebalancing.{CanRebalance, DidRebalance, HasUnderfull, WritesInner, HasDropped}
 use Rattle.quilt_btree.proofs.rows.Middles.{gap_bounds}
 use Rattle.quilt_btree.proofs.removals.Underfulls.{Neighbours, neighbours}
 use Rattle.quilt_btree.proofs.removals.ChildRebalances.{joined_children, separated_children, separated_ascends, set_is, page_taken, left_joined, left_separated}
@@ -48,8 +48,8 @@ module _ (told : Option (List (List ℕ))) (free : ℕ → Bool) (page height : 
 
   -- the two can be rebalanced
   pub sound_rebalance : (e : Stop) → Choice told page inner i j next left key right
-      → ((b : Bounds) (rs : List Record) (used : List ℕ) → CanRebalance told free (height - 1) left key right b rs used → IsSound e)
-      → (is_root : Bool) (b : Bounds) (rs : List Record) (used : List ℕ) → HasUnderfull told free page height inner i is_root b rs used → IsSound e
+      → ((b : Bounds) (rs : List Record) (used : List ℕ) → CanRebalance told free (height - 1) left key right b rs used → IsNotDamage e)
+      → (is_root : Bool) (b : Bounds) (rs : List Record) (used : List ℕ) → HasUnderfull told free page height inner i is_root b rs used → IsNotDamage e
   sound_rebalance e c f is_root b rs used s =
       let n = chosen is_root b rs used c s in
       f (gap_bounds n.cut.ka n.cut.kb b) n.here n.here_used
@@ -76,8 +76,8 @@ module _ (told mid : Option (List (List ℕ))) (free between : ℕ → Bool) (pa
       (joined_children told mid free between page s.below inner j left key right is_root b rs used n d)
 
   pub joined_sound : (r : Result Removed Stop) (next : ℕ) → Choice told page inner i j next left key right
-      → RebalancesAs rebalanced.Joined told mid free between (height - 1) left key right → IfErr r (λ e. between page ≡ false → IsSound e)
-      → IfErr r (λ e. (is_root : Bool) (b : Bounds) (rs : List Record) (used : List ℕ) → HasUnderfull told free page height inner i is_root b rs used → IsSound e)
+      → RebalancesAs rebalanced.Joined told mid free between (height - 1) left key right → IfErr r (λ e. between page ≡ false → IsNotDamage e)
+      → IfErr r (λ e. (is_root : Bool) (b : Bounds) (rs : List Record) (used : List ℕ) → HasUnderfull told free page height inner i is_root b rs used → IsNotDamage e)
   joined_sound (Ok v) next c rebalances f = f
   joined_sound (Err e) next c rebalances f = λ is_root b rs used s.
       f (joined_underfull next c rebalances is_root b rs used s)
@@ -101,8 +101,8 @@ module _ (told mid : Option (List (List ℕ))) (free between : ℕ → Bool) (pa
 pub separated_sound : (x : Stop) (told mid : Option (List (List ℕ))) (free between : ℕ → Bool) (page height : ℕ) (inner : Inner) (i j next left : ℕ)
     (key : Key) (right : ℕ) (separator : Key) → Choice told page inner i j next left key right
     → RebalancesAs (rebalanced.Redistributed separator) told mid free between (height - 1) left key right
-    → (between page ≡ false → is_ascending (slice_set inner.keys j separator) ≡ true → IsSound x)
-    → (is_root : Bool) (b : Bounds) (rs : List Record) (used : List ℕ) → HasUnderfull told free page height inner i is_root b rs used → IsSound x
+    → (between page ≡ false → is_ascending (slice_set inner.keys j separator) ≡ true → IsNotDamage x)
+    → (is_root : Bool) (b : Bounds) (rs : List Record) (used : List ℕ) → HasUnderfull told free page height inner i is_root b rs used → IsNotDamage x
 separated_sound x told mid free between page height inner i j next left key right separator c rebalances f is_root b rs used s =
     let n = chosen told free page height inner i j next left key right is_root b rs used c s in
     let d = did_rebalance told mid free between page height inner i j left key right (rebalanced.Redistributed separator) is_root b rs used s n
@@ -115,7 +115,7 @@ separated_sound x told mid free between page height inner i j next left key righ
 pub separated_left : (told mid now_told : Option (List (List ℕ))) (free between now : ℕ → Bool) (page height : ℕ) (inner : Inner) (i j next left : ℕ)
     (key : Key) (right : ℕ) (separator : Key) → Choice told page inner i j next left key right
     → RebalancesAs (rebalanced.Redistributed separator) told mid free between (height - 1) left key right → now ≡ between
-    → Writes page (with_key inner j separator) mid now_told
+    → WritesInner page (with_key inner j separator) mid now_told
     → (is_root : Bool) (b : Bounds) (rs : List Record) (used : List ℕ) → HasUnderfull told free page height inner i is_root b rs used
     → DidLeave told now_told free now page height is_root b used rs removed.Done
 separated_left told mid now_told free between now page height inner i j next left key right separator c rebalances f writes is_root b rs used s =

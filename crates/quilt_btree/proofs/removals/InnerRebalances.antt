@@ -15,7 +15,7 @@ use Rattle.quilt_world.specs.Tale.{Goes}
 use Rattle.quilt_btree.specs.declared.outcomes.Rebalanced.TheVariants as rebalanced
 use Rattle.quilt_btree.specs.Subtree.{Row, Subtree}
 use Rattle.quilt_btree.specs.Trees.{ReadsInner}
-use Rattle.quilt_btree.specs.Edits.{times, Moves}
+use Rattle.quilt_btree.specs.Edits.{multiplicity, KeepsAccount}
 use Rattle.quilt_btree.specs.Rebalancing.{CanRebalance, DidRebalance, HasGiven}
 use Rattle.quilt_btree.proofs.lists.Counts.{times-append}
 use Rattle.quilt_btree.proofs.stores.Moves.{AreApart}
@@ -36,10 +36,10 @@ two_above (suc (suc n)) h = (n, refl)
 
 -- the pages that two neighbours use
 pair_count : (p : ℕ) (late early : List ℕ) (left right : ℕ)
-    → times p ((late ++ right ∷ []) ++ (early ++ left ∷ [])) ≡ times p (late ++ early) + times p (right ∷ left ∷ [])
+    → multiplicity p ((late ++ right ∷ []) ++ (early ++ left ∷ [])) ≡ multiplicity p (late ++ early) + multiplicity p (right ∷ left ∷ [])
 pair_count p late early left right =
-    sums (times p ((late ++ right ∷ []) ++ (early ++ left ∷ []))) (times p (late ++ right ∷ [])) (times p (early ++ left ∷ [])) (times p late)
-    (times p (right ∷ [])) (times p early) (times p (left ∷ [])) (times p (late ++ early)) (times p (right ∷ left ∷ []))
+    sums (multiplicity p ((late ++ right ∷ []) ++ (early ++ left ∷ []))) (multiplicity p (late ++ right ∷ [])) (multiplicity p (early ++ left ∷ [])) (multiplicity p late)
+    (multiplicity p (right ∷ [])) (multiplicity p early) (multiplicity p (left ∷ [])) (multiplicity p (late ++ early)) (multiplicity p (right ∷ left ∷ []))
     (times-append p (late ++ right ∷ []) (early ++ left ∷ [])) (times-append p late (right ∷ [])) (times-append p early (left ∷ []))
     (times-append p late early) (times-append p (right ∷ []) (left ∷ []))
   where
@@ -79,7 +79,7 @@ are_inners told free h left key right b rs used m l r reads also =
     let from : is_ascending (key ∷ r.keys) ≡ true =
     ascends_from m.pages h r.children r.keys key b.high m.rest t.under (let n = list_too.least in omega arith) list_too.ascends row_r in
     let pair : ArePair left right (t.under ++ s.under) used = record {
-      count = λ p. ap (times p) (m.is_used ∙ ap (λ u. u ++ m.first_used) t.is_used ∙ ap (λ u. (t.under ++ right ∷ []) ++ u) s.is_used)
+      count = λ p. ap (multiplicity p) (m.is_used ∙ ap (λ u. u ++ m.first_used) t.is_used ∙ ap (λ u. (t.under ++ right ∷ []) ++ u) s.is_used)
           ∙ pair_count p t.under s.under left right;
     } in
     record {
@@ -252,10 +252,10 @@ module _ (told mid now_told : Option (List (List ℕ))) (free now : ℕ → Bool
       (subst (λ x. Row S x rs a.under) (bounded_join first.children rest.children first.keys rest.keys separator b c.between) there) in
       let parts = rises_apart b first.keys separator rest.keys (subst (IsRising b) (sym c.keys) a.rises) in
       let enough = c.enough a.first_many a.rest_many in
-      let moves : Moves m.pages news free free used ((two.rest_used ++ right ∷ []) ++ (two.first_used ++ left ∷ [])) =
+      let moves : KeepsAccount m.pages news free free used ((two.rest_used ++ right ∷ []) ++ (two.first_used ++ left ∷ [])) =
       pair_moves m.pages news free free left right (right ∷ left ∷ []) a.under used ((two.rest_used ++ right ∷ []) ++ (two.first_used ++ left ∷ []))
       a.pair
-      (λ p. pair_count p two.rest_used two.first_used left right ∙ ap (λ u. times p u + times p (right ∷ left ∷ [])) (sym two.is_used)) w.moves in
+      (λ p. pair_count p two.rest_used two.first_used left right ∙ ap (λ u. multiplicity p u + multiplicity p (right ∷ left ∷ [])) (sym two.is_used)) w.moves in
       subst (λ x. DidRebalance told now_told free now x left right b rs used (rebalanced.Redistributed separator)) (sym n.1) (record {
         pages = m.pages;
         news = news;
@@ -274,7 +274,7 @@ module _ (told mid now_told : Option (List (List ℕ))) (free now : ℕ → Bool
           records = two.records;
           low = parts.low;
           high = parts.high;
-          moves = subst (λ f. Moves m.pages news free f used ((two.rest_used ++ right ∷ []) ++ (two.first_used ++ left ∷ []))) (sym c.frees) moves;
+          moves = subst (λ f. KeepsAccount m.pages news free f used ((two.rest_used ++ right ∷ []) ++ (two.first_used ++ left ∷ []))) (sym c.frees) moves;
         };
       })
 

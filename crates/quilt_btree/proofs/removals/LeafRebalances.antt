@@ -11,8 +11,8 @@ use Rattle.quilt_store.specs.Store.{FreesOnly}
 use Rattle.quilt_world.specs.Tale.{Goes}
 use Rattle.quilt_btree.specs.declared.outcomes.Rebalanced.TheVariants as rebalanced
 use Rattle.quilt_btree.specs.Subtree.{Subtree}
-use Rattle.quilt_btree.specs.Trees.{Spells, ReadsLeaf}
-use Rattle.quilt_btree.specs.Edits.{Moves}
+use Rattle.quilt_btree.specs.Trees.{SpellsSubtree, ReadsLeaf}
+use Rattle.quilt_btree.specs.Edits.{KeepsAccount}
 use Rattle.quilt_btree.specs.Rebalancing.{CanRebalance, DidRebalance, HasGiven}
 use Rattle.quilt_btree.proofs.stores.Moves.{AreApart}
 use Rattle.quilt_btree.proofs.lists.Rising.{IsRising, rising_join}
@@ -130,7 +130,7 @@ module _ (told mid now_told : Option (List (List ℕ))) (free now : ℕ → Bool
           uses = left ∷ [];
           subtree = subst (λ x. Subtree on.0 1 false (left, b) x (left ∷ [])) same
               (one_leaf on.0 left bytes b all j.here c.written many (subst (λ x. are_within b (keys_of x) ≡ true) (sym same) a.rises.within));
-          moves = subst (λ u. Moves m.pages on.0 free now u (left ∷ [])) (sym a.pages) j.moves;
+          moves = subst (λ u. KeepsAccount m.pages on.0 free now u (left ∷ [])) (sym a.pages) j.moves;
         };
       })
     where
@@ -171,15 +171,15 @@ module _ (told mid now_told : Option (List (List ℕ))) (free now : ℕ → Bool
           records = all;
           low = parts.low;
           high = parts.high;
-          moves = subst (λ u. Moves m.pages news free now u (right ∷ left ∷ [])) (sym a.pages)
-              (subst (λ f. Moves m.pages news free f (right ∷ left ∷ []) (right ∷ left ∷ [])) (sym c.frees) w.moves);
+          moves = subst (λ u. KeepsAccount m.pages news free now u (right ∷ left ∷ [])) (sym a.pages)
+              (subst (λ f. KeepsAccount m.pages news free f (right ∷ left ∷ []) (right ∷ left ∷ [])) (sym c.frees) w.moves);
         };
       })
 
 module _ (told : Option (List (List ℕ))) (free : ℕ → Bool) where
   -- both are read
   pub left_spells : (height left : ℕ) (key : Key) (right : ℕ) (b : Bounds) (rs : List Record) (used : List ℕ)
-      (m : CanRebalance told free height left key right b rs used) → Spells told left height m.first
+      (m : CanRebalance told free height left key right b rs used) → SpellsSubtree told left height m.first
   left_spells height left key right b rs used m =
       record {
         pages = m.pages;
@@ -191,7 +191,7 @@ module _ (told : Option (List (List ℕ))) (free : ℕ → Bool) where
       }
 
   pub right_spells : (height left : ℕ) (key : Key) (right : ℕ) (b : Bounds) (rs : List Record) (used : List ℕ)
-      (m : CanRebalance told free height left key right b rs used) → Spells told right height m.rest
+      (m : CanRebalance told free height left key right b rs used) → SpellsSubtree told right height m.rest
   right_spells height left key right b rs used m =
       record {
         pages = m.pages;

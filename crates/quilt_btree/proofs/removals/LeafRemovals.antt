@@ -13,8 +13,8 @@ use Rattle.quilt_world.specs.Tale.{Goes}
 use Rattle.quilt_btree.specs.declared.outcomes.Removed.TheVariants as removed
 use Rattle.quilt_record.specs.Lists.{has_key, without}
 use Rattle.quilt_btree.specs.Subtree.{Subtree}
-use Rattle.quilt_btree.specs.Trees.{Spells, ReadsLeaf}
-use Rattle.quilt_btree.specs.Edits.{times, Becomes, CanEdit, IsNearlyFull, DidRemove}
+use Rattle.quilt_btree.specs.Trees.{SpellsSubtree, ReadsLeaf}
+use Rattle.quilt_btree.specs.Edits.{multiplicity, Becomes, CanEdit, IsNearlyFull, DidRemove}
 use Rattle.quilt_btree.proofs.lists.Counts.{times_here}
 use Rattle.quilt_btree.proofs.stores.Moves.{moves_written, used_account, used_not_free}
 use Rattle.quilt_btree.proofs.ways.Leaves.{gap_any, found_any, without_found}
@@ -79,10 +79,10 @@ leaf_becomes pages free page is_root r b rs all used bytes s inside is enough wi
     within = within;
     is_used = s.is_used;
   };
-  moves = moves_written pages free used page bytes (used_account free used page (subst (λ l. 1 ≤ times page l) (sym s.is_used) (some page)));
+  moves = moves_written pages free used page bytes (used_account free used page (subst (λ l. 1 ≤ multiplicity page l) (sym s.is_used) (some page)));
 }
   where
-    some : (page : ℕ) → 1 ≤ times page (page ∷ [])
+    some : (page : ℕ) → 1 ≤ multiplicity page (page ∷ [])
     some page = let e = times_here page [] in omega arith
 
 pub leaf_same : (told : Option (List (List ℕ))) (free : ℕ → Bool) (page : ℕ) (is_root : Bool) (b : Bounds) (rs leaf : List Record) (used : List ℕ)
@@ -221,7 +221,7 @@ module _ (k : Key) (told mid now_told : Option (List (List ℕ))) (free now : �
 
 module _ (told : Option (List (List ℕ))) (free : ℕ → Bool) (page height : ℕ) (is_root : Bool) (b : Bounds) (rs : List Record) (used : List ℕ) where
   -- the leaf is read, and is not free
-  pub leaf_reads : CanEdit told free page height is_root b rs used → Spells told page height rs
+  pub leaf_reads : CanEdit told free page height is_root b rs used → SpellsSubtree told page height rs
   leaf_reads can =
       record { pages = can.pages; is_told = can.is_told; is_root = is_root; bounds = b; used = used; subtree = can.subtree }
 
@@ -229,7 +229,7 @@ module _ (told : Option (List (List ℕ))) (free : ℕ → Bool) (page height : 
   leaf_taken one can =
       let can1 = subst (λ h. CanEdit told free page h is_root b rs used) one can in
       let s : Subtree can1.pages 1 is_root (page, b) rs used = can1.subtree in
-      used_not_free free used page can1.apart (subst (λ l. 1 ≤ times page l) (sym s.is_used) (some page))
+      used_not_free free used page can1.apart (subst (λ l. 1 ≤ multiplicity page l) (sym s.is_used) (some page))
     where
-      some : (page : ℕ) → 1 ≤ times page (page ∷ [])
+      some : (page : ℕ) → 1 ≤ multiplicity page (page ∷ [])
       some page = let e = times_here page [] in omega arith

@@ -11,10 +11,10 @@ use Rattle.quilt_types.specs.declared.stop.Stop.{Stop}
 use Rattle.quilt_btree.specs.declared.outcomes.Removed.{Removed}
 use Rattle.quilt_btree.specs.declared.outcomes.Removed.TheVariants as removed
 use Rattle.quilt_record.specs.Lists.{has_key, without}
-use Rattle.quilt_store.specs.Stops.{IsSound}
+use Rattle.quilt_store.specs.Stops.{IsNotDamage}
 use Rattle.quilt_btree.specs.Subtree.{Row, Subtree}
 use Rattle.quilt_btree.specs.Trees.{ReadsInner}
-use Rattle.quilt_btree.specs.Edits.{times, Moves, Becomes, IsNearlyFull, CanEdit, HasLeft, DidLeave, DidRemove}
+use Rattle.quilt_btree.specs.Edits.{multiplicity, KeepsAccount, Becomes, IsNearlyFull, CanEdit, HasLeft, DidLeave, DidRemove}
 use Rattle.quilt_btree.specs.Rebalancing.{Partly, HasUnderfull}
 use Rattle.quilt_btree.proofs.lists.Counts.{times-append, times-three, self_test}
 use Rattle.quilt_btree.proofs.stores.Moves.{AreApart, apart_some, apart_then, moves_then}
@@ -60,8 +60,8 @@ one_less : (height below : ℕ) → height ≡ suc (suc below) → height - 1 �
 one_less height below e = omega arith
 
 total : (p : ℕ) {used under : List ℕ} (l h f : List ℕ) (page : ℕ) → used ≡ under ++ page ∷ [] → under ≡ (l ++ h) ++ f
-    → times p used ≡ times p l + times p h + times p f + times p (page ∷ [])
-total p {under = under} l h f page e g = ap (times p) e ∙ times-append p under (page ∷ []) ∙ ap (λ n. n + times p (page ∷ [])) (ap (times p) g ∙ times-three p l h f)
+    → multiplicity p used ≡ multiplicity p l + multiplicity p h + multiplicity p f + multiplicity p (page ∷ [])
+total p {under = under} l h f page e g = ap (multiplicity p) e ∙ times-append p under (page ∷ []) ∙ ap (λ n. n + multiplicity p (page ∷ [])) (ap (multiplicity p) g ∙ times-three p l h f)
 
 module _ (told : Option (List (List ℕ))) (free : ℕ → Bool) (page height : ℕ) where
   pub at_inner : (inner : Inner) (i : ℕ) (k : Key) (is_root : Bool) (b : Bounds) (rs : List Record) (used : List ℕ) → 1 ≤ height → height ≢ 1
@@ -130,8 +130,8 @@ module _ (told mid : Option (List (List ℕ))) (free was : ℕ → Bool) (page h
             (sym (one_less height a.below a.is_height))
             (subst (λ n. Subtree a.pages (suc a.below) false (n, child_bounds inner b i) at.here at.here_used) (sym c) s);
         apart =
-            apart_some was at.here_used used (λ p. inside (times p used) (times p at.last_used) (times p at.here_used) (times p at.first_used)
-            (times p (page ∷ [])) (total p at.last_used at.here_used at.first_used page a.is_used at.is_used))
+            apart_some was at.here_used used (λ p. inside (multiplicity p used) (multiplicity p at.last_used) (multiplicity p at.here_used) (multiplicity p at.first_used)
+            (multiplicity p (page ∷ [])) (total p at.last_used at.here_used at.first_used page a.is_used at.is_used))
             (subst (λ g. AreApart g used) (sym f) a.apart);
       }
     where
@@ -139,8 +139,8 @@ module _ (told mid : Option (List (List ℕ))) (free was : ℕ → Bool) (page h
       inside u l h f p e = omega arith
 
   pub sound_child : (e : Stop) → ChildEdited k told mid free was page height child i inner
-      → ((is_root : Bool) (b : Bounds) (rs : List Record) (used : List ℕ) → CanEdit mid was child (height - 1) is_root b rs used → IsSound e)
-      → (is_root : Bool) (b : Bounds) (rs : List Record) (used : List ℕ) → CanEdit told free page height is_root b rs used → IsSound e
+      → ((is_root : Bool) (b : Bounds) (rs : List Record) (used : List ℕ) → CanEdit mid was child (height - 1) is_root b rs used → IsNotDamage e)
+      → (is_root : Bool) (b : Bounds) (rs : List Record) (used : List ℕ) → CanEdit told free page height is_root b rs used → IsNotDamage e
   sound_child e c f is_root b rs used can =
       let a = at_inner told free page height inner i k is_root b rs used c.some c.above c.reads c.place can in
       f false (child_bounds inner b i) a.down.at.here a.down.at.here_used
@@ -154,7 +154,7 @@ pub record ChildLeft (k : Key) (between : Option (List (List ℕ))) (free then :
   pub is : between ≡ Some news
   pub uses : List ℕ
   pub subtree : Subtree news (suc a.below) r (slice_index inner.children i, child_bounds inner b i) (without k a.down.at.here) uses
-  pub moves : Moves a.pages news free then a.down.at.here_used uses
+  pub moves : KeepsAccount a.pages news free then a.down.at.here_used uses
 
 child_left : (k : Key) (told mid between : Option (List (List ℕ))) (free was then : ℕ → Bool) (page height child i : ℕ) (inner : Inner)
     (is_root r : Bool) (b : Bounds) (rs : List Record) (used : List ℕ) → (a : AtInner told free page height inner i k is_root b rs used)
@@ -170,8 +170,8 @@ child_left k told mid between free was then page height child i inner is_root r 
       subtree = subst (λ n. Subtree news (suc a.below) r (n, child_bounds inner b i) (without k a.down.at.here) becomes.uses) c
           (subst (λ n. Subtree news n r (child, child_bounds inner b i) (without k a.down.at.here) becomes.uses)
           (one_less height a.below a.is_height) becomes.subtree);
-      moves = subst (λ h. Moves a.pages news h then a.down.at.here_used becomes.uses) f
-          (subst (λ p. Moves p news was then a.down.at.here_used becomes.uses) same becomes.moves);
+      moves = subst (λ h. KeepsAccount a.pages news h then a.down.at.here_used becomes.uses) f
+          (subst (λ p. KeepsAccount p news was then a.down.at.here_used becomes.uses) same becomes.moves);
     }
   where
     some_same : (x y : List (List ℕ)) → Some x ≡ Some y → x ≡ y
@@ -238,11 +238,11 @@ pub record UnderfullChild (k : Key) (between : Option (List (List ℕ))) (free t
   pub is : between ≡ Some mids
   pub had : list_any (has_key k) rs ≡ true
   pub underfull : HasUnderfull between then page height inner i is_root b (without k rs) more
-  pub moves : Moves pages mids free then used more
+  pub moves : KeepsAccount pages mids free then used more
 
 -- what is left behind two edits
 left_then : {pages mids : List (List ℕ)} (news : List (List ℕ)) {free then : ℕ → Bool} (now : ℕ → Bool) (page height : ℕ) (is_root : Bool)
-    (b : Bounds) {used more : List ℕ} (all : List Record) (o : Removed) → height ≢ 1 → Moves pages mids free then used more
+    (b : Bounds) {used more : List ℕ} (all : List Record) (o : Removed) → height ≢ 1 → KeepsAccount pages mids free then used more
     → HasLeft mids news then now page height is_root b more all o → HasLeft pages news free now page height is_root b used all o
 left_then news now page height is_root b all removed.Missing ne m l = l
 left_then news now page height is_root b all removed.Done ne m l = becomes_then
@@ -265,7 +265,7 @@ left_then news now page height is_root b all (removed.Only child) ne m l =
 
 did_leave : (told : Option (List (List ℕ))) {between now_told : Option (List (List ℕ))} {free then now : ℕ → Bool} {page height : ℕ} {is_root : Bool}
     {b : Bounds} {used more : List ℕ} {all : List Record} {o : Removed} {pages mids : List (List ℕ)} → height ≢ 1 → told ≡ Some pages
-    → between ≡ Some mids → Moves pages mids free then used more → DidLeave between now_told then now page height is_root b more all o
+    → between ≡ Some mids → KeepsAccount pages mids free then used more → DidLeave between now_told then now page height is_root b more all o
     → DidLeave told now_told free now page height is_root b used all o
 did_leave told {then = then} {now = now} {page = page} {height = height} {is_root = is_root} {b = b} {more = more} {all = all} {o = o} {pages = pages} {mids = mids} ne e g m d =
     let same : d.pages ≡ mids = some_same d.pages mids (sym d.was ∙ g) in
@@ -321,7 +321,7 @@ module _ (k : Key) (told mid between : Option (List (List ℕ))) (free was then 
       let row = subst (λ x. Row T x (at.first ++ (without k at.here ++ at.last)) changed.uses) (sym (places_cut inner b i a.in_range a.list.keys))
       changed.row in
       let same : a.pages ≡ can.pages = some_same a.pages can.pages (sym a.is_told ∙ can.is_told) in
-      let moves = subst (λ u. Moves a.pages l.news free then u (changed.uses ++ page ∷ [])) (sym a.is_used) changed.moves in
+      let moves = subst (λ u. KeepsAccount a.pages l.news free then u (changed.uses ++ page ∷ [])) (sym a.is_used) changed.moves in
       record {
         more = changed.uses ++ page ∷ [];
         mids = l.news;
@@ -343,7 +343,7 @@ module _ (k : Key) (told mid between : Option (List (List ℕ))) (free was then 
           is_used = refl;
           apart = apart_then a.pages l.news free then used (changed.uses ++ page ∷ []) moves a.apart;
         };
-        moves = subst (λ p. Moves p l.news free then used (changed.uses ++ page ∷ [])) same moves;
+        moves = subst (λ p. KeepsAccount p l.news free then used (changed.uses ++ page ∷ [])) same moves;
       }
     where
       some_same : (x y : List (List ℕ)) → Some x ≡ Some y → x ≡ y
@@ -366,8 +366,8 @@ module _ (k : Key) (told mid between : Option (List (List ℕ))) (free was then 
 
   pub rebalanced_sound : (r : Result Removed Stop) → ChildEdited k told mid free was page height child i inner
       → Removes k mid between was then child (height - 1) removed.Underfull
-      → IfErr r (λ e. (is_root : Bool) (b : Bounds) (rs : List Record) (used : List ℕ) → HasUnderfull between then page height inner i is_root b rs used → IsSound e)
-      → IfErr r (λ e. (is_root : Bool) (b : Bounds) (rs : List Record) (used : List ℕ) → CanEdit told free page height is_root b rs used → IsSound e)
+      → IfErr r (λ e. (is_root : Bool) (b : Bounds) (rs : List Record) (used : List ℕ) → HasUnderfull between then page height inner i is_root b rs used → IsNotDamage e)
+      → IfErr r (λ e. (is_root : Bool) (b : Bounds) (rs : List Record) (used : List ℕ) → CanEdit told free page height is_root b rs used → IsNotDamage e)
   rebalanced_sound (Ok v) c f l = l
   rebalanced_sound (Err e) c f l = λ is_root b rs used can.
       let s = underfull_child c f is_root b rs used can in
@@ -376,7 +376,7 @@ module _ (k : Key) (told mid between : Option (List (List ℕ))) (free was then 
   -- no child is emptied, or has one child alone
   pub emptied_child : (e : Stop) → ChildEdited k told mid free was page height child i inner
       → Removes k mid between was then child (height - 1) removed.Emptied → (is_root : Bool) (b : Bounds) (rs : List Record) (used : List ℕ)
-      → CanEdit told free page height is_root b rs used → IsSound e
+      → CanEdit told free page height is_root b rs used → IsNotDamage e
   emptied_child e c f is_root b rs used can =
       let a = at_inner told free page height inner i k is_root b rs used c.some c.above c.reads c.place can in
       let did = f false (child_bounds inner b i) a.down.at.here a.down.at.here_used
@@ -389,7 +389,7 @@ module _ (k : Key) (told mid between : Option (List (List ℕ))) (free was then 
 pub only_child : (only : ℕ) (e : Stop) {k : Key} {told mid between : Option (List (List ℕ))} {free was then : ℕ → Bool} {page height child : ℕ}
     (i : ℕ) (inner : Inner) → ChildEdited k told mid free was page height child i inner → Removes k mid between was then child (height - 1)
     (removed.Only only) → {is_root : Bool} {b : Bounds} {rs : List Record} {used : List ℕ} → CanEdit told free page height is_root b rs used
-    → IsSound e
+    → IsNotDamage e
 only_child only e {k = k} {told = told} {mid = mid} {free = free} {was = was} {page = page} {height = height} {child = child} i inner c f {is_root = is_root} {b = b} {rs = rs} {used = used} can =
     let a = at_inner told free page height inner i k is_root b rs used c.some c.above c.reads c.place can in
     let did = f false (child_bounds inner b i) a.down.at.here a.down.at.here_used
@@ -401,7 +401,7 @@ only_child only e {k = k} {told = told} {mid = mid} {free = free} {was = was} {p
 
 -- at height 1
 pub leaf_sound : (r : Result Removed Stop) (told : Option (List (List ℕ))) (free : ℕ → Bool) (page height : ℕ) → height ≡ 1
-    → IfErr r (λ e. (h : ℕ) (is_root : Bool) (b : Bounds) (rs : List Record) (used : List ℕ) → h ≡ 1 → CanEdit told free page h is_root b rs used → IsSound e)
-    → IfErr r (λ e. (is_root : Bool) (b : Bounds) (rs : List Record) (used : List ℕ) → CanEdit told free page height is_root b rs used → IsSound e)
+    → IfErr r (λ e. (h : ℕ) (is_root : Bool) (b : Bounds) (rs : List Record) (used : List ℕ) → h ≡ 1 → CanEdit told free page h is_root b rs used → IsNotDamage e)
+    → IfErr r (λ e. (is_root : Bool) (b : Bounds) (rs : List Record) (used : List ℕ) → CanEdit told free page height is_root b rs used → IsNotDamage e)
 leaf_sound (Ok v) told free page height one f = f
 leaf_sound (Err e) told free page height one f = λ is_root b rs used can. f height is_root b rs used one can

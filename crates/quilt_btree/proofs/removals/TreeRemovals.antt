@@ -12,10 +12,10 @@ use Rattle.quilt_btree.specs.declared.tree.Tree.{Tree}
 use Rattle.quilt_btree.specs.declared.outcomes.Removed.{Removed}
 use Rattle.quilt_btree.specs.declared.outcomes.Removed.TheVariants as removed
 use Rattle.quilt_record.specs.Lists.{has_key, without}
-use Rattle.quilt_store.specs.Stops.{IsSound}
+use Rattle.quilt_store.specs.Stops.{IsNotDamage}
 use Rattle.quilt_btree.specs.Subtree.{Subtree}
 use Rattle.quilt_btree.specs.Trees.{IsRooted}
-use Rattle.quilt_btree.specs.Edits.{times, account, Becomes, OnlyChild, CanEdit, DidRemove, IsWhole}
+use Rattle.quilt_btree.specs.Edits.{multiplicity, account, Becomes, OnlyChild, CanEdit, DidRemove, IsWhole}
 use Rattle.quilt_btree.specs.Rebalancing.{HasGiven}
 use Rattle.quilt_btree.proofs.lists.Counts.{times-append, times_here, in_times}
 use Rattle.quilt_btree.proofs.stores.Moves.{AreApart, moves_then, moves_given, moves_order, apart_then, used_not_free}
@@ -146,16 +146,16 @@ unfolding walk_of
 empty_walk pages = refl
 
 -- the root had one child left
-pub last_used : (p : ℕ) (uses : List ℕ) → times p (uses ++ p ∷ []) ≡ suc (times p uses)
+pub last_used : (p : ℕ) (uses : List ℕ) → multiplicity p (uses ++ p ∷ []) ≡ suc (multiplicity p uses)
 last_used p uses = let e = times-append p uses (p ∷ []) in let f = times_here p [] in omega arith
 
 no_subtree : (pages : List (List ℕ)) (height : ℕ) (r : Bool) (at : ℕ × Bounds) (rs : List Record) (used : List ℕ) → height ≡ 0
     → Subtree pages height r at rs used → ⊥
 no_subtree pages height r at rs used e s = subst (λ h. Subtree pages h r at rs used) e s
 
-given_same : (pages news : List (List ℕ)) (page : ℕ) (uses : List ℕ) → HasGiven page pages news → times page uses ≡ 0 → SameOn pages news uses
+given_same : (pages news : List (List ℕ)) (page : ℕ) (uses : List ℕ) → HasGiven page pages news → multiplicity page uses ≡ 0 → SameOn pages news uses
 given_same pages news page uses given none p inside =
-    given.others p (λ e. never (times page uses) (subst (λ q. 1 ≤ times q uses) e (in_times p uses inside)) none)
+    given.others p (λ e. never (multiplicity page uses) (subst (λ q. 1 ≤ multiplicity q uses) e (in_times p uses inside)) none)
   where
     never : (n : ℕ) → 1 ≤ n → n ≡ 0 → ⊥
     never n h g = omega arith
@@ -177,8 +177,8 @@ regrown_only told {mid = mid} now_told {pages = pages} {mids = mids} {free = fre
     let on = tells_on (HasGiven t.root) mid now_told mids mid_is tells in
     let apart = apart_then pages mids free between used (only.uses ++ t.root ∷ []) only.moves apart_used in
     let is_used = used_not_free between (only.uses ++ t.root ∷ []) t.root apart
-    (some (times t.root (only.uses ++ t.root ∷ [])) (times t.root only.uses) (last_used t.root only.uses)) in
-    let none : times t.root only.uses ≡ 0 = nothing between (only.uses ++ t.root ∷ []) (times t.root only.uses) (last_used t.root only.uses) (apart t.root) in
+    (some (multiplicity t.root (only.uses ++ t.root ∷ [])) (multiplicity t.root only.uses) (last_used t.root only.uses)) in
+    let none : multiplicity t.root only.uses ≡ 0 = nothing between (only.uses ++ t.root ∷ []) (multiplicity t.root only.uses) (last_used t.root only.uses) (apart t.root) in
     let given = moves_order mids on.0 between now (t.root ∷ only.uses) only.uses (only.uses ++ t.root ∷ []) only.uses (λ p. turned p only.uses)
     (λ p. refl)
     (moves_given mids on.0 between now only.uses t.root on.2.size on.2.others is_used frees) in
@@ -198,10 +198,10 @@ regrown_only told {mid = mid} now_told {pages = pages} {mids = mids} {free = fre
     some : (n m : ℕ) → n ≡ suc m → 1 ≤ n
     some n m e = omega arith
 
-    nothing : (g : ℕ → Bool) (used : List ℕ) (n : ℕ) → times t.root used ≡ suc n → account g used t.root ≤ 1 → n ≡ 0
+    nothing : (g : ℕ → Bool) (used : List ℕ) (n : ℕ) → multiplicity t.root used ≡ suc n → account g used t.root ≤ 1 → n ≡ 0
     nothing g used n e h = omega arith
 
-    turned : (p : ℕ) (uses : List ℕ) → times p (uses ++ t.root ∷ []) ≡ times p (t.root ∷ uses)
+    turned : (p : ℕ) (uses : List ℕ) → multiplicity p (uses ++ t.root ∷ []) ≡ multiplicity p (t.root ∷ uses)
     turned p uses = let e = times-append p uses (t.root ∷ []) in let d = times-append p (t.root ∷ []) uses in omega arith
 
     down : (h below : ℕ) → h ≡ suc below → below ≡ h - 1
@@ -262,8 +262,8 @@ module _ (k : Key) (told : Option (List (List ℕ))) (free : ℕ → Bool) (size
 
 module _ (told : Option (List (List ℕ))) (free : ℕ → Bool) (size : ℕ) (t : Tree) where
   pub sound_root : (e : Stop) (rs : List Record) → IsRemoving free size t
-      → ((is_root : Bool) (b : Bounds) (rs : List Record) (used : List ℕ) → CanEdit told free t.root t.height is_root b rs used → IsSound e)
-      → IsWhole told free size t rs → IsSound e
+      → ((is_root : Bool) (b : Bounds) (rs : List Record) (used : List ℕ) → CanEdit told free t.root t.height is_root b rs used → IsNotDamage e)
+      → IsWhole told free size t rs → IsNotDamage e
   sound_root e rs i f w = let a = at_root told free size t rs i w in f true everywhere rs a.used a.can
 
   pub one_only : (k : Key) (now_told : Option (List (List ℕ))) (now : ℕ → Bool) (child : ℕ) (rs : List Record) → IsRemoving free size t
@@ -275,7 +275,7 @@ module _ (told : Option (List (List ℕ))) (free : ℕ → Bool) (size : ℕ) (t
       let only = did.1.left.1 in
       let apart = apart_then did.1.pages did.1.news free now a.used (only.uses ++ t.root ∷ []) only.moves a.can.apart in (
         used_not_free now (only.uses ++ t.root ∷ []) t.root apart
-            (some (times t.root (only.uses ++ t.root ∷ [])) (times t.root only.uses) (last_used t.root only.uses)),
+            (some (multiplicity t.root (only.uses ++ t.root ∷ [])) (multiplicity t.root only.uses) (last_used t.root only.uses)),
         two_left did.1.news only.below false (child, everywhere) (without k rs) only.uses t.records only.subtree (a.exact k did.0),
         λ e. no_subtree did.1.news only.below false (child, everywhere) (without k rs) only.uses (down t.height only.below only.is_height e)
             only.subtree,
@@ -287,7 +287,7 @@ module _ (told : Option (List (List ℕ))) (free : ℕ → Bool) (size : ℕ) (t
       down : (h below : ℕ) → h ≡ suc below → h - 1 ≡ 0 → below ≡ 0
       down h below e f = omega arith
 
-  pub shrunk_sound : (r : Result Bool Stop) (A B : Type 0) → IfErr r (λ e. A → B → IsSound e)
-      → ((rs : List Record) → IsWhole told free size t rs → A × B) → IfErr r (λ e. (rs : List Record) → IsWhole told free size t rs → IsSound e)
+  pub shrunk_sound : (r : Result Bool Stop) (A B : Type 0) → IfErr r (λ e. A → B → IsNotDamage e)
+      → ((rs : List Record) → IsWhole told free size t rs → A × B) → IfErr r (λ e. (rs : List Record) → IsWhole told free size t rs → IsNotDamage e)
   shrunk_sound (Ok o) A B s f = s
   shrunk_sound (Err e) A B s f = λ rs w. let d = f rs w in s d.0 d.1

@@ -11,7 +11,7 @@ use Rattle.quilt_record.specs.Records.{key_cmp}
 use Rattle.quilt_node.specs.Pages.{Inner, inner_of, is_ascending}
 use Rattle.quilt_node.specs.Tree.{Bounds, bounded, is_above, is_below, are_within}
 use Rattle.quilt_btree.specs.Subtree.{Row, Subtree}
-use Rattle.quilt_btree.specs.Edits.{times, IsNearlyFull}
+use Rattle.quilt_btree.specs.Edits.{multiplicity, IsNearlyFull}
 use Rattle.quilt_btree.specs.Rebalancing.{IsNear, CanRebalance, Partly, HasUnderfull}
 use Rattle.quilt_btree.proofs.lists.Counts.{times-append, times-three, times_here, equal_pages}
 use Rattle.quilt_btree.proofs.stores.Moves.{AreApart, apart_some}
@@ -80,38 +80,38 @@ module _ (pages : List (List ℕ)) (height underfull : ℕ) where
 
 -- a subtree uses its own page
 pub page_used : (pages : List (List ℕ)) (height : ℕ) (r : Bool) (at : ℕ × Bounds) (rs : List Record) (used : List ℕ)
-    → Subtree pages height r at rs used → 1 ≤ times at.0 used
+    → Subtree pages height r at rs used → 1 ≤ multiplicity at.0 used
 page_used pages zero r at rs used s = absurd s
-page_used pages (suc zero) r at rs used s = subst (λ u. 1 ≤ times at.0 u) (sym s.is_used) (one at.0)
+page_used pages (suc zero) r at rs used s = subst (λ u. 1 ≤ multiplicity at.0 u) (sym s.is_used) (one at.0)
   where
-    one : (p : ℕ) → 1 ≤ times p (p ∷ [])
+    one : (p : ℕ) → 1 ≤ multiplicity p (p ∷ [])
     one p = let e = times_here p [] in omega arith
-page_used pages (suc (suc h)) r at rs used s = subst (λ u. 1 ≤ times at.0 u) (sym s.is_used) (last at.0 s.under)
+page_used pages (suc (suc h)) r at rs used s = subst (λ u. 1 ≤ multiplicity at.0 u) (sym s.is_used) (last at.0 s.under)
   where
-    last : (p : ℕ) (under : List ℕ) → 1 ≤ times p (under ++ p ∷ [])
+    last : (p : ℕ) (under : List ℕ) → 1 ≤ multiplicity p (under ++ p ∷ [])
     last p under = let e = times_here p [] in let f = times-append p under (p ∷ []) in omega arith
 
 module _ (pages : List (List ℕ)) (height underfull : ℕ) where
-  whole_case : (at : ℕ × Bounds) (rs : List Record) (used : List ℕ) (r : Bool) → (at.0 == underfull) ≡ r → times underfull used ≡ 0
+  whole_case : (at : ℕ × Bounds) (rs : List Record) (used : List ℕ) (r : Bool) → (at.0 == underfull) ≡ r → multiplicity underfull used ≡ 0
       → Subtree pages height r at rs used → Subtree pages height false at rs used
   whole_case at rs used true e none s =
       let some = page_used pages height true at rs used s in
-      absurd (never (times at.0 used) some (ap (λ p. times p used) (equal_pages at.0 underfull e) ∙ none))
+      absurd (never (multiplicity at.0 used) some (ap (λ p. multiplicity p used) (equal_pages at.0 underfull e) ∙ none))
     where
       never : (n : ℕ) → 1 ≤ n → n ≡ 0 → ⊥
       never n h e = omega arith
   whole_case at rs used false e none s = s
 
   -- where the underfull page is not used, all is whole
-  pub whole_row : (cs : List (ℕ × Bounds)) (rs : List Record) (used : List ℕ) → times underfull used ≡ 0
+  pub whole_row : (cs : List (ℕ × Bounds)) (rs : List Record) (used : List ℕ) → multiplicity underfull used ≡ 0
       → Row (Partly pages height underfull) cs rs used → Row (Subtree pages height false) cs rs used
   whole_row [] rs used none row = row
   whole_row (c ∷ cs) rs used none row =
-      let total = ap (times underfull) row.is_used ∙ times-append underfull row.rest_used row.first_used in
-      let none_first : times underfull row.first_used ≡ 0 =
-      zero_first (times underfull used) (times underfull row.rest_used) (times underfull row.first_used) total none in
-      let none_rest : times underfull row.rest_used ≡ 0 =
-      zero_rest (times underfull used) (times underfull row.rest_used) (times underfull row.first_used) total none in
+      let total = ap (multiplicity underfull) row.is_used ∙ times-append underfull row.rest_used row.first_used in
+      let none_first : multiplicity underfull row.first_used ≡ 0 =
+      zero_first (multiplicity underfull used) (multiplicity underfull row.rest_used) (multiplicity underfull row.first_used) total none in
+      let none_rest : multiplicity underfull row.rest_used ≡ 0 =
+      zero_rest (multiplicity underfull used) (multiplicity underfull row.rest_used) (multiplicity underfull row.first_used) total none in
       record {
         first = row.first;
         rest = row.rest;
@@ -176,14 +176,14 @@ pub record Neighbours (told : Option (List (List ℕ))) (free : ℕ → Bool) (p
 
 module _ (left right : ℕ) where
   -- one of the two is the underfull one
-  one_underfull : (underfull : ℕ) (l r hu : List ℕ) → (underfull ≡ left) ⊎ (underfull ≡ right) → hu ≡ r ++ l → 1 ≤ times left l → 1 ≤ times right r
-      → 1 ≤ times underfull hu
+  one_underfull : (underfull : ℕ) (l r hu : List ℕ) → (underfull ≡ left) ⊎ (underfull ≡ right) → hu ≡ r ++ l → 1 ≤ multiplicity left l → 1 ≤ multiplicity right r
+      → 1 ≤ multiplicity underfull hu
   one_underfull underfull l r hu (inl e) is p q =
-      let t : times left hu ≡ times left r + times left l = ap (times left) is ∙ times-append left r l in
-      subst (λ n. 1 ≤ times n hu) (sym e) (omega arith)
+      let t : multiplicity left hu ≡ multiplicity left r + multiplicity left l = ap (multiplicity left) is ∙ times-append left r l in
+      subst (λ n. 1 ≤ multiplicity n hu) (sym e) (omega arith)
   one_underfull underfull l r hu (inr e) is p q =
-      let t : times right hu ≡ times right r + times right l = ap (times right) is ∙ times-append right r l in
-      subst (λ n. 1 ≤ times n hu) (sym e) (omega arith)
+      let t : multiplicity right hu ≡ multiplicity right r + multiplicity right l = ap (multiplicity right) is ∙ times-append right r l in
+      subst (λ n. 1 ≤ multiplicity n hu) (sym e) (omega arith)
 
   pub which_underfull : (cs : List ℕ) (i j next : ℕ) → (j ≡ i) ⊎ (j + 1 ≡ i) → next ≡ suc j → left ≡ slice_index cs j → right ≡ slice_index cs next
       → (slice_index cs i ≡ left) ⊎ (slice_index cs i ≡ right)
@@ -210,9 +210,9 @@ neighbours {free = free} {page = page} {inner = inner} {i = i} {b = b} {rs = rs}
     (subst (λ x. Row P (bounded inner.children x b) rs s.under) cut.keys s.children)) in
     let at = at_place P (front cut.ca cut.ka b) (low ∷ high ∷ []) (rear cut.cb cut.kb b.high) rs s.under row in
     let two = two_rows P low high at.here at.here_used at.row_here in
-    let total : (p : ℕ) → times p used ≡ times p at.last_used + times p at.here_used + times p at.first_used + times p (page ∷ []) =
-    λ p. ap (times p) s.is_used ∙ times-append p s.under (page ∷ [])
-    ∙ ap (λ n. n + times p (page ∷ [])) (ap (times p) at.is_used ∙ times-three p at.last_used at.here_used at.first_used) in
+    let total : (p : ℕ) → multiplicity p used ≡ multiplicity p at.last_used + multiplicity p at.here_used + multiplicity p at.first_used + multiplicity p (page ∷ []) =
+    λ p. ap (multiplicity p) s.is_used ∙ times-append p s.under (page ∷ [])
+    ∙ ap (λ n. n + multiplicity p (page ∷ [])) (ap (multiplicity p) at.is_used ∙ times-three p at.last_used at.here_used at.first_used) in
     let some =
     one_underfull left right underfull two.first_used two.rest_used at.here_used (which_underfull left right inner.children i j next one nx l r)
     two.is_used
@@ -236,11 +236,11 @@ neighbours {free = free} {page = page} {inner = inner} {i = i} {b = b} {rs = rs}
       last_used = at.last_used;
       under = s.under;
       row_before = whole_row s.pages (suc s.below) underfull (front cut.ca cut.ka b) at.first at.first_used
-          (none_first (times underfull used) (times underfull at.last_used) (times underfull at.here_used) (times underfull at.first_used)
-          (times underfull (page ∷ [])) (total underfull) some bound) at.row_before;
+          (none_first (multiplicity underfull used) (multiplicity underfull at.last_used) (multiplicity underfull at.here_used) (multiplicity underfull at.first_used)
+          (multiplicity underfull (page ∷ [])) (total underfull) some bound) at.row_before;
       row_behind = whole_row s.pages (suc s.below) underfull (rear cut.cb cut.kb b.high) at.last at.last_used
-          (none_last (times underfull used) (times underfull at.last_used) (times underfull at.here_used) (times underfull at.first_used)
-          (times underfull (page ∷ [])) (total underfull) some bound) at.row_behind;
+          (none_last (multiplicity underfull used) (multiplicity underfull at.last_used) (multiplicity underfull at.here_used) (multiplicity underfull at.first_used)
+          (multiplicity underfull (page ∷ [])) (total underfull) some bound) at.row_behind;
       can = record {
         pages = s.pages;
         is_told = s.is_told;
@@ -255,7 +255,7 @@ neighbours {free = free} {page = page} {inner = inner} {i = i} {b = b} {rs = rs}
         low = gap_low cut.ka key cut.kb b ascends within;
         high = gap_high cut.ka key cut.kb b ascends within;
         apart = apart_some free at.here_used used
-            (λ p. inside (times p used) (times p at.last_used) (times p at.here_used) (times p at.first_used) (times p (page ∷ [])) (total p)) s.apart;
+            (λ p. inside (multiplicity p used) (multiplicity p at.last_used) (multiplicity p at.here_used) (multiplicity p at.first_used) (multiplicity p (page ∷ [])) (total p)) s.apart;
       };
       records = at.records;
       is_under = at.is_used;
@@ -263,7 +263,7 @@ neighbours {free = free} {page = page} {inner = inner} {i = i} {b = b} {rs = rs}
       apart = s.apart;
     }
   where
-    least : (free : ℕ → Bool) (used : List ℕ) (p : ℕ) → AreApart free used → times p used ≤ 1
+    least : (free : ℕ → Bool) (used : List ℕ) (p : ℕ) → AreApart free used → multiplicity p used ≤ 1
     least free used p apart = let h = apart p in omega arith
 
     none_first : (u l h f p : ℕ) → u ≡ l + h + f + p → 1 ≤ h → u ≤ 1 → f ≡ 0

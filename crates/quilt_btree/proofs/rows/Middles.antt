@@ -8,7 +8,7 @@ use Rattle.quilt_record.specs.declared.key.Key.{Key}
 use Rattle.quilt_record.specs.declared.record.Record.{Record}
 use Rattle.quilt_node.specs.Tree.{Bounds, bounded}
 use Rattle.quilt_btree.specs.Subtree.{Reading, InTurn, Row, Subtree}
-use Rattle.quilt_btree.specs.Edits.{times, Moves}
+use Rattle.quilt_btree.specs.Edits.{multiplicity, KeepsAccount}
 use Rattle.quilt_btree.proofs.lists.Counts.{times-append, times-three}
 use Rattle.quilt_btree.proofs.stores.Moves.{AreApart, moves_among, stays_on}
 use Rattle.quilt_btree.proofs.lists.Rows.{is_in, SameOn, row_stays, subtree_stays}
@@ -155,7 +155,7 @@ pub record RowChanged (T : Reading) (pages news : List (List ℕ)) (free now : �
     (under : List ℕ) : Type 0 where
   pub uses : List ℕ
   pub row : Row T cs rs uses
-  pub moves : Moves pages news free now (under ++ page ∷ []) (uses ++ page ∷ [])
+  pub moves : KeepsAccount pages news free now (under ++ page ∷ []) (uses ++ page ∷ [])
   pub page_stays : slice_index_or news page [] ≡ slice_index_or pages page []
 
 -- The children before and behind stay, and those in the middle become others by an edit of their pages.
@@ -163,19 +163,19 @@ pub middle_changed : (T : Reading) {pages news : List (List ℕ)} {free now : �
     → ((c : ℕ × Bounds) (ss : List Record) (u : List ℕ) → Subtree news (suc h) false c ss u → T c ss u) → (before others behind : List (ℕ × Bounds))
     (first all last : List Record) (fu : List ℕ) {hu : List ℕ} (lu : List ℕ) {uses under : List ℕ} → AreApart free (under ++ page ∷ [])
     → under ≡ (lu ++ hu) ++ fu → Row (Subtree pages (suc h) false) before first fu → Row (Subtree pages (suc h) false) behind last lu
-    → Row T others all uses → Moves pages news free now hu uses → RowChanged T pages news free now page (before ++ (others ++ behind))
+    → Row T others all uses → KeepsAccount pages news free now hu uses → RowChanged T pages news free now page (before ++ (others ++ behind))
     (first ++ (all ++ last)) under
 middle_changed T {pages = pages} {news = news} {free = free} {now = now} h page embed before others behind first all last fu {hu = hu} lu {uses = uses} {under = under} apart is row_before row_behind row moves =
-    let total : (p : ℕ) → times p (under ++ page ∷ []) ≡ times p lu + times p hu + times p fu + times p (page ∷ []) =
-    λ p. times-append p under (page ∷ []) ∙ ap (λ n. n + times p (page ∷ [])) (ap (times p) is ∙ times-three p lu hu fu) in
-    let total_now : (p : ℕ) → times p (((lu ++ uses) ++ fu) ++ page ∷ []) ≡ times p lu + times p uses + times p fu + times p (page ∷ []) =
-    λ p. times-append p ((lu ++ uses) ++ fu) (page ∷ []) ∙ ap (λ n. n + times p (page ∷ [])) (times-three p lu uses fu) in
-    let stay : (others : List ℕ) → ((p : ℕ) → times p hu + times p others ≤ times p (under ++ page ∷ [])) → SameOn pages news others =
+    let total : (p : ℕ) → multiplicity p (under ++ page ∷ []) ≡ multiplicity p lu + multiplicity p hu + multiplicity p fu + multiplicity p (page ∷ []) =
+    λ p. times-append p under (page ∷ []) ∙ ap (λ n. n + multiplicity p (page ∷ [])) (ap (multiplicity p) is ∙ times-three p lu hu fu) in
+    let total_now : (p : ℕ) → multiplicity p (((lu ++ uses) ++ fu) ++ page ∷ []) ≡ multiplicity p lu + multiplicity p uses + multiplicity p fu + multiplicity p (page ∷ []) =
+    λ p. times-append p ((lu ++ uses) ++ fu) (page ∷ []) ∙ ap (λ n. n + multiplicity p (page ∷ [])) (times-three p lu uses fu) in
+    let stay : (others : List ℕ) → ((p : ℕ) → multiplicity p hu + multiplicity p others ≤ multiplicity p (under ++ page ∷ [])) → SameOn pages news others =
     λ others parts. stays_on pages news free now hu uses others (under ++ page ∷ []) moves apart parts in
-    let same_first = stay fu (λ p. in_first (times p (under ++ page ∷ [])) (times p lu) (times p hu) (times p fu) (times p (page ∷ [])) (total p)) in
-    let same_last = stay lu (λ p. in_last (times p (under ++ page ∷ [])) (times p lu) (times p hu) (times p fu) (times p (page ∷ [])) (total p)) in
+    let same_first = stay fu (λ p. in_first (multiplicity p (under ++ page ∷ [])) (multiplicity p lu) (multiplicity p hu) (multiplicity p fu) (multiplicity p (page ∷ [])) (total p)) in
+    let same_last = stay lu (λ p. in_last (multiplicity p (under ++ page ∷ [])) (multiplicity p lu) (multiplicity p hu) (multiplicity p fu) (multiplicity p (page ∷ [])) (total p)) in
     let same_page = stay (page ∷ [])
-    (λ p. in_page (times p (under ++ page ∷ [])) (times p lu) (times p hu) (times p fu) (times p (page ∷ [])) (total p)) in
+    (λ p. in_page (multiplicity p (under ++ page ∷ [])) (multiplicity p lu) (multiplicity p hu) (multiplicity p fu) (multiplicity p (page ∷ [])) (total p)) in
     let one : (c : ℕ × Bounds) (ss : List Record) (u : List ℕ) → SameOn pages news u → Subtree pages (suc h) false c ss u → T c ss u =
     λ c ss u e t. embed c ss u (subtree_stays pages news moves.size (suc h) false c ss u e t) in
     record {
@@ -185,9 +185,9 @@ middle_changed T {pages = pages} {news = news} {free = free} {now = now} h page 
           (row_stays pages news (Subtree pages (suc h) false) T one behind last lu same_last row_behind);
       moves =
           moves_among pages news free now hu uses (under ++ page ∷ []) (((lu ++ uses) ++ fu) ++ page ∷ [])
-          (λ p. times p lu + times p fu + times p (page ∷ []))
-          (λ p. order (times p (under ++ page ∷ [])) (times p lu) (times p hu) (times p fu) (times p (page ∷ [])) (total p))
-          (λ p. order (times p (((lu ++ uses) ++ fu) ++ page ∷ [])) (times p lu) (times p uses) (times p fu) (times p (page ∷ [])) (total_now p)) moves;
+          (λ p. multiplicity p lu + multiplicity p fu + multiplicity p (page ∷ []))
+          (λ p. order (multiplicity p (under ++ page ∷ [])) (multiplicity p lu) (multiplicity p hu) (multiplicity p fu) (multiplicity p (page ∷ [])) (total p))
+          (λ p. order (multiplicity p (((lu ++ uses) ++ fu) ++ page ∷ [])) (multiplicity p lu) (multiplicity p uses) (multiplicity p fu) (multiplicity p (page ∷ [])) (total_now p)) moves;
       page_stays = same_page page (self page);
     }
   where

@@ -170,4 +170,3 @@ module _ (S : Reading) (one : Rises S) (past before : Key → Bool) (side : IsSi
     where
       more : (m n : ℕ) → m ≡ suc n → m ≡ n + 1
       more m n h = omega arith
-

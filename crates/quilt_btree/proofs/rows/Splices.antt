@@ -6,7 +6,7 @@ use Rattle.quilt_record.specs.declared.record.Record.{Record}
 use Rattle.quilt_node.specs.Pages.{Inner, inner_of}
 use Rattle.quilt_node.specs.Tree.{Bounds, bounded, are_within}
 use Rattle.quilt_btree.specs.Subtree.{Row, Subtree}
-use Rattle.quilt_btree.specs.Edits.{times, account, Moves, Becomes}
+use Rattle.quilt_btree.specs.Edits.{multiplicity, account, KeepsAccount, Becomes}
 use Rattle.quilt_btree.proofs.lists.Counts.{times-append, times-three, times_here, in_times}
 use Rattle.quilt_btree.proofs.stores.Moves.{AreApart, moves_among, moves_then, moves_written, used_account, stays_on}
 use Rattle.quilt_btree.proofs.lists.Rows.{is_in, SameOn, row_stays, subtree_stays}
@@ -30,7 +30,7 @@ bounded_join (c ∷ ca) cb (k ∷ ka) kb key b n =
 pub record RowMoved (pages news : List (List ℕ)) (free now : ℕ → Bool) (h page : ℕ) (cs : List (ℕ × Bounds)) (rs : List Record) (under : List ℕ) : Type 0 where
   pub uses : List ℕ
   pub row : Row (Subtree news (suc h) false) cs rs uses
-  pub moves : Moves pages news free now (under ++ page ∷ []) (uses ++ page ∷ [])
+  pub moves : KeepsAccount pages news free now (under ++ page ∷ []) (uses ++ page ∷ [])
   pub page_stays : slice_index_or news page [] ≡ slice_index_or pages page []
 
 module _ (pages news : List (List ℕ)) where
@@ -45,34 +45,34 @@ module _ (pages news : List (List ℕ)) where
   pub middle_moved : (free now : ℕ → Bool) (h page : ℕ) (before middle behind others : List (ℕ × Bounds)) (rs : List Record) (under : List ℕ)
       (all : List Record) (uses : List ℕ) → AreApart free (under ++ page ∷ [])
       → (at : AtPlace (Subtree pages (suc h) false) before middle behind rs under) → Row (Subtree news (suc h) false) others all uses
-      → Moves pages news free now at.here_used uses → RowMoved pages news free now h page (before ++ (others ++ behind))
+      → KeepsAccount pages news free now at.here_used uses → RowMoved pages news free now h page (before ++ (others ++ behind))
       (at.first ++ (all ++ at.last)) under
   middle_moved free now h page before middle behind others rs under all uses apart at row moves =
-      let total : (p : ℕ) → times p (under ++ page ∷ []) ≡ times p at.last_used + times p at.here_used + times p at.first_used + times p (page ∷ []) =
+      let total : (p : ℕ) → multiplicity p (under ++ page ∷ []) ≡ multiplicity p at.last_used + multiplicity p at.here_used + multiplicity p at.first_used + multiplicity p (page ∷ []) =
       λ p. times-append p under (page ∷ [])
-      ∙ ap (λ n. n + times p (page ∷ [])) (ap (times p) at.is_used ∙ times-three p at.last_used at.here_used at.first_used) in
+      ∙ ap (λ n. n + multiplicity p (page ∷ [])) (ap (multiplicity p) at.is_used ∙ times-three p at.last_used at.here_used at.first_used) in
       let total_now : (p : ℕ)
-      → times p (((at.last_used ++ uses) ++ at.first_used) ++ page ∷ []) ≡ times p at.last_used + times p uses + times p at.first_used + times p (page ∷ []) =
+      → multiplicity p (((at.last_used ++ uses) ++ at.first_used) ++ page ∷ []) ≡ multiplicity p at.last_used + multiplicity p uses + multiplicity p at.first_used + multiplicity p (page ∷ []) =
       λ p. times-append p ((at.last_used ++ uses) ++ at.first_used) (page ∷ [])
-      ∙ ap (λ n. n + times p (page ∷ [])) (times-three p at.last_used uses at.first_used) in
-      let stay : (others : List ℕ) → ((p : ℕ) → times p at.here_used + times p others ≤ times p (under ++ page ∷ [])) → SameOn pages news others =
+      ∙ ap (λ n. n + multiplicity p (page ∷ [])) (times-three p at.last_used uses at.first_used) in
+      let stay : (others : List ℕ) → ((p : ℕ) → multiplicity p at.here_used + multiplicity p others ≤ multiplicity p (under ++ page ∷ [])) → SameOn pages news others =
       λ others parts. stays_on pages news free now at.here_used uses others (under ++ page ∷ []) moves apart parts in
       let same_first = stay at.first_used
-      (λ p. in_first (times p (under ++ page ∷ [])) (times p at.last_used) (times p at.here_used) (times p at.first_used) (times p (page ∷ [])) (total p)) in
+      (λ p. in_first (multiplicity p (under ++ page ∷ [])) (multiplicity p at.last_used) (multiplicity p at.here_used) (multiplicity p at.first_used) (multiplicity p (page ∷ [])) (total p)) in
       let same_last = stay at.last_used
-      (λ p. in_last (times p (under ++ page ∷ [])) (times p at.last_used) (times p at.here_used) (times p at.first_used) (times p (page ∷ [])) (total p)) in
+      (λ p. in_last (multiplicity p (under ++ page ∷ [])) (multiplicity p at.last_used) (multiplicity p at.here_used) (multiplicity p at.first_used) (multiplicity p (page ∷ [])) (total p)) in
       let same_page = stay (page ∷ [])
-      (λ p. in_page (times p (under ++ page ∷ [])) (times p at.last_used) (times p at.here_used) (times p at.first_used) (times p (page ∷ [])) (total p)) in
+      (λ p. in_page (multiplicity p (under ++ page ∷ [])) (multiplicity p at.last_used) (multiplicity p at.here_used) (multiplicity p at.first_used) (multiplicity p (page ∷ [])) (total p)) in
       record {
         uses = (at.last_used ++ uses) ++ at.first_used;
         row = place_back (Subtree news (suc h) false) before others behind at.first all at.last at.first_used uses at.last_used
             (rows_stay h moves.size before at.first at.first_used same_first at.row_before) row
             (rows_stay h moves.size behind at.last at.last_used same_last at.row_behind);
         moves = moves_among pages news free now at.here_used uses (under ++ page ∷ []) (((at.last_used ++ uses) ++ at.first_used) ++ page ∷ [])
-            (λ p. times p at.last_used + times p at.first_used + times p (page ∷ []))
-            (λ p. order (times p (under ++ page ∷ [])) (times p at.last_used) (times p at.here_used) (times p at.first_used) (times p (page ∷ [])) (total p))
-            (λ p. order (times p (((at.last_used ++ uses) ++ at.first_used) ++ page ∷ [])) (times p at.last_used) (times p uses)
-            (times p at.first_used) (times p (page ∷ [])) (total_now p)) moves;
+            (λ p. multiplicity p at.last_used + multiplicity p at.first_used + multiplicity p (page ∷ []))
+            (λ p. order (multiplicity p (under ++ page ∷ [])) (multiplicity p at.last_used) (multiplicity p at.here_used) (multiplicity p at.first_used) (multiplicity p (page ∷ [])) (total p))
+            (λ p. order (multiplicity p (((at.last_used ++ uses) ++ at.first_used) ++ page ∷ [])) (multiplicity p at.last_used) (multiplicity p uses)
+            (multiplicity p at.first_used) (multiplicity p (page ∷ [])) (total_now p)) moves;
         page_stays = same_page page (self page);
       }
     where
@@ -112,27 +112,27 @@ module _ (pages news : List (List ℕ)) where
     moves = moved.moves;
   }
 
-pub page_in : (p : ℕ) (under : List ℕ) → 1 ≤ times p (under ++ p ∷ [])
-page_in p under = some (times p (under ++ p ∷ [])) (times p under) (times p (p ∷ [])) (times-append p under (p ∷ [])) (times_here p [])
+pub page_in : (p : ℕ) (under : List ℕ) → 1 ≤ multiplicity p (under ++ p ∷ [])
+page_in p under = some (multiplicity p (under ++ p ∷ [])) (multiplicity p under) (multiplicity p (p ∷ [])) (times-append p under (p ∷ [])) (times_here p [])
   where
     some : (t u m : ℕ) → t ≡ u + m → m ≡ 1 + 0 → 1 ≤ t
     some t u m e f = omega arith
 
 -- writing a page leaves those that are used apart from it
-pub written_same : (pages : List (List ℕ)) (page : ℕ) (bytes : List ℕ) (used : List ℕ) → times page used ≡ 0
+pub written_same : (pages : List (List ℕ)) (page : ℕ) (bytes : List ℕ) (used : List ℕ) → multiplicity page used ≡ 0
     → SameOn pages (slice_set pages page bytes) used
 written_same pages page bytes used none p inside =
-    get_or-set_other pages page p bytes [] (λ e. nothing (times page used) (subst (λ q. 1 ≤ times q used) e (in_times p used inside)) none)
+    get_or-set_other pages page p bytes [] (λ e. nothing (multiplicity page used) (subst (λ q. 1 ≤ multiplicity q used) e (in_times p used inside)) none)
   where
     nothing : (n : ℕ) → 1 ≤ n → n ≡ 0 → ⊥
     nothing n h g = omega arith
 
-pub apart_above : (free : ℕ → Bool) (under : List ℕ) (page : ℕ) → AreApart free (under ++ page ∷ []) → times page under ≡ 0
+pub apart_above : (free : ℕ → Bool) (under : List ℕ) (page : ℕ) → AreApart free (under ++ page ∷ []) → multiplicity page under ≡ 0
 apart_above free under page apart =
-    none (account free (under ++ page ∷ []) page) (times page (under ++ page ∷ [])) (times page under) (times page (page ∷ []))
+    none (account free (under ++ page ∷ []) page) (multiplicity page (under ++ page ∷ [])) (multiplicity page under) (multiplicity page (page ∷ []))
     (at_most free (under ++ page ∷ [])) (times-append page under (page ∷ [])) (times_here page []) (apart page)
   where
-    at_most : (free : ℕ → Bool) (used : List ℕ) → times page used ≤ account free used page
+    at_most : (free : ℕ → Bool) (used : List ℕ) → multiplicity page used ≤ account free used page
     at_most free used = omega arith
 
     none : (a t u m : ℕ) → t ≤ a → t ≡ u + m → m ≡ 1 + 0 → a ≤ 1 → u ≡ 0
@@ -164,7 +164,7 @@ parent_written pages free h page is_root b inner bytes under all inside is heigh
 
 -- an edit, and then one by which the subtree becomes what it is
 pub becomes_then : {pages mid news : List (List ℕ)} {free between now : ℕ → Bool} {page height : ℕ} {is_root : Bool} {b : Bounds} {used more : List ℕ}
-    {all : List Record} → Moves pages mid free between used more → Becomes mid news between now page height is_root b more all
+    {all : List Record} → KeepsAccount pages mid free between used more → Becomes mid news between now page height is_root b more all
     → Becomes pages news free now page height is_root b used all
 becomes_then m o = record {
   uses = o.uses;

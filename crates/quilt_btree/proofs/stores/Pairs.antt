@@ -2,7 +2,7 @@
 use Rattle.std.proofs.Common.{◌≡◌, ◌≢◌, ℕ, ◌+◌, ◌<◌, ◌≤◌, Bool, true, false, List, [], ◌∷◌, length, slice_index_or, slice_set, sym, ◌∙◌, subst, arith}
 use Rattle.std.proofs.Common.{length-set, get_or-set_other, get_or-set_same}
 use Rattle.quilt_store.specs.Store.{FreesOnly}
-use Rattle.quilt_btree.specs.Edits.{times, account, Moves}
+use Rattle.quilt_btree.specs.Edits.{multiplicity, account, KeepsAccount}
 use Rattle.quilt_btree.specs.Rebalancing.{HasGiven}
 use Rattle.quilt_btree.proofs.lists.Counts.{times_here}
 use Rattle.quilt_btree.proofs.stores.Moves.{AreApart, moves_among, moves_then, moves_written, moves_given, used_account, stays_on, apart_some, used_not_free}
@@ -10,18 +10,18 @@ use Rattle.quilt_btree.proofs.lists.Rows.{SameOn}
 
 -- the used pages are some, and these two
 pub record ArePair (left right : ℕ) (under used : List ℕ) : Type 0 where
-  pub count : (p : ℕ) → times p used ≡ times p under + times p (right ∷ left ∷ [])
+  pub count : (p : ℕ) → multiplicity p used ≡ multiplicity p under + multiplicity p (right ∷ left ∷ [])
 
-pub left_used : (left right : ℕ) → 1 ≤ times left (right ∷ left ∷ [])
+pub left_used : (left right : ℕ) → 1 ≤ multiplicity left (right ∷ left ∷ [])
 left_used left right = let e = times_here left [] in omega arith
 
-pub right_used : (left right : ℕ) → 1 ≤ times right (right ∷ left ∷ [])
+pub right_used : (left right : ℕ) → 1 ≤ multiplicity right (right ∷ left ∷ [])
 right_used left right = let e = times_here right (left ∷ []) in omega arith
 
 pub pair_apart : (free : ℕ → Bool) (left right : ℕ) (under used : List ℕ) → ArePair left right under used → AreApart free used
     → AreApart free (right ∷ left ∷ [])
 pair_apart free left right under used pair apart =
-    apart_some free (right ∷ left ∷ []) used (λ p. less (times p used) (times p under) (times p (right ∷ left ∷ [])) (pair.count p)) apart
+    apart_some free (right ∷ left ∷ []) used (λ p. less (multiplicity p used) (multiplicity p under) (multiplicity p (right ∷ left ∷ [])) (pair.count p)) apart
   where
     less : (u n t : ℕ) → u ≡ n + t → t ≤ u
     less u n t e = omega arith
@@ -43,14 +43,14 @@ right_taken free left right apart = used_not_free free (right ∷ left ∷ []) r
 pub record IsJoined (pages news : List (List ℕ)) (free now : ℕ → Bool) (left right : ℕ) (bytes : List ℕ) : Type 0 where
   pub size : length news ≡ length pages
   pub here : slice_index_or news left [] ≡ bytes
-  pub moves : Moves pages news free now (right ∷ left ∷ []) (left ∷ [])
+  pub moves : KeepsAccount pages news free now (right ∷ left ∷ []) (left ∷ [])
 
 -- what both pages are given
 pub record AreWritten (pages news : List (List ℕ)) (free : ℕ → Bool) (left right : ℕ) (bytes others : List ℕ) : Type 0 where
   pub size : length news ≡ length pages
   pub here : slice_index_or news left [] ≡ bytes
   pub there : slice_index_or news right [] ≡ others
-  pub moves : Moves pages news free free (right ∷ left ∷ []) (right ∷ left ∷ [])
+  pub moves : KeepsAccount pages news free free (right ∷ left ∷ []) (right ∷ left ∷ [])
 
 module _ (pages : List (List ℕ)) (free : ℕ → Bool) (left right : ℕ) (bytes : List ℕ) where
   pub is_joined : (news : List (List ℕ)) (now : ℕ → Bool) → AreApart free (right ∷ left ∷ []) → left < length pages
@@ -80,16 +80,16 @@ module _ (pages : List (List ℕ)) (free : ℕ → Bool) (left right : ℕ) (byt
 module _ (pages news : List (List ℕ)) (free now : ℕ → Bool) (left right : ℕ) where
   -- the pages below the two stay as they are
   pub under_stays : (uses under used : List ℕ) → ArePair left right under used → AreApart free used
-      → Moves pages news free now (right ∷ left ∷ []) uses → SameOn pages news under
+      → KeepsAccount pages news free now (right ∷ left ∷ []) uses → SameOn pages news under
   under_stays uses under used pair apart moves =
       stays_on pages news free now (right ∷ left ∷ []) uses under used moves apart
-      (λ p. parts (times p used) (times p under) (times p (right ∷ left ∷ [])) (pair.count p))
+      (λ p. parts (multiplicity p used) (multiplicity p under) (multiplicity p (right ∷ left ∷ [])) (pair.count p))
     where
       parts : (u n t : ℕ) → u ≡ n + t → t + n ≤ u
       parts u n t e = omega arith
 
   -- and count as before
-  pub pair_moves : (here under used uses : List ℕ) → ArePair left right under used → ((p : ℕ) → times p uses ≡ times p under + times p here)
-      → Moves pages news free now (right ∷ left ∷ []) here → Moves pages news free now used uses
+  pub pair_moves : (here under used uses : List ℕ) → ArePair left right under used → ((p : ℕ) → multiplicity p uses ≡ multiplicity p under + multiplicity p here)
+      → KeepsAccount pages news free now (right ∷ left ∷ []) here → KeepsAccount pages news free now used uses
   pair_moves here under used uses pair also moves =
-      moves_among pages news free now (right ∷ left ∷ []) here used uses (λ p. times p under) pair.count also moves
+      moves_among pages news free now (right ∷ left ∷ []) here used uses (λ p. multiplicity p under) pair.count also moves

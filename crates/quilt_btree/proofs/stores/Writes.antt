@@ -3,7 +3,7 @@ use Rattle.std.proofs.Common.{◌≡◌, ◌≢◌, ℕ, ◌+◌, ◌<◌, ◌�
 use Rattle.std.proofs.Common.{sym, ◌∙◌, subst, arith, length-set, get_or-set_other, get_or-set_same}
 use Rattle.quilt_store.specs.Store.{FreesOnly}
 use Rattle.quilt_world.specs.Tale.{Goes}
-use Rattle.quilt_btree.specs.Edits.{times, Moves}
+use Rattle.quilt_btree.specs.Edits.{multiplicity, KeepsAccount}
 use Rattle.quilt_btree.proofs.lists.Rows.{SameOn}
 use Rattle.quilt_btree.proofs.lists.Counts.{times_here, times_other, in_times}
 use Rattle.quilt_btree.proofs.stores.Moves.{AreApart, moves_then, moves_taken, moves_written, used_account, free_not_used}
@@ -29,20 +29,20 @@ pub record IsBoth (pages news : List (List ℕ)) (free now : ℕ → Bool) (used
   pub is_left : slice_index_or news page [] ≡ left
   pub is_right : slice_index_or news new [] ≡ right
   pub others : (q : ℕ) → q ≢ page → q ≢ new → slice_index_or news q [] ≡ slice_index_or pages q []
-  pub moves : Moves pages news free now used (new ∷ used)
-  pub unused : times new used ≡ 0
+  pub moves : KeepsAccount pages news free now used (new ∷ used)
+  pub unused : multiplicity new used ≡ 0
 
 module _ (pages : List (List ℕ)) (free now : ℕ → Bool) (used : List ℕ) (page new : ℕ) (left right : List ℕ) where
-  pub both_written : AreApart free used → 1 ≤ times page used → page < length pages → new < length pages → free new ≡ true
+  pub both_written : AreApart free used → 1 ≤ multiplicity page used → page < length pages → new < length pages → free new ≡ true
       → FreesOnly new false free now → IsBoth pages (slice_set (slice_set pages page left) new right) free now used page new left right
   both_written apart some inside inside_new t f =
       let one = slice_set pages page left in
       let unused = free_not_used free used new apart t in
-      let ne : page ≢ new = λ e. nothing (times new used) (subst (λ p. 1 ≤ times p used) e some) unused in
+      let ne : page ≢ new = λ e. nothing (multiplicity new used) (subst (λ p. 1 ≤ multiplicity p used) e some) unused in
       let lt : new < length one = subst (λ n. new < n) (sym (length-set pages page left)) inside_new in
       let taken = moves_taken pages free now used new t f in
-      let here : 1 ≤ times page (new ∷ used) = subst (λ n. 1 ≤ n) (sym (times_other page new used ne)) some in
-      let there : 1 ≤ times new (new ∷ used) = first (times new (new ∷ used)) (times new used) (times_here new used) in
+      let here : 1 ≤ multiplicity page (new ∷ used) = subst (λ n. 1 ≤ n) (sym (times_other page new used ne)) some in
+      let there : 1 ≤ multiplicity new (new ∷ used) = first (multiplicity new (new ∷ used)) (multiplicity new used) (times_here new used) in
       record {
         is_left = get_or-set_other one new page right [] ne ∙ get_or-set_same pages page left [] inside;
         is_right = get_or-set_same one new right [] lt;
@@ -61,11 +61,11 @@ module _ (pages : List (List ℕ)) (free now : ℕ → Bool) (used : List ℕ) (
       first m n e = omega arith
 
   -- pages that are neither of the two stay
-  pub both_same : (news : List (List ℕ)) (some : List ℕ) → IsBoth pages news free now used page new left right → times page some ≡ 0
-      → times new some ≡ 0 → SameOn pages news some
+  pub both_same : (news : List (List ℕ)) (some : List ℕ) → IsBoth pages news free now used page new left right → multiplicity page some ≡ 0
+      → multiplicity new some ≡ 0 → SameOn pages news some
   both_same news some both none none_new p inside =
-      both.others p (λ e. nothing (times page some) (subst (λ q. 1 ≤ times q some) e (in_times p some inside)) none)
-      (λ e. nothing (times new some) (subst (λ q. 1 ≤ times q some) e (in_times p some inside)) none_new)
+      both.others p (λ e. nothing (multiplicity page some) (subst (λ q. 1 ≤ multiplicity q some) e (in_times p some inside)) none)
+      (λ e. nothing (multiplicity new some) (subst (λ q. 1 ≤ multiplicity q some) e (in_times p some inside)) none_new)
     where
       nothing : (n : ℕ) → 1 ≤ n → n ≡ 0 → ⊥
       nothing n h g = omega arith

@@ -4,7 +4,7 @@ use Rattle.quilt_record.specs.declared.key.Key.{Key}
 use Rattle.quilt_record.specs.declared.record.Record.{Record}
 use Rattle.quilt_node.specs.Tree.{Bounds}
 use Rattle.quilt_types.specs.declared.stop.Stop.{Stop}
-use Rattle.quilt_store.specs.Stops.{IsSound}
+use Rattle.quilt_store.specs.Stops.{IsNotDamage}
 use Rattle.quilt_btree.specs.Edits.{CanInsert, DidInsert}
 use Rattle.quilt_btree.specs.declared.outcomes.Inserted.{Inserted}
 
@@ -35,9 +35,9 @@ pub sound_along : {T : Type 0} (result : Result T Stop) (told then_told : Option
     (size then_size page height : ℕ) (k : Key)
     → IsSame told then_told free then_free size then_size
     → IfErr result (λ e. (is_root : Bool) (b : Bounds) (rs : List Record) (used : List ℕ)
-    → CanInsert then_told then_free then_size page height is_root b k rs used → IsSound e)
+    → CanInsert then_told then_free then_size page height is_root b k rs used → IsNotDamage e)
     → IfErr result (λ e. (is_root : Bool) (b : Bounds) (rs : List Record) (used : List ℕ)
-    → CanInsert told free size page height is_root b k rs used → IsSound e)
+    → CanInsert told free size page height is_root b k rs used → IsNotDamage e)
 sound_along (Ok x) told then_told free then_free size then_size page height k is f = f
 sound_along (Err e) told then_told free then_free size then_size page height k is f =
     λ is_root b rs used can. f is_root b rs used (can_along told then_told free then_free size then_size page height is_root b rs used k is can)

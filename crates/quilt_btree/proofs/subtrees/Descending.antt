@@ -17,8 +17,8 @@ use Rattle.quilt_node.specs.Tree.{Bounds, bounded, are_within, is_above, is_belo
 use Rattle.quilt_types.specs.declared.stop.Stop.{Stop}
 use Rattle.quilt_btree.specs.Lists.{floor_of}
 use Rattle.quilt_btree.specs.Subtree.{Reading, Row, Subtree}
-use Rattle.quilt_btree.specs.declared.reading.Found.{Found}
-use Rattle.quilt_btree.specs.Trees.{Spells, ReadsLeaf, ReadsInner, LeadsTo, is_past}
+use Rattle.quilt_btree.specs.declared.step.Found.{Found}
+use Rattle.quilt_btree.specs.Trees.{SpellsSubtree, ReadsLeaf, ReadsInner, LeadsToLeaf, is_past}
 use Rattle.quilt_btree.proofs.lists.Rising.{all_append, all_follow, all_map}
 use Rattle.quilt_btree.proofs.subtrees.Trees.{IsInnerList, inner_list, subtree_rises}
 use Rattle.quilt_btree.proofs.rows.Places.{front, from_keys, head_bounds, tail_places, Rises, one_row, high_from}
@@ -26,7 +26,7 @@ use Rattle.quilt_btree.proofs.lists.Lists.{IsAmong, floor_between, last_append}
 use Rattle.quilt_btree.proofs.subtrees.Descents.{child_bounds, AtChild, at_child, leads_down, keys_behind, tail_past, head_nearer, behind_many, place_in}
 
 -- at height 1 the page is a leaf
-pub leaf_spells : (told : Option (List (List ℕ))) (page height : ℕ) (rs leaf : List Record) → height ≡ 1 → Spells told page height rs
+pub leaf_spells : (told : Option (List (List ℕ))) (page height : ℕ) (rs leaf : List Record) → height ≡ 1 → SpellsSubtree told page height rs
     → ReadsLeaf told page leaf → leaf ≡ rs
 leaf_spells told page height rs leaf one s reads =
     let t = subst (λ h. Subtree s.pages h s.is_root (page, s.bounds) rs s.used) one s.subtree in
@@ -35,7 +35,7 @@ leaf_spells told page height rs leaf one s reads =
     cc
 
 -- above it an inner page
-pub record IsAbove (told : Option (List (List ℕ))) (page height : ℕ) (inner : Inner) (rs : List Record) (s : Spells told page height rs) : Type 0 where
+pub record IsAbove (told : Option (List (List ℕ))) (page height : ℕ) (inner : Inner) (rs : List Record) (s : SpellsSubtree told page height rs) : Type 0 where
   pub h : ℕ
   pub is_h : height ≡ suc (suc h)
   pub list : IsInnerList (length s.pages) (slice_index_or s.pages page []) inner
@@ -49,7 +49,7 @@ height_above (suc zero) some ne = absurd (ne refl)
 height_above (suc (suc h)) some ne = (h, refl)
 
 module _ (told : Option (List (List ℕ))) (page height : ℕ) (rs : List Record) (inner : Inner) where
-  pub inner_spells : 1 ≤ height → height ≢ 1 → (s : Spells told page height rs) → ReadsInner told page inner → IsAbove told page height inner rs s
+  pub inner_spells : 1 ≤ height → height ≢ 1 → (s : SpellsSubtree told page height rs) → ReadsInner told page inner → IsAbove told page height inner rs s
   inner_spells some ne s reads =
       let e = height_above height some ne in
       let t = subst (λ n. Subtree s.pages n s.is_root (page, s.bounds) rs s.used) e.1 s.subtree in
@@ -66,8 +66,8 @@ module _ (told : Option (List (List ℕ))) (page height : ℕ) (rs : List Record
       }
 
   -- the child's subtree
-  pub child_spells : (i : ℕ) (s : Spells told page height rs) (up : IsAbove told page height inner rs s)
-      (at : AtChild (Subtree s.pages (suc up.h) false) inner s.bounds i rs up.under) → Spells told (slice_index inner.children i) (height - 1) at.here
+  pub child_spells : (i : ℕ) (s : SpellsSubtree told page height rs) (up : IsAbove told page height inner rs s)
+      (at : AtChild (Subtree s.pages (suc up.h) false) inner s.bounds i rs up.under) → SpellsSubtree told (slice_index inner.children i) (height - 1) at.here
   child_spells i s up at =
       let n : height - 1 ≡ suc up.h = let e = up.is_h in omega arith in
       record {
@@ -86,7 +86,7 @@ pub record LeadsBelow (told : Option (List (List ℕ))) (height : ℕ) (inner : 
   pub here : List Record
   pub last : List Record
   pub among : IsAmong k first here last rs
-  pub spells : Spells told (slice_index inner.children i) (height - 1) here
+  pub spells : SpellsSubtree told (slice_index inner.children i) (height - 1) here
   pub high : Option Key
   pub is_high : spells.bounds.high ≡ high
   pub is_next : high ≡ option_or (slice_get inner.keys i) start
@@ -98,7 +98,7 @@ pub record LeadsBelow (told : Option (List (List ℕ))) (height : ℕ) (inner : 
   pub from_low : (j : ℕ) (d : Key) → i ≡ suc j → slice_get inner.keys j ≡ Some d → list_all (λ r. is_le (key_cmp d r.key)) here ≡ true
   pub none_before : i ≡ 0 → first ≡ []
   pub before : (j : ℕ) → i ≡ suc j → (earlier : List Record) × (prior : List Record) × (first ≡ earlier ++ prior)
-      × Spells told (slice_index inner.children j) (height - 1) prior
+      × SpellsSubtree told (slice_index inner.children j) (height - 1) prior
 
 pub head_high : (ks : List Key) (i : ℕ) (b : Bounds) → (head_bounds (drop i ks) b).high ≡ option_or (slice_get ks i) b.high
 head_high [] zero b = refl
@@ -139,13 +139,13 @@ key_below : (ks : List Key) (b : Bounds) (k : Key) → list_all (λ l. is_lt (ke
 key_below [] b k p h = h
 key_below (l ∷ ks) b k p h = (and_parts (is_lt (key_cmp k l)) (list_all (λ m. is_lt (key_cmp k m)) ks) p).0
 
-pub along_told : (old new : Option (List (List ℕ))) (page height : ℕ) (rs : List Record) → new ≡ old → Spells old page height rs
-    → Spells new page height rs
+pub along_told : (old new : Option (List (List ℕ))) (page height : ℕ) (rs : List Record) → new ≡ old → SpellsSubtree old page height rs
+    → SpellsSubtree new page height rs
 along_told old new page height rs e s =
     record { pages = s.pages; is_told = e ∙ s.is_told; is_root = s.is_root; bounds = s.bounds; used = s.used; subtree = s.subtree }
 
 module _ (told : Option (List (List ℕ))) (page height : ℕ) where
-  pub leads_below : (rs : List Record) (inner : Inner) (i : ℕ) (k : Key) → 1 ≤ height → height ≢ 1 → (s : Spells told page height rs)
+  pub leads_below : (rs : List Record) (inner : Inner) (i : ℕ) (k : Key) → 1 ≤ height → height ≢ 1 → (s : SpellsSubtree told page height rs)
       → ReadsInner told page inner → IsPlace inner.keys k i → LeadsBelow told height inner i k rs s.bounds.high
   unfolding child_spells
   leads_below rs inner i k some ne s reads p =
@@ -207,7 +207,7 @@ module _ (told : Option (List (List ℕ))) (page height : ℕ) where
       }
 
   pub leaf_leads : (k : Key) (leaf : List Record) (high : Option Key) → height ≡ 1 → ReadsLeaf told page leaf → (rs : List Record)
-      (s : Spells told page height rs) → s.bounds.high ≡ high → LeadsTo k rs leaf high high
+      (s : SpellsSubtree told page height rs) → s.bounds.high ≡ high → LeadsToLeaf k rs leaf high high
   leaf_leads k leaf high one reads rs s e =
       let same = leaf_spells told page height rs leaf one s reads in
       let rises = subtree_rises s.pages height s.is_root (page, s.bounds) rs s.used s.subtree in
@@ -229,7 +229,7 @@ module _ (told : Option (List (List ℕ))) (page height : ℕ) where
 
 leads_on : (told : Option (List (List ℕ))) (height i : ℕ) (k : Key) (inner : Inner) (rs : List Record) (start : Option Key)
     (at : LeadsBelow told height inner i k rs start) (leaf : List Record) (high : Option Key)
-    → LeadsTo k at.here leaf at.high high → LeadsTo k rs leaf start high
+    → LeadsToLeaf k at.here leaf at.high high → LeadsToLeaf k rs leaf start high
 leads_on told height i k inner rs start at leaf high l = record {
   before = at.first ++ l.before;
   behind = l.behind ++ at.last;
@@ -248,13 +248,13 @@ leads_on told height i k inner rs start at leaf high l = record {
 pub leads_up : (r : Result Found Stop) (leaf : List Record) {old new : Option (List (List ℕ))} (page height : ℕ) {child i : ℕ} {k : Key}
     (inner : Inner) (start : Option Key) {high : Option Key} → new ≡ old → 1 ≤ height → height ≢ 1 → ReadsInner old page inner
     → IsPlace inner.keys k i → child ≡ slice_index inner.children i → high ≡ option_or (slice_get inner.keys i) start
-    → IfOk r (λ f. (rs : List Record) (s : Spells new child (height - 1) rs) → s.bounds.high ≡ high → LeadsTo k rs leaf high f.high)
-    → IfOk r (λ f. (rs : List Record) (s : Spells old page height rs) → s.bounds.high ≡ start → LeadsTo k rs leaf start f.high)
+    → IfOk r (λ f. (rs : List Record) (s : SpellsSubtree new child (height - 1) rs) → s.bounds.high ≡ high → LeadsToLeaf k rs leaf high f.high)
+    → IfOk r (λ f. (rs : List Record) (s : SpellsSubtree old page height rs) → s.bounds.high ≡ start → LeadsToLeaf k rs leaf start f.high)
 leads_up (Err e) leaf page height inner start t some ne reads p e1 e2 f = f
 leads_up (Ok v) leaf {old = old} {new = new} page height {i = i} {k = k} inner start {high = high} t some ne reads p e1 e2 f = λ rs s h.
     let at = subst (λ o. LeadsBelow old height inner i k rs o) h (leads_below old page height rs inner i k some ne s reads p) in
     let same : at.high ≡ high = at.is_next ∙ sym e2 in
-    let here : Spells new (slice_index inner.children i) (height - 1) at.here =
+    let here : SpellsSubtree new (slice_index inner.children i) (height - 1) at.here =
     record {
       pages = at.spells.pages;
       is_told = t ∙ at.spells.is_told;
@@ -263,9 +263,9 @@ leads_up (Ok v) leaf {old = old} {new = new} page height {i = i} {k = k} inner s
       used = at.spells.used;
       subtree = at.spells.subtree;
     } in
-    let g = subst (λ (c : ℕ). (rs : List Record) (s : Spells new c (height - 1) rs) → s.bounds.high ≡ high → LeadsTo k rs leaf high v.high) e1 f in
+    let g = subst (λ (c : ℕ). (rs : List Record) (s : SpellsSubtree new c (height - 1) rs) → s.bounds.high ≡ high → LeadsToLeaf k rs leaf high v.high) e1 f in
     leads_on old height i k inner rs start at leaf v.high
-    (subst (λ o. LeadsTo k at.here leaf o v.high) (sym same)
+    (subst (λ o. LeadsToLeaf k at.here leaf o v.high) (sym same)
     (g at.here (record {
       pages = at.spells.pages;
       is_told = t ∙ at.spells.is_told;
@@ -280,7 +280,7 @@ pub record EndsBelow (told : Option (List (List ℕ))) (height child : ℕ) (rs 
   pub first : List Record
   pub here : List Record
   pub records : rs ≡ first ++ here
-  pub spells : Spells told child (height - 1) here
+  pub spells : SpellsSubtree told child (height - 1) here
 
 last_late : {X : Type 0} (o : Option X) (xs : List X) (x : X) → last_or None xs ≡ Some x → last_or o xs ≡ Some x
 last_late o [] x h = cc
@@ -288,7 +288,7 @@ last_late o (y ∷ xs) x h = h
 
 module _ (page height child n : ℕ) (inner : Inner) (some : 1 ≤ height) (ne : height ≢ 1) (many : n ≡ length inner.children)
     (is : child ≡ slice_index inner.children (n - 1)) where
-  pub ends_below : (told : Option (List (List ℕ))) → ReadsInner told page inner → (rs : List Record) → Spells told page height rs
+  pub ends_below : (told : Option (List (List ℕ))) → ReadsInner told page inner → (rs : List Record) → SpellsSubtree told page height rs
       → EndsBelow told height child rs
   ends_below told reads rs s =
       let up = inner_spells told page height rs inner some ne s reads in
@@ -307,12 +307,12 @@ module _ (page height child n : ℕ) (inner : Inner) (some : 1 ≤ height) (ne :
         first = at.first;
         here = at.here;
         records = at.records ∙ ap (λ l. at.first ++ (at.here ++ l)) end.0 ∙ ap (λ l. at.first ++ l) (append-nil at.here);
-        spells = subst (λ c. Spells told c (height - 1) at.here) (sym is) (child_spells told page height rs inner i s up at);
+        spells = subst (λ c. SpellsSubtree told c (height - 1) at.here) (sym is) (child_spells told page height rs inner i s up at);
       }
 
   pub last_up : (r : Result Record Stop) (old new : Option (List (List ℕ))) → new ≡ old → ReadsInner old page inner
-      → IfOk r (λ x. (rs : List Record) → Spells new child (height - 1) rs → last_or None rs ≡ Some x)
-      → IfOk r (λ x. (rs : List Record) → Spells old page height rs → last_or None rs ≡ Some x)
+      → IfOk r (λ x. (rs : List Record) → SpellsSubtree new child (height - 1) rs → last_or None rs ≡ Some x)
+      → IfOk r (λ x. (rs : List Record) → SpellsSubtree old page height rs → last_or None rs ≡ Some x)
   last_up (Err e) old new t reads f = f
   last_up (Ok x) old new t reads f = λ rs s.
       let end = ends_below old reads rs s in
@@ -330,39 +330,39 @@ pub record AtFloor (old new : Option (List (List ℕ))) (page height child i : �
 
 module _ (old new : Option (List (List ℕ))) (page height child i : ℕ) (k : Key) (inner : Inner) where
   pub floor_here : (r : Record) → AtFloor old new page height child i k inner
-      → ((rs : List Record) → Spells new child (height - 1) rs → Some r ≡ floor_of k rs) → (rs : List Record) → Spells old page height rs
+      → ((rs : List Record) → SpellsSubtree new child (height - 1) rs → Some r ≡ floor_of k rs) → (rs : List Record) → SpellsSubtree old page height rs
       → Some r ≡ floor_of k rs
   floor_here r a f rs s =
       let at = leads_below old page height rs inner i k a.some a.above s a.reads a.place in
       let here =
-      f at.here (subst (λ c. Spells new c (height - 1) at.here) (sym a.is_child)
+      f at.here (subst (λ c. SpellsSubtree new c (height - 1) at.here) (sym a.is_child)
       (along_told old new (slice_index inner.children i) (height - 1) at.here a.told at.spells)) in
       ap (λ o. option_or o (last_or None at.first)) here ∙ sym (floor_between k at.first at.here at.last rs at.among)
 
   pub floor_none : AtFloor old new page height child i k inner → i ≡ 0
-      → ((rs : List Record) → Spells new child (height - 1) rs → None ≡ floor_of k rs) → (rs : List Record) → Spells old page height rs
+      → ((rs : List Record) → SpellsSubtree new child (height - 1) rs → None ≡ floor_of k rs) → (rs : List Record) → SpellsSubtree old page height rs
       → None ≡ floor_of k rs
   floor_none a zero_place f rs s =
       let at = leads_below old page height rs inner i k a.some a.above s a.reads a.place in
       let here =
-      f at.here (subst (λ c. Spells new c (height - 1) at.here) (sym a.is_child)
+      f at.here (subst (λ c. SpellsSubtree new c (height - 1) at.here) (sym a.is_child)
       (along_told old new (slice_index inner.children i) (height - 1) at.here a.told at.spells)) in
       ap (last_or None) (sym (at.none_before zero_place)) ∙ ap (λ o. option_or o (last_or None at.first)) here
       ∙ sym (floor_between k at.first at.here at.last rs at.among)
 
 pub floor_before : {old new newer : Option (List (List ℕ))} {page height child prior i : ℕ} {k : Key} {inner : Inner} (r : Record)
     → AtFloor old new page height child i k inner → i ≢ 0 → newer ≡ old → prior ≡ slice_index inner.children (i - 1)
-    → ((rs : List Record) → Spells new child (height - 1) rs → None ≡ floor_of k rs)
-    → ((rs : List Record) → Spells newer prior (height - 1) rs → last_or None rs ≡ Some r) → {rs : List Record} → Spells old page height rs
+    → ((rs : List Record) → SpellsSubtree new child (height - 1) rs → None ≡ floor_of k rs)
+    → ((rs : List Record) → SpellsSubtree newer prior (height - 1) rs → last_or None rs ≡ Some r) → {rs : List Record} → SpellsSubtree old page height rs
     → Some r ≡ floor_of k rs
 floor_before {old = old} {new = new} {newer = newer} {page = page} {height = height} {i = i} {k = k} {inner = inner} r a some t is f g {rs = rs} s =
     let at = leads_below old page height rs inner i k a.some a.above s a.reads a.place in
     let here =
-    f at.here (subst (λ c. Spells new c (height - 1) at.here) (sym a.is_child)
+    f at.here (subst (λ c. SpellsSubtree new c (height - 1) at.here) (sym a.is_child)
     (along_told old new (slice_index inner.children i) (height - 1) at.here a.told at.spells)) in
     let n : i ≡ suc (i - 1) = omega arith in
     let b = at.before (i - 1) n in
     let last =
-    g b.1 (subst (λ c. Spells newer c (height - 1) b.1) (sym is) (along_told old newer (slice_index inner.children (i - 1)) (height - 1) b.1 t b.3)) in
+    g b.1 (subst (λ c. SpellsSubtree newer c (height - 1) b.1) (sym is) (along_told old newer (slice_index inner.children (i - 1)) (height - 1) b.1 t b.3)) in
     let of_first : last_or None at.first ≡ Some r = ap (last_or None) b.2 ∙ last_append None b.0 b.1 ∙ last_late (last_or None b.0) b.1 r last in
     sym of_first ∙ ap (λ o. option_or o (last_or None at.first)) here ∙ sym (floor_between k at.first at.here at.last rs at.among)

@@ -13,7 +13,7 @@ use Rattle.quilt_node.specs.Pages.{Inner, inner_of, is_ascending}
 use Rattle.quilt_node.specs.Nodes.{IsPlace}
 use Rattle.quilt_node.specs.Tree.{is_below}
 use Rattle.quilt_btree.specs.Subtree.{Subtree}
-use Rattle.quilt_btree.specs.Trees.{Spells, LeadsTo, Divides, IsBound, IsCut}
+use Rattle.quilt_btree.specs.Trees.{SpellsSubtree, LeadsToLeaf, Divides, IsBound, IsCut}
 use Rattle.quilt_record.proofs.Orders.{lt_le, le_le, lt_to_le}
 use Rattle.quilt_btree.proofs.subtrees.Trees.{ascending_first, ascending_rest}
 use Rattle.quilt_btree.proofs.lists.Rising.{all_follow, all_parts, below_on}
@@ -152,12 +152,12 @@ one_less height h e = omega arith
 pub cut_up : (old : Option (List (List ℕ))) {new : Option (List (List ℕ))} (page height : ℕ) {child : ℕ} (i : ℕ) {k : Key} (inner : Inner)
     (start : Option Key) {next : Option Key} {leaf : List Record} {high : Option Key} → AtFloor old new page height child i k inner
     → next ≡ option_or (slice_get inner.keys i) start
-    → ((rs : List Record) (s : Spells new child (height - 1) rs) → s.bounds.high ≡ next → LeadsTo k rs leaf next high)
+    → ((rs : List Record) (s : SpellsSubtree new child (height - 1) rs) → s.bounds.high ≡ next → LeadsToLeaf k rs leaf next high)
     → IsCut new child (height - 1) k next leaf high → IsCut old page height k start leaf high
 cut_up old {new = new} page height {child = child} i {k = k} inner start {next = next} {leaf = leaf} {high = high} a is leads cut = record {
   starts = λ pages rs t s e d.
       let at = leads_below old page height rs inner i k a.some a.above s a.reads a.place in
-      let here : Spells new child (height - 1) at.here = record {
+      let here : SpellsSubtree new child (height - 1) at.here = record {
         pages = at.spells.pages;
         is_told = a.told ∙ at.spells.is_told;
         is_root = at.spells.is_root;
@@ -174,7 +174,7 @@ cut_up old {new = new} page height {child = child} i {k = k} inner start {next =
       let same : div.inner ≡ inner = cc in
       let place : div.place ≡ i = same_place inner.keys k div.place i (subst (λ (x : Inner). IsPlace x.keys k div.place) same div.is_place) a.place in
       let high_is : at.spells.bounds.high ≡ next = at.is_high ∙ at.is_next ∙ ap (option_or (slice_get inner.keys i)) e ∙ sym is in
-      let lead : LeadsTo k at.here leaf next high = leads at.here (record {
+      let lead : LeadsToLeaf k at.here leaf next high = leads at.here (record {
         pages = at.spells.pages;
         is_told = a.told ∙ at.spells.is_told;
         is_root = at.spells.is_root;
@@ -206,7 +206,7 @@ cut_up old {new = new} page height {child = child} i {k = k} inner start {next =
       let high_is : at.spells.bounds.high ≡ next = at.is_high ∙ at.is_next ∙ ap (option_or (slice_get inner.keys i)) e ∙ sym is in
       let here_is : at.high ≡ next = at.is_next ∙ ap (option_or (slice_get inner.keys i)) e ∙ sym is in
       let under : is_below next k ≡ true = subst (λ o. is_below o k ≡ true) here_is (at.key_under (subst (λ o. is_below o k ≡ true) (sym e) b)) in
-      let lead : LeadsTo k at.here leaf next high = leads at.here (record {
+      let lead : LeadsToLeaf k at.here leaf next high = leads at.here (record {
         pages = at.spells.pages;
         is_told = a.told ∙ at.spells.is_told;
         is_root = at.spells.is_root;

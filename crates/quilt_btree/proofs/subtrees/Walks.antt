@@ -9,13 +9,13 @@ use Rattle.std.proofs.lemmas.Bool.Decides.{nat_tests}
 use Rattle.quilt_record.specs.declared.record.Record.{Record}
 use Rattle.quilt_node.specs.Pages.{Inner, leaf_of, inner_of}
 use Rattle.quilt_node.specs.Tree.{Bounds, Walk, Whole, Damaged, are_within, bounded, and_then, each_child, leaf_walk, inner_walk, walk}
-use Rattle.quilt_btree.specs.Subtree.{Reading, IsLeaf, Row, IsInner, Subtree, IsFresh}
+use Rattle.quilt_btree.specs.Subtree.{Reading, IsLeafPlace, Row, IsInnerPlace, Subtree, AreFreshPages}
 
 -- what a walk added to what was visited before
 pub record Found (S : List Record → List ℕ → Type 0) (visited : List ℕ) (rs : List Record) (now : List ℕ) : Type 0 where
   pub used : List ℕ
   pub spells : S rs used
-  pub fresh : IsFresh used visited
+  pub fresh : AreFreshPages used visited
   pub is_now : now ≡ used ++ visited
 
 -- the same behind records that were found before
@@ -41,24 +41,24 @@ damaged_stays visit (c ∷ cs) p = damaged_stays visit cs p
 pub along_list : {X : Type 0} (P : List X → Type 0) → {xs ys : List X} → xs ≡ ys → P xs → P ys
 along_list P e p = subst P e p
 
-pub fresh_join : (late early visited : List ℕ) → IsFresh late (early ++ visited) → IsFresh early visited → IsFresh (late ++ early) visited
+pub fresh_join : (late early visited : List ℕ) → AreFreshPages late (early ++ visited) → AreFreshPages early visited → AreFreshPages (late ++ early) visited
 fresh_join [] early visited f g = g
 fresh_join (p ∷ late) early visited f g =
     (along_list (λ l. list_any (λ v. v == p) l ≡ false) (sym (append_assoc late early visited)) f.0, fresh_join late early visited f.1 g)
 
-pub fresh_late : (late early visited : List ℕ) → IsFresh (late ++ early) visited → IsFresh late (early ++ visited)
+pub fresh_late : (late early visited : List ℕ) → AreFreshPages (late ++ early) visited → AreFreshPages late (early ++ visited)
 fresh_late [] early visited f = tt
 fresh_late (p ∷ late) early visited f =
     (along_list (λ l. list_any (λ v. v == p) l ≡ false) (append_assoc late early visited) f.0, fresh_late late early visited f.1)
 
-pub fresh_early : (late early visited : List ℕ) → IsFresh (late ++ early) visited → IsFresh early visited
+pub fresh_early : (late early visited : List ℕ) → AreFreshPages (late ++ early) visited → AreFreshPages early visited
 fresh_early [] early visited f = f
 fresh_early (p ∷ late) early visited f = fresh_early late early visited f.1
 
 leaf_found : (pages : List (List ℕ)) (is_root : Bool) (at : ℕ × Bounds) (visited : List ℕ) (rs : List Record) (now : List ℕ)
     (o : Option (List Record)) → leaf_of (slice_index_or pages at.0 []) ≡ o
     → list_any (λ v. v == at.0) visited ≡ false
-    → leaf_walk is_root at.1 at.0 visited o ≡ Whole rs now → Found (IsLeaf pages is_root at) visited rs now
+    → leaf_walk is_root at.1 at.0 visited o ≡ Whole rs now → Found (IsLeafPlace pages is_root at) visited rs now
 leaf_found pages is_root at visited rs now None page seen h = cc
 leaf_found pages is_root at visited rs now (Some ss) page seen h =
     let t = then_whole ((is_root || nat_le 72 (length ss)) && are_within at.1 (map (λ r. r.key) ss)) (Whole ss (at.0 ∷ visited)) at.0 rs now h in
@@ -99,7 +99,7 @@ module _ (S : Reading) (visit : ℕ × Bounds → List ℕ → Walk) where
             records = refl;
             is_used = refl;
           };
-          fresh = fresh_join _ _ _ (along_list (λ l. IsFresh rest.found.used l) first.is_now rest.found.fresh) first.fresh;
+          fresh = fresh_join _ _ _ (along_list (λ l. AreFreshPages rest.found.used l) first.is_now rest.found.fresh) first.fresh;
           is_now = rest.found.is_now ∙ ap (λ v. rest.found.used ++ v) first.is_now ∙ sym (append_assoc rest.found.used first.used visited);
         };
       }
@@ -124,7 +124,7 @@ module _ (S : Reading) (visit : ℕ × Bounds → List ℕ → Walk) where
   inner_found : (pages : List (List ℕ)) (height : ℕ) (is_root : Bool) (at : ℕ × Bounds) (visited : List ℕ) (rs : List Record) (now : List ℕ)
       → ((c : ℕ × Bounds) (v : List ℕ) (ss : List Record) (later : List ℕ) → visit c v ≡ Whole ss later → Found (S c) v ss later) → (o : Option Inner)
       → inner_of (length pages) (slice_index_or pages at.0 []) ≡ o → list_any (λ v. v == at.0) visited ≡ false
-      → inner_walk visit height is_root at.1 at.0 visited o ≡ Whole rs now → Found (IsInner S pages height is_root at) visited rs now
+      → inner_walk visit height is_root at.1 at.0 visited o ≡ Whole rs now → Found (IsInnerPlace S pages height is_root at) visited rs now
   inner_found pages height is_root at visited rs now one None page seen h = cc
   inner_found pages height is_root at visited rs now one (Some inner) page seen h =
       let t = then_whole _ _ _ _ _ h in
@@ -148,12 +148,12 @@ module _ (S : Reading) (visit : ℕ × Bounds → List ℕ → Walk) where
         is_now = row.found.is_now ∙ sym (append_assoc row.found.used (at.0 ∷ []) visited);
       }
 
-  row_walked : ((c : ℕ × Bounds) (visited : List ℕ) (rs : List Record) (used : List ℕ) → S c rs used → IsFresh used visited → visit c visited ≡ Whole rs (used ++ visited))
+  row_walked : ((c : ℕ × Bounds) (visited : List ℕ) (rs : List Record) (used : List ℕ) → S c rs used → AreFreshPages used visited → visit c visited ≡ Whole rs (used ++ visited))
       → (cs : List (ℕ × Bounds)) (before : List Record) (visited : List ℕ) (rs : List Record) (used : List ℕ) → Row S cs rs used
-      → IsFresh used visited → each_child visit cs (Whole before visited) ≡ Whole (before ++ rs) (used ++ visited)
+      → AreFreshPages used visited → each_child visit cs (Whole before visited) ≡ Whole (before ++ rs) (used ++ visited)
   row_walked one [] before visited rs used row fresh = rw (row.0, row.1, append-nil) refl
   row_walked one (c ∷ cs) before visited rs used row fresh =
-      let parts : IsFresh (row.rest_used ++ row.first_used) visited = rw row.is_used at fresh in
+      let parts : AreFreshPages (row.rest_used ++ row.first_used) visited = rw row.is_used at fresh in
       let here : visit c visited ≡ Whole row.first (row.first_used ++ visited) = one c visited row.first row.first_used row.here (fresh_early _ _ _ parts) in
       let after = row_walked one cs (before ++ row.first) (row.first_used ++ visited) row.rest row.rest_used row.after (fresh_late _ _ _ parts) in
       ap (λ w. each_child visit cs (and_then (Whole before visited) (λ v. w))) here ∙ after
@@ -182,14 +182,14 @@ if_false false v w h = refl
 
 -- and a subtree of such pages is found whole
 pub walk_again : (pages : List (List ℕ)) (height : ℕ) (is_root : Bool) (at : ℕ × Bounds) (visited : List ℕ) (rs : List Record) (used : List ℕ)
-    → Subtree pages height is_root at rs used → IsFresh used visited → walk pages height is_root at visited ≡ Whole rs (used ++ visited)
+    → Subtree pages height is_root at rs used → AreFreshPages used visited → walk pages height is_root at visited ≡ Whole rs (used ++ visited)
 walk_again pages zero is_root at visited rs used s fresh = absurd s
 walk_again pages (suc zero) is_root at visited rs used s fresh =
-    let new : IsFresh (at.0 ∷ []) visited = rw s.is_used at fresh in
+    let new : AreFreshPages (at.0 ∷ []) visited = rw s.is_used at fresh in
     if_false _ _ _ new.0 ∙ ap (leaf_walk is_root at.1 at.0 visited) s.page ∙ if_true _ _ _ (and_from _ _ s.enough s.within)
     ∙ rw s.is_used refl
 walk_again pages (suc (suc height)) is_root at visited rs used s fresh =
-    let new : IsFresh (s.under ++ at.0 ∷ []) visited = rw s.is_used at fresh in
+    let new : AreFreshPages (s.under ++ at.0 ∷ []) visited = rw s.is_used at fresh in
     if_false _ _ _ (fresh_early s.under (at.0 ∷ []) visited new).0
     ∙ ap (inner_walk (walk pages (suc height) false) (suc (suc height)) is_root at.1 at.0 visited) s.page
     ∙ if_true _ _ _ (and_from _ _ (and_from _ _ (number_test s.inner.height (suc (suc height)) s.is_height) s.enough) s.within)

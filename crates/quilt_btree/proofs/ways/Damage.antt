@@ -12,12 +12,12 @@ use Rattle.quilt_types.specs.declared.stop.Stop.TheVariants.{Device, Memory, Dam
 use Rattle.quilt_world.specs.Causes.{Rose}
 use Rattle.quilt_world.specs.Causes as causes
 use Rattle.quilt_btree.specs.declared.tree.Tree.{Tree}
-use Rattle.quilt_btree.specs.declared.reading.Found.{Found}
+use Rattle.quilt_btree.specs.declared.step.Found.{Found}
 use Rattle.quilt_world.specs.Tale.{Goes}
 use Rattle.quilt_btree.specs.Damage.{HasChild, IsBadUnder, NamesBad, OthersStay, NamesSpare, IsBeside, NamesBeside}
 use Rattle.quilt_node.proofs.Places as places
 use Rattle.quilt_btree.specs.Searches.{AreOf}
-use Rattle.quilt_store.specs.Stops.{HasStopCause, IsSound}
+use Rattle.quilt_store.specs.Stops.{HasStopCause, IsNotDamage}
 use Rattle.quilt_btree.specs.Stops.{unnamed, NamesPage}
 use Rattle.quilt_btree.proofs.lists.Counts.{other_test}
 use Rattle.quilt_btree.proofs.subtrees.Descending.{height_above}
@@ -60,7 +60,7 @@ child_at size bytes o child e h = subst (λ p. IfSome p (HasChild size bytes)) e
 
 module _ (told : Option (List (List ℕ))) (height page : ℕ) where
   -- what names no page names no good one
-  pub sound_names : (e : Stop) → IsSound e → NamesBad told height page e
+  pub sound_names : (e : Stop) → IsNotDamage e → NamesBad told height page e
   sound_names Device s = tt
   sound_names Memory s = tt
   sound_names (Damaged q) s = absurd (s q refl)

@@ -4,14 +4,14 @@ use Rattle.std.proofs.Common.{Some, None, slice_index, slice_index_or, sym, ◌�
 use Rattle.std.proofs.lemmas.Bool.Decides.{nat_tests}
 use Rattle.quilt_record.specs.declared.key.Key.{Key}
 use Rattle.quilt_node.specs.Pages.{Inner, inner_of}
-use Rattle.quilt_btree.specs.Floors.{last_pages, last_below, finds_floor, finds_below, floor_pages, floor_below, before_child, place_of}
+use Rattle.quilt_btree.specs.Floors.{last_pages, last_below, finds_floor, finds_below, floor_pages, floor_below, before_child, child_place}
 use Rattle.quilt_btree.proofs.subtrees.Descending.{height_above}
 
 one_less : (height h : ℕ) → height ≡ suc (suc h) → suc h ≡ height - 1
 one_less height h e = omega arith
 
 module _ (pages : List (List ℕ)) (k : Key) (height page child i : ℕ) (inner : Inner) (some : 1 ≤ height) (ne : height ≢ 1)
-    (here : inner_of (length pages) (slice_index_or pages page []) ≡ Some inner) (place : i ≡ place_of k inner)
+    (here : inner_of (length pages) (slice_index_or pages page []) ≡ Some inner) (place : i ≡ child_place k inner)
     (is : child ≡ slice_index inner.children i) where
   -- and with that to which a key leads
   pub floor_splits : floor_pages pages k height page ≡ page ∷ (floor_pages pages k (height - 1) child ++ before_child (finds_floor pages k (height - 1)) (last_pages pages (height - 1)) inner i)
@@ -90,11 +90,11 @@ few_floor : (under : ℕ → List ℕ) (finds : ℕ → Bool) (last : ℕ → Li
     → length (floor_below under finds last k o) ≤ m + n
 few_floor under finds last k m n None f g = omega arith
 few_floor under finds last k m n (Some inner) f g =
-    let c = slice_index inner.children (place_of k inner) in
+    let c = slice_index inner.children (child_place k inner) in
     let a = f c in
-    let b = either (finds c || place_of k inner == 0) (last (slice_index inner.children (place_of k inner - 1)))
-    (g (slice_index inner.children (place_of k inner - 1))) in
-    omega (arith, length-append (under c) (before_child finds last inner (place_of k inner)))
+    let b = either (finds c || child_place k inner == 0) (last (slice_index inner.children (child_place k inner - 1)))
+    (g (slice_index inner.children (child_place k inner - 1))) in
+    omega (arith, length-append (under c) (before_child finds last inner (child_place k inner)))
   where
     either : (b : Bool) (l : List ℕ) → length l ≤ n → length (if b then [] else l) ≤ n
     either true l h = omega arith

@@ -14,11 +14,11 @@ use Rattle.quilt_node.specs.Nodes.{are_pages, IsPlace, IsGap}
 use Rattle.quilt_store.specs.Store.{Touches}
 use Rattle.quilt_world.specs.Tale.{Goes}
 use Rattle.quilt_types.specs.declared.stop.Stop.{Stop}
-use Rattle.quilt_btree.specs.Lists.{value_of}
-use Rattle.quilt_store.specs.Stops.{IsSound}
+use Rattle.quilt_btree.specs.Lists.{value_at_key}
+use Rattle.quilt_store.specs.Stops.{IsNotDamage}
 use Rattle.quilt_btree.specs.Subtree.{Subtree}
-use Rattle.quilt_btree.specs.Trees.{Spells, ReadsInner, IsTree}
-use Rattle.quilt_btree.specs.Floors.{place_of, last_pages, floor_pages, TouchesInTurn, HoldsFirst, ReadsNone}
+use Rattle.quilt_btree.specs.Trees.{SpellsSubtree, ReadsInner, IsTree}
+use Rattle.quilt_btree.specs.Floors.{child_place, last_pages, floor_pages, TouchesInTurn, HoldsFirst, ReadsNone}
 use Rattle.quilt_btree.specs.Searches.{IsFork, AreOf, IsLeafFor}
 use Rattle.quilt_btree.proofs.lists.Rising.{all_append}
 use Rattle.quilt_btree.proofs.lists.Lists.{IsAmong, value_between}
@@ -45,7 +45,7 @@ pub record IsHere (told : Option (List (List ℕ))) (page height size : ℕ) (by
   pub is_height : inner.height ≡ height
 
 pub page_here : {old new : Option (List (List ℕ))} {page height size : ℕ} {bytes : List ℕ} {rs : List Record} → IsRead old new page height size bytes
-    → Spells old page height rs → IsHere old page height size bytes
+    → SpellsSubtree old page height rs → IsHere old page height size bytes
 page_here {page = page} {height = height} {size = size} {bytes = bytes} {rs = rs} r s =
     let n = height_above height r.some r.above in
     let t = subst (λ n. Subtree s.pages n s.is_root (page, s.bounds) rs s.used) n.1 s.subtree in
@@ -63,7 +63,7 @@ page_here {page = page} {height = height} {size = size} {bytes = bytes} {rs = rs
     one ps qs h = cc
 
 pub leaf_here : (told : Option (List (List ℕ))) (page height : ℕ) (bytes : List ℕ) (rs : List Record) → height ≡ 1 → AreOf told page bytes
-    → Spells told page height rs → leaf_of bytes ≡ Some rs
+    → SpellsSubtree told page height rs → leaf_of bytes ≡ Some rs
 leaf_here told page height bytes rs one are s =
     let t = subst (λ h. Subtree s.pages h s.is_root (page, s.bounds) rs s.used) one s.subtree in
     ap leaf_of (are s.pages s.is_told) ∙ t.page
@@ -72,25 +72,25 @@ pub record HasPrior (told : Option (List (List ℕ))) (height : ℕ) (inner : In
   pub some : i ≢ 0
   pub is : p ≡ slice_index inner.children (i - 1)
   pub here : List Record
-  pub spells : Spells told p (height - 1) here
+  pub spells : SpellsSubtree told p (height - 1) here
 
 -- the child to which the key leads, and what stands around it
 pub record Forked (old new : Option (List (List ℕ))) (page height : ℕ) (k : Key) (child : ℕ) (prior : Option ℕ) (rs : List Record) : Type 0 where
   pub inner : Inner
   pub i : ℕ
   pub at : AtFloor old new page height child i k inner
-  pub number : i ≡ place_of k inner
+  pub number : i ≡ child_place k inner
   pub before : List Record
   pub here : List Record
   pub behind : List Record
   pub among : IsAmong k before here behind rs
-  pub spells : Spells new child (height - 1) here
+  pub spells : SpellsSubtree new child (height - 1) here
   pub first : prior ≡ None → i ≡ 0
   pub later : (p : ℕ) → prior ≡ Some p → HasPrior old height inner i p
 
 module _ (old new : Option (List (List ℕ))) (page height size : ℕ) (bytes : List ℕ) where
   pub forked : (k : Key) (child : ℕ) (prior : Option ℕ) (rs : List Record) → IsRead old new page height size bytes
-      → ((inner : Inner) → inner_of size bytes ≡ Some inner → IsFork k inner child prior) → Spells old page height rs
+      → ((inner : Inner) → inner_of size bytes ≡ Some inner → IsFork k inner child prior) → SpellsSubtree old page height rs
       → Forked old new page height k child prior rs
   forked k child prior rs r fork s =
       let h = page_here r s in
@@ -105,7 +105,7 @@ module _ (old new : Option (List (List ℕ))) (page height size : ℕ) (bytes : 
         here = low.here;
         behind = low.last;
         among = low.among;
-        spells = subst (λ c. Spells new c (height - 1) low.here) (sym f.child_is)
+        spells = subst (λ c. SpellsSubtree new c (height - 1) low.here) (sym f.child_is)
             (along_told old new (slice_index h.inner.children f.place) (height - 1) low.here r.told low.spells);
         first = f.first;
         later = λ p e.
@@ -113,12 +113,12 @@ module _ (old new : Option (List (List ℕ))) (page height size : ℕ) (bytes : 
             let some : f.place ≢ 0 = q.0 in
             let n : f.place ≡ suc (f.place - 1) = omega arith in
             let b = low.before (f.place - 1) n in
-            record { some = q.0; is = q.1; here = b.1; spells = subst (λ c. Spells old c (height - 1) b.1) (sym q.1) b.3 };
+            record { some = q.0; is = q.1; here = b.1; spells = subst (λ c. SpellsSubtree old c (height - 1) b.1) (sym q.1) b.3 };
       }
 
   -- a page above the leaves forks
   pub forks : (e : Stop) → IsRead old new page height size bytes → ((inner : Inner) → inner_of size bytes ≡ Some inner → ⊥) → (rs : List Record)
-      → Spells old page height rs → IsSound e
+      → SpellsSubtree old page height rs → IsNotDamage e
   forks e r none rs s = let h = page_here r s in absurd (none h.inner h.is)
 
 led_up : (k : Key) (before here behind rs : List Record) (bytes : List ℕ) → IsAmong k before here behind rs → IsLeafFor k here bytes
@@ -144,8 +144,8 @@ module _ (old new : Option (List (List ℕ))) (page height size : ℕ) (bytes : 
   -- the leaf's page in place of its bytes
   pub led_page : (r : Result ℕ Stop) → IsRead old new page height size bytes
       → ((inner : Inner) → inner_of size bytes ≡ Some inner → IsFork k inner child prior)
-      → IfOk r (λ leaf. (rs : List Record) → Spells new child (height - 1) rs → (last : List ℕ) → AreOf new leaf last → IsLeafFor k rs last)
-      → IfOk r (λ leaf. (rs : List Record) → Spells old page height rs → (last : List ℕ) → AreOf old leaf last → IsLeafFor k rs last)
+      → IfOk r (λ leaf. (rs : List Record) → SpellsSubtree new child (height - 1) rs → (last : List ℕ) → AreOf new leaf last → IsLeafFor k rs last)
+      → IfOk r (λ leaf. (rs : List Record) → SpellsSubtree old page height rs → (last : List ℕ) → AreOf old leaf last → IsLeafFor k rs last)
   led_page (Err e) r fork f = f
   led_page (Ok leaf) r fork f = λ rs s last are.
       let a = forked old new page height size bytes k child prior rs r fork s in
@@ -153,15 +153,15 @@ module _ (old new : Option (List (List ℕ))) (page height size : ℕ) (bytes : 
 
   pub sound_on : {T : Type 0} (r : Result T Stop) → IsRead old new page height size bytes
       → ((inner : Inner) → inner_of size bytes ≡ Some inner → IsFork k inner child prior)
-      → IfErr r (λ e. (rs : List Record) → Spells new child (height - 1) rs → IsSound e)
-      → IfErr r (λ e. (rs : List Record) → Spells old page height rs → IsSound e)
+      → IfErr r (λ e. (rs : List Record) → SpellsSubtree new child (height - 1) rs → IsNotDamage e)
+      → IfErr r (λ e. (rs : List Record) → SpellsSubtree old page height rs → IsNotDamage e)
   sound_on (Ok v) r fork f = f
   sound_on (Err e) r fork f = λ rs s.
       let a = forked old new page height size bytes k child prior rs r fork s in
       f a.here a.spells
 
 pub value_led : (k : Key) (rs : List Record) (bytes : List ℕ) (v : Option (List ℕ)) → IsLeafFor k rs bytes
-    → ((here : List Record) → leaf_of bytes ≡ Some here → v ≡ value_of k here) → v ≡ value_of k rs
+    → ((here : List Record) → leaf_of bytes ≡ Some here → v ≡ value_at_key k here) → v ≡ value_at_key k rs
 value_led k rs bytes v l f =
     f l.here l.is_leaf ∙ sym (value_between k l.before l.here l.behind rs (record { records = l.records; lower = l.lower; higher = l.higher }))
 
@@ -170,13 +170,13 @@ pub record Ended (old new : Option (List (List ℕ))) (page height child : ℕ) 
   pub inner : Inner
   pub at : AtLast old new page height child (length inner.children) inner
   pub here : List Record
-  pub spells : Spells new child (height - 1) here
+  pub spells : SpellsSubtree new child (height - 1) here
 
 some_same : (c d : ℕ) → Some c ≡ Some d → c ≡ d
 some_same c d h = cc
 
 module _ (page height : ℕ) (bytes : List ℕ) where
-  pub leaf_led : (told : Option (List (List ℕ))) (k : Key) → height ≡ 1 → AreOf told page bytes → (rs : List Record) → Spells told page height rs
+  pub leaf_led : (told : Option (List (List ℕ))) (k : Key) → height ≡ 1 → AreOf told page bytes → (rs : List Record) → SpellsSubtree told page height rs
       → IsLeafFor k rs bytes
   leaf_led told k one are rs s = record {
     here = rs;
@@ -190,7 +190,7 @@ module _ (page height : ℕ) (bytes : List ℕ) where
 
   pub ended : (old new : Option (List (List ℕ))) (size child : ℕ) (rs : List Record) → IsRead old new page height size bytes
       → ((inner : Inner) → inner_of size bytes ≡ Some inner → Some child ≡ Some (slice_index inner.children (length inner.children - 1)))
-      → Spells old page height rs → Ended old new page height child
+      → SpellsSubtree old page height rs → Ended old new page height child
   ended old new size child rs r f s =
       let h = page_here r s in
       let is = some_same child (slice_index h.inner.children (length h.inner.children - 1)) (f h.inner h.is) in
@@ -207,16 +207,16 @@ IsLast size bytes child = (inner : Inner) → inner_of size bytes ≡ Some inner
 
 module _ (old new : Option (List (List ℕ))) (page height size : ℕ) (bytes : List ℕ) (child : ℕ) where
   pub last_on : (r : Result Record Stop) → IsRead old new page height size bytes → IsLast size bytes child
-      → IfOk r (λ x. (rs : List Record) → Spells new child (height - 1) rs → last_or None rs ≡ Some x)
-      → IfOk r (λ x. (rs : List Record) → Spells old page height rs → last_or None rs ≡ Some x)
+      → IfOk r (λ x. (rs : List Record) → SpellsSubtree new child (height - 1) rs → last_or None rs ≡ Some x)
+      → IfOk r (λ x. (rs : List Record) → SpellsSubtree old page height rs → last_or None rs ≡ Some x)
   last_on (Err e) r is f = f
   last_on (Ok x) r is f = λ rs s.
       let a = ended page height bytes old new size child rs r is s in
       last_up page height child (length a.inner.children) a.inner r.some r.above refl a.at.is_child (Ok x) old new r.told a.at.reads f rs s
 
   pub sound_last : {T : Type 0} (r : Result T Stop) → IsRead old new page height size bytes → IsLast size bytes child
-      → IfErr r (λ e. (rs : List Record) → Spells new child (height - 1) rs → IsSound e)
-      → IfErr r (λ e. (rs : List Record) → Spells old page height rs → IsSound e)
+      → IfErr r (λ e. (rs : List Record) → SpellsSubtree new child (height - 1) rs → IsNotDamage e)
+      → IfErr r (λ e. (rs : List Record) → SpellsSubtree old page height rs → IsNotDamage e)
   sound_last (Ok v) r is f = f
   sound_last (Err e) r is f = λ rs s.
       let a = ended page height bytes old new size child rs r is s in
@@ -224,8 +224,8 @@ module _ (old new : Option (List (List ℕ))) (page height size : ℕ) (bytes : 
 
 pub touched_last : (r : Result Record Stop) {old new : Option (List (List ℕ))} {page height size : ℕ} {bytes : List ℕ} {child : ℕ}
     (h0 h1 h2 : Option (List ℕ)) → IsRead old new page height size bytes → IsLast size bytes child → Goes (Touches page) h0 h1
-    → OnOk r ((rs : List Record) → Spells new child (height - 1) rs → TouchesInTurn (λ pages. last_pages pages (height - 1) child) new h1 h2)
-    → OnOk r ((rs : List Record) → Spells old page height rs → TouchesInTurn (λ pages. last_pages pages height page) old h0 h2)
+    → OnOk r ((rs : List Record) → SpellsSubtree new child (height - 1) rs → TouchesInTurn (λ pages. last_pages pages (height - 1) child) new h1 h2)
+    → OnOk r ((rs : List Record) → SpellsSubtree old page height rs → TouchesInTurn (λ pages. last_pages pages height page) old h0 h2)
 touched_last (Err e) h0 h1 h2 r is t f = f
 touched_last (Ok x) {old = old} {new = new} {page = page} {height = height} {size = size} {bytes = bytes} {child = child} h0 h1 h2 r is t f = λ rs s.
     let a = ended page height bytes old new size child rs r is s in
@@ -238,7 +238,6 @@ child_page size (c ∷ cs) zero h lt =
     let p = and_parts (nat_le 1 c && nat_lt c size) (are_pages size cs) h in
     let q = and_parts (nat_le 1 c) (nat_lt c size) p.0 in
     (leb-true 1 c q.0, ltb-true c size q.1)
-
 child_page size (c ∷ cs) (suc i) h lt =
     let p = and_parts (nat_le 1 c && nat_lt c size) (are_pages size cs) h in
     child_page size cs i p.1 (nearer i (length cs) lt)
@@ -272,7 +271,7 @@ pub no_page : (size child : ℕ) → (child < 1) ⊎ ((1 ≤ child) × (size ≤
 no_page size child h a b = omega (arith, h)
 
 module _ (k : Key) (inner : Inner) (i child : ℕ) where
-  pub first_fork : IsPlace inner.keys k i → i ≡ place_of k inner → child ≡ slice_index inner.children i → i ≡ 0 → IsFork k inner child None
+  pub first_fork : IsPlace inner.keys k i → i ≡ child_place k inner → child ≡ slice_index inner.children i → i ≡ 0 → IsFork k inner child None
   first_fork p n e z = record {
     place = i;
     is_place = p;
@@ -285,7 +284,7 @@ module _ (k : Key) (inner : Inner) (i child : ℕ) where
       differ : (q : ℕ) → None ≡ Some q → ⊥
       differ q h = cc
 
-  pub later_fork : (prior : ℕ) → IsPlace inner.keys k i → i ≡ place_of k inner → child ≡ slice_index inner.children i → i ≢ 0
+  pub later_fork : (prior : ℕ) → IsPlace inner.keys k i → i ≡ child_place k inner → child ≡ slice_index inner.children i → i ≢ 0
       → prior ≡ slice_index inner.children (i - 1) → IsFork k inner child (Some prior)
   later_fork prior p n e ne is = record {
     place = i;
@@ -305,8 +304,8 @@ gap_before k rs i g ne = omega (arith, g.in_range)
 module _ (old new : Option (List (List ℕ))) (page height size : ℕ) where
   pub again_last : (bytes : List ℕ) (child : ℕ) (h0 h1 : Option (List ℕ)) (a b c : Option ℕ) → IsRead old new page height size bytes
       → IsLast size bytes child → Goes (Touches page) h0 h1 → OneFree page h0 a b
-      → ((rs : List Record) → Spells new child (height - 1) rs → ReadsNone (λ pages. last_pages pages (height - 1) child) new h1 b c)
-      → (rs : List Record) → Spells old page height rs → ReadsNone (λ pages. last_pages pages height page) old h0 a c
+      → ((rs : List Record) → SpellsSubtree new child (height - 1) rs → ReadsNone (λ pages. last_pages pages (height - 1) child) new h1 b c)
+      → (rs : List Record) → SpellsSubtree old page height rs → ReadsNone (λ pages. last_pages pages height page) old h0 a c
   again_last bytes child h0 h1 a b c r is t f g = λ rs s.
       let at = ended page height bytes old new size child rs r is s in
       last_again old new page height child (length at.inner.children) at.inner h0 h1 a b c at.at t f (g at.here at.spells)
@@ -339,13 +338,13 @@ leaf_has_last bytes f rs is = some_last rs (leaf_list bytes rs is).least (f rs i
 
 -- what holds where a subtree is sound holds where the tree is
 pub whole_on : {T : Type 0} (r : Result T Stop) (told : Option (List (List ℕ))) (t : Tree) (P : Type 0) → t.height ≢ 0
-    → OnOk r ((rs : List Record) → Spells told t.root t.height rs → P) → OnOk r ((rs : List Record) → IsTree told t rs → P)
+    → OnOk r ((rs : List Record) → SpellsSubtree told t.root t.height rs → P) → OnOk r ((rs : List Record) → IsTree told t rs → P)
 whole_on (Err e) told t P ne f = f
 whole_on (Ok v) told t P ne f = λ rs is. f rs (tree_spells told t rs ne is).0
 
 pub first_whole : {T : Type 0} (r : Result T Stop) (told : Option (List (List ℕ))) (t : Tree) (k : Key) (old new : Option (List ℕ))
     → t.height ≢ 0 → t.height ≤ 3
-    → OnOk r ((rs : List Record) → Spells told t.root t.height rs → TouchesInTurn (λ pages. floor_pages pages k t.height t.root) told old new)
+    → OnOk r ((rs : List Record) → SpellsSubtree told t.root t.height rs → TouchesInTurn (λ pages. floor_pages pages k t.height t.root) told old new)
     → OnOk r ((rs : List Record) → IsTree told t rs → HoldsFirst (λ pages. floor_pages pages k t.height t.root) told old new)
 first_whole {T} (Err e) told t k old new ne le f = f
 first_whole {T} (Ok v) told t k old new ne le f = λ rs is.

@@ -10,7 +10,7 @@ use Rattle.quilt_record.specs.declared.record.Record.{Record}
 use Rattle.quilt_record.specs.Records.{key_cmp}
 use Rattle.quilt_node.specs.Nodes.{IsFound, IsGap}
 use Rattle.quilt_record.specs.Lists.{has_key, put, without}
-use Rattle.quilt_btree.specs.Lists.{value_in, value_of, floor_of}
+use Rattle.quilt_btree.specs.Lists.{value_in, value_at_key, floor_of}
 use Rattle.quilt_record.proofs.Orders.{key_total}
 use Rattle.quilt_btree.proofs.lists.Lists.{IsAmong, value_between, floor_between, any_between, put_between, without_between}
 
@@ -55,18 +55,18 @@ gap_among k rs i g = record { records = sym (take-append-drop i rs); lower = g.b
 has_it : (k : Key) (r : Record) → r.key ≡ k → has_key k r ≡ true
 has_it k r e = ap (λ l. is_eq (key_cmp l k)) e ∙ same_key k
 
-value_one : (k : Key) (r : Record) → r.key ≡ k → value_of k (r ∷ []) ≡ Some r.value
-unfolding value_of
+value_one : (k : Key) (r : Record) → r.key ≡ k → value_at_key k (r ∷ []) ≡ Some r.value
+unfolding value_at_key
 value_one k r e = ap (λ b. value_in (cond b (Some r) None)) (has_it k r e)
 
-pub found_value : (k : Key) (rs : List Record) (i : ℕ) (r : Record) → IsFound k rs i → slice_get rs i ≡ Some r → value_of k rs ≡ Some r.value
+pub found_value : (k : Key) (rs : List Record) (i : ℕ) (r : Record) → IsFound k rs i → slice_get rs i ≡ Some r → value_at_key k rs ≡ Some r.value
 found_value k rs i r f e = value_between k (take i rs) (r ∷ []) (drop (suc i) rs) rs (found_among k rs i r f e) ∙ value_one k r (found_key k rs i r f e)
 
-value_nothing : (k : Key) → value_of k [] ≡ None
-unfolding value_of
+value_nothing : (k : Key) → value_at_key k [] ≡ None
+unfolding value_at_key
 value_nothing k = refl
 
-pub gap_value : (k : Key) (rs : List Record) (i : ℕ) → IsGap k rs i → value_of k rs ≡ None
+pub gap_value : (k : Key) (rs : List Record) (i : ℕ) → IsGap k rs i → value_at_key k rs ≡ None
 gap_value k rs i g = value_between k (take i rs) [] (drop i rs) rs (gap_among k rs i g) ∙ value_nothing k
 
 floor_one : (k : Key) (r : Record) → r.key ≡ k → floor_of k (r ∷ []) ≡ Some r

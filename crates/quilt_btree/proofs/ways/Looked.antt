@@ -3,14 +3,14 @@ use Rattle.std.proofs.Common.{◌≡◌, ◌≢◌, ℕ, ◌-◌, ◌≤◌, Lis
 use Rattle.std.specs.List.{last_or}
 use Rattle.quilt_types.specs.declared.stop.Stop.TheVariants.{Damaged}
 use Rattle.quilt_node.specs.Pages.{Inner, leaf_of, inner_of}
-use Rattle.quilt_store.specs.Stops.{IsSound}
+use Rattle.quilt_store.specs.Stops.{IsNotDamage}
 use Rattle.quilt_types.specs.declared.stop.Stop.{Stop}
 use Rattle.quilt_record.specs.declared.key.Key.{Key}
 use Rattle.quilt_record.specs.declared.record.Record.{Record}
 use Rattle.quilt_btree.specs.Damage.{HasChild, NamesBad}
 use Rattle.quilt_btree.specs.Looks.{ShowsFork, ShowsStep, ShowsLast}
-use Rattle.quilt_btree.specs.Searches.{AreOf, IsFork, IsStep}
-use Rattle.quilt_btree.specs.Trees.{Spells}
+use Rattle.quilt_btree.specs.Searches.{AreOf, IsFork, IsStepDown}
+use Rattle.quilt_btree.specs.Trees.{SpellsSubtree}
 use Rattle.quilt_btree.proofs.ways.Damage.{bad_inner, bad_last}
 use Rattle.quilt_btree.proofs.ways.Forks.{IsRead, Forked, forked, forks, are_of, leaf_here, leaf_has_last}
 
@@ -26,7 +26,7 @@ module _ (old new : Option (List (List ℕ))) (page height size : ℕ) where
   read_of bytes l are = record { some = l.some; above = l.above; told = l.told; many = l.many; are = are }
 
   pub fork_shown : (k : Key) (child : ℕ) (prior : Option ℕ) (rs : List Record) → IsLooked old new height size → ShowsFork old page size k child prior
-      → Spells old page height rs → Forked old new page height k child prior rs
+      → SpellsSubtree old page height rs → Forked old new page height k child prior rs
   fork_shown k child prior rs l f s =
       forked old new page height size f.bytes k child prior rs (read_of f.bytes l f.are) f.fork s
 
@@ -41,7 +41,7 @@ module _ (told : Option (List (List ℕ))) (page n size : ℕ) (bytes : List ℕ
 
   pub shows_step : (k : Key) (high : Option Key) (child : ℕ) (next : Option Key) → n ≡ size
       → IfSome told (λ pages. bytes ≡ slice_index_or pages page []) → HasChild n bytes child
-      → ((inner : Inner) → inner_of n bytes ≡ Some inner → IsStep k inner high child next) → ShowsStep told page size k high child next
+      → ((inner : Inner) → inner_of n bytes ≡ Some inner → IsStepDown k inner high child next) → ShowsStep told page size k high child next
   shows_step k high child next e shown h f =
       subst (λ m. ShowsStep told page m k high child next) e (record { bytes = bytes; are = are_of told page bytes shown; stands = h; step = f })
 
@@ -66,7 +66,7 @@ module _ (told : Option (List (List ℕ))) (page : ℕ) (bytes : List ℕ) where
   -- a leaf that has no last record
   pub end_sound : (e : Stop) → IfSome told (λ pages. bytes ≡ slice_index_or pages page [])
       → ((rs : List Record) → leaf_of bytes ≡ Some rs → None ≡ last_or None rs) → (height : ℕ) (rs : List Record) → height ≡ 1
-      → Spells told page height rs → IsSound e
+      → SpellsSubtree told page height rs → IsNotDamage e
   end_sound e shown f height rs one s =
       absurd (leaf_has_last bytes f rs (leaf_here told page height bytes rs one (are_of told page bytes shown) s))
 
@@ -86,14 +86,14 @@ module _ (told : Option (List (List ℕ))) (page height : ℕ) where
   }
 
   pub leaf_sound : {T : Type 0} (r : Result T Stop) → height ≡ 1
-      → IfErr r (λ e. (height : ℕ) (rs : List Record) → height ≡ 1 → Spells told page height rs → IsSound e)
-      → IfErr r (λ e. (rs : List Record) → Spells told page height rs → IsSound e)
+      → IfErr r (λ e. (height : ℕ) (rs : List Record) → height ≡ 1 → SpellsSubtree told page height rs → IsNotDamage e)
+      → IfErr r (λ e. (rs : List Record) → SpellsSubtree told page height rs → IsNotDamage e)
   leaf_sound (Ok v) one f = f
   leaf_sound (Err e) one f = λ rs s. f height rs one s
 
 module _ (told : Option (List (List ℕ))) (page n size : ℕ) (bytes : List ℕ) where
   pub inner_sound : (e : Stop) → n ≡ size → IfSome told (λ pages. length pages ≡ size) → IfSome told (λ pages. bytes ≡ slice_index_or pages page [])
-      → AreNoInner n bytes → (height : ℕ) (rs : List Record) → 1 ≤ height → height ≢ 1 → Spells told page height rs → IsSound e
+      → AreNoInner n bytes → (height : ℕ) (rs : List Record) → 1 ≤ height → height ≢ 1 → SpellsSubtree told page height rs → IsNotDamage e
   inner_sound e same many shown none height rs some above s =
       forks told told page height n bytes e (read_at told page height n size bytes some above same many shown) none rs s
 

@@ -11,14 +11,14 @@ use Rattle.quilt_record.specs.declared.key.Key.{Key}
 use Rattle.quilt_record.specs.declared.record.Record.{Record}
 use Rattle.quilt_record.specs.Records.{key_cmp}
 use Rattle.quilt_node.specs.Pages.{Inner, leaf_of, inner_of}
-use Rattle.quilt_node.specs.Nodes.{IsPlace, records_of}
+use Rattle.quilt_node.specs.Nodes.{IsPlace, page_records}
 use Rattle.quilt_node.specs.Tree.{is_below}
 use Rattle.quilt_node.proofs.Places.{leaf_records}
-use Rattle.quilt_btree.specs.declared.reading.Found.{Found}
-use Rattle.quilt_btree.specs.Searches.{AreOf, IsStep}
-use Rattle.quilt_store.specs.Stops.{IsSound}
+use Rattle.quilt_btree.specs.declared.step.Found.{Found}
+use Rattle.quilt_btree.specs.Searches.{AreOf, IsStepDown}
+use Rattle.quilt_store.specs.Stops.{IsNotDamage}
 use Rattle.quilt_btree.specs.Arrivals.{Arrives}
-use Rattle.quilt_btree.specs.Trees.{Spells, LeadsTo, IsCut}
+use Rattle.quilt_btree.specs.Trees.{SpellsSubtree, LeadsToLeaf, IsCut}
 use Rattle.quilt_btree.proofs.subtrees.Descending.{leads_below, along_told, leads_up, leaf_leads}
 use Rattle.quilt_btree.proofs.subtrees.Dividing.{cut_up, leaf_cut}
 use Rattle.quilt_btree.proofs.ways.Forks.{IsRead, page_here, leaf_here}
@@ -26,7 +26,7 @@ use Rattle.quilt_btree.proofs.subtrees.Trees.{inner_list, leaf_list}
 
 -- the step down from an inner page
 abbrev pub StepsTo : ℕ → List ℕ → Key → Option Key → ℕ → Option Key → Type 0
-StepsTo size bytes k start child next = (inner : Inner) → inner_of size bytes ≡ Some inner → IsStep k inner start child next
+StepsTo size bytes k start child next = (inner : Inner) → inner_of size bytes ≡ Some inner → IsStepDown k inner start child next
 
 -- the leaf is one of the pages that were told before
 pub told_before : (old new : Option (List (List ℕ))) (page : ℕ) (last : List ℕ) → new ≡ old → AreOf old page last → AreOf new page last
@@ -48,20 +48,20 @@ pub record Down : Type 0 where
   pub steps : StepsTo size bytes key start child next
 
 -- the child spells a part of the records
-step_spells : (d : Down) (rs : List Record) → Spells d.old d.page d.height rs → (here : List Record) × Spells d.new d.child (d.height - 1) here
+step_spells : (d : Down) (rs : List Record) → SpellsSubtree d.old d.page d.height rs → (here : List Record) × SpellsSubtree d.new d.child (d.height - 1) here
 step_spells d rs s =
     let is = d.is_read in
     let h = page_here is s in
     let st = d.steps h.inner h.is in
     let low = leads_below d.old d.page d.height rs h.inner st.place d.key is.some is.above s h.reads st.is_place in (
       low.here,
-      subst (λ c. Spells d.new c (d.height - 1) low.here) (sym st.child_is)
+      subst (λ c. SpellsSubtree d.new c (d.height - 1) low.here) (sym st.child_is)
           (along_told d.old d.new (slice_index h.inner.children st.place) (d.height - 1) low.here is.told low.spells),
     )
 
 step_led : (d : Down) (v : Found) (leaf : List Record)
-    → ((rs : List Record) (s : Spells d.new d.child (d.height - 1) rs) → s.bounds.high ≡ d.next → LeadsTo d.key rs leaf d.next v.high)
-    → (rs : List Record) (s : Spells d.old d.page d.height rs) → s.bounds.high ≡ d.start → LeadsTo d.key rs leaf d.start v.high
+    → ((rs : List Record) (s : SpellsSubtree d.new d.child (d.height - 1) rs) → s.bounds.high ≡ d.next → LeadsToLeaf d.key rs leaf d.next v.high)
+    → (rs : List Record) (s : SpellsSubtree d.old d.page d.height rs) → s.bounds.high ≡ d.start → LeadsToLeaf d.key rs leaf d.start v.high
 step_led d v leaf f rs s top =
     let is = d.is_read in
     let h = page_here is s in
@@ -70,11 +70,11 @@ step_led d v leaf f rs s top =
     st.child_is st.next_is f rs s top
 
 step_cut : (d : Down) (leaf : List Record) (high : Option Key)
-    → ((rs : List Record) (s : Spells d.new d.child (d.height - 1) rs) → s.bounds.high ≡ d.next → LeadsTo d.key rs leaf d.next high)
+    → ((rs : List Record) (s : SpellsSubtree d.new d.child (d.height - 1) rs) → s.bounds.high ≡ d.next → LeadsToLeaf d.key rs leaf d.next high)
     → IsCut d.new d.child (d.height - 1) d.key d.next leaf high → IsCut d.old d.page d.height d.key d.start leaf high
 step_cut d leaf high f g =
     let is = d.is_read in
-    let up : (rs : List Record) → Spells d.old d.page d.height rs → IsCut d.old d.page d.height d.key d.start leaf high = λ rs s.
+    let up : (rs : List Record) → SpellsSubtree d.old d.page d.height rs → IsCut d.old d.page d.height d.key d.start leaf high = λ rs s.
     let h = page_here is s in
     let st = d.steps h.inner h.is in
     cut_up d.old d.page d.height st.place h.inner d.start
@@ -94,12 +94,12 @@ step_arrives d (Ok v) f = λ last are.
     record {
       leaf = λ rs s. let here = step_spells d rs s in low.leaf here.0 here.1;
       least = λ rs s. let here = step_spells d rs s in low.least here.0 here.1;
-      leads = step_led d v (records_of last) low.leads;
-      cut = step_cut d (records_of last) v.high low.leads low.cut;
+      leads = step_led d v (page_records last) low.leads;
+      cut = step_cut d (page_records last) v.high low.leads low.cut;
     }
 
-pub step_sound : {T : Type 0} (d : Down) (r : Result T Stop) → IfErr r (λ e. (rs : List Record) → Spells d.new d.child (d.height - 1) rs → IsSound e)
-    → IfErr r (λ e. (rs : List Record) → Spells d.old d.page d.height rs → IsSound e)
+pub step_sound : {T : Type 0} (d : Down) (r : Result T Stop) → IfErr r (λ e. (rs : List Record) → SpellsSubtree d.new d.child (d.height - 1) rs → IsNotDamage e)
+    → IfErr r (λ e. (rs : List Record) → SpellsSubtree d.old d.page d.height rs → IsNotDamage e)
 step_sound d (Ok v) f = f
 step_sound {T} d (Err e) f = λ rs s. let here = step_spells d rs s in f here.0 here.1
 
@@ -110,20 +110,20 @@ step_above (Ok v) k start next g f = λ h. f (g h)
 
 module _ (told : Option (List (List ℕ))) (page height : ℕ) (bytes : List ℕ) where
   -- the leaf itself
-  here_led : (k : Key) (high : Option Key) → height ≡ 1 → AreOf told page bytes → (rs : List Record) (s : Spells told page height rs)
-      → s.bounds.high ≡ high → LeadsTo k rs (records_of bytes) high high
+  here_led : (k : Key) (high : Option Key) → height ≡ 1 → AreOf told page bytes → (rs : List Record) (s : SpellsSubtree told page height rs)
+      → s.bounds.high ≡ high → LeadsToLeaf k rs (page_records bytes) high high
   here_led k high one are rs s top =
       let is = leaf_here told page height bytes rs one are s in
-      subst (λ l. LeadsTo k rs l high high) (sym (leaf_records bytes rs is))
+      subst (λ l. LeadsToLeaf k rs l high high) (sym (leaf_records bytes rs is))
       (leaf_leads told page height k rs high one (λ pages t. ap leaf_of (sym (are pages t)) ∙ is) rs s top)
 
-  here_leaf : height ≡ 1 → AreOf told page bytes → (rs : List Record) → Spells told page height rs → leaf_of bytes ≡ Some (records_of bytes)
+  here_leaf : height ≡ 1 → AreOf told page bytes → (rs : List Record) → SpellsSubtree told page height rs → leaf_of bytes ≡ Some (page_records bytes)
   here_leaf one are rs s =
       let is = leaf_here told page height bytes rs one are s in
       is ∙ ap Some (sym (leaf_records bytes rs is))
 
 here_least : (told : Option (List (List ℕ))) (page height : ℕ) (bytes : List ℕ) → height ≡ 1 → AreOf told page bytes → (rs : List Record)
-    → Spells told page height rs → 1 ≤ length (records_of bytes)
+    → SpellsSubtree told page height rs → 1 ≤ length (page_records bytes)
 here_least told page height bytes one are rs s =
     let is = leaf_here told page height bytes rs one are s in
     subst (λ (l : List Record). 1 ≤ length l) (sym (leaf_records bytes rs is)) (leaf_list bytes rs is).least
@@ -134,7 +134,7 @@ here_arrives told page height bytes k high one are = record {
   leaf = here_leaf told page height bytes one are;
   least = here_least told page height bytes one are;
   leads = here_led told page height bytes k high one are;
-  cut = leaf_cut told page height k (records_of bytes) high one;
+  cut = leaf_cut told page height k (page_records bytes) high one;
 }
 
 -- the step in the bytes of a well formed page
@@ -152,14 +152,14 @@ keys_many pages bytes inner i n is many more = let e = (inner_list pages bytes i
 
 module _ (inner : Inner) (k : Key) (i child : ℕ) (high : Option Key) where
   pub last_step : (pages : ℕ) (bytes : List ℕ) (n : ℕ) → inner_of pages bytes ≡ Some inner → IsPlace inner.keys k i → n ≡ length inner.children
-      → n ≤ i + 1 → child ≡ slice_index inner.children i → IsStep k inner high child high
+      → n ≤ i + 1 → child ≡ slice_index inner.children i → IsStepDown k inner high child high
   last_step pages bytes n is p many le c =
       let l = inner_list pages bytes inner is in
       let few : length inner.keys ≤ i = let e = l.keys in omega arith in
       record { place = i; is_place = p; child_is = c; next_is = sym (ap (λ o. option_or o high) (key_missing inner.keys i few)) }
 
   pub next_step : (next : Key) → IsPlace inner.keys k i → child ≡ slice_index inner.children i → slice_get inner.keys i ≡ Some next
-      → IsStep k inner high child (Some next)
+      → IsStepDown k inner high child (Some next)
   next_step next p c is = record { place = i; is_place = p; child_is = c; next_is = sym (ap (λ o. option_or o high) is) }
 
 first_over : (k next : Key) (ks : List Key) (i : ℕ) → list_all (λ l. is_lt (key_cmp k l)) (drop i ks) ≡ true → slice_get ks i ≡ Some next

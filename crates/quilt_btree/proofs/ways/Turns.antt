@@ -11,7 +11,7 @@ use Rattle.quilt_store.specs.Store.{Touches}
 use Rattle.quilt_world.specs.Tale.{Goes}
 use Rattle.quilt_types.specs.declared.stop.Stop.{Stop}
 use Rattle.quilt_btree.specs.Trees.{ReadsInner}
-use Rattle.quilt_btree.specs.Floors.{last_pages, finds_floor, floor_pages, before_child, place_of, TouchesInTurn, HoldsFirst, ReadsNone}
+use Rattle.quilt_btree.specs.Floors.{last_pages, finds_floor, floor_pages, before_child, child_place, TouchesInTurn, HoldsFirst, ReadsNone}
 use Rattle.quilt_btree.proofs.subtrees.Descending.{AtFloor}
 use Rattle.quilt_btree.proofs.stores.Held.{OneFree, one_turn, more_turns, turns_first, one_free, part_free, more_free}
 use Rattle.quilt_btree.proofs.ways.Floors.{last_splits, floor_splits, finds_splits, child_before, length_floor}
@@ -53,13 +53,13 @@ abbrev before_in : List (List ℕ) → Key → ℕ → Inner → ℕ → List �
 before_in pages k height inner i = before_child (finds_floor pages k (height - 1)) (last_pages pages (height - 1)) inner i
 
 module _ (old new : Option (List (List ℕ))) (page height child i : ℕ) (k : Key) (inner : Inner) where
-  floor_parts : AtFloor old new page height child i k inner → i ≡ place_of k inner → (pages : List (List ℕ)) → old ≡ Some pages
+  floor_parts : AtFloor old new page height child i k inner → i ≡ child_place k inner → (pages : List (List ℕ)) → old ≡ Some pages
       → floor_pages pages k height page ≡ page ∷ (floor_pages pages k (height - 1) child ++ before_in pages k height inner i)
   floor_parts a place pages is =
       floor_splits pages k height page child i inner a.some a.above (a.reads pages is) place a.is_child
 
   -- no more is read than under it
-  pub floor_touched : (h0 h1 h2 : Option (List ℕ)) → AtFloor old new page height child i k inner → i ≡ place_of k inner → Goes (Touches page) h0 h1
+  pub floor_touched : (h0 h1 h2 : Option (List ℕ)) → AtFloor old new page height child i k inner → i ≡ child_place k inner → Goes (Touches page) h0 h1
       → TouchesInTurn (λ pages. floor_pages pages k (height - 1) child) new h1 h2
       → ((pages : List (List ℕ)) → new ≡ Some pages → before_in pages k height inner i ≡ [])
       → TouchesInTurn (λ pages. floor_pages pages k height page) old h0 h2
@@ -69,7 +69,7 @@ module _ (old new : Option (List (List ℕ))) (page height child i : ℕ) (k : K
       ∙ ap (λ l. page ∷ (under ++ l)) (none pages (a.told ∙ is)) ∙ ap (λ l. page ∷ l) (append-nil under) in
       more_turns (floor_pages pages k height page) (page ∷ []) under h0 h1 h2 parts (one_turn (page ∷ []) page h0 h1 refl t) (f pages (a.told ∙ is))
 
-  pub floor_again : (h0 h1 : Option (List ℕ)) (a b c : Option ℕ) → AtFloor old new page height child i k inner → i ≡ place_of k inner
+  pub floor_again : (h0 h1 : Option (List ℕ)) (a b c : Option ℕ) → AtFloor old new page height child i k inner → i ≡ child_place k inner
       → Goes (Touches page) h0 h1 → OneFree page h0 a b → ReadsNone (λ pages. floor_pages pages k (height - 1) child) new h1 b c
       → ReadsNone (λ pages. floor_pages pages k height page) old h0 a c
   floor_again h0 h1 a b c at place t f g = λ pages is.
@@ -81,7 +81,7 @@ module _ (old new : Option (List (List ℕ))) (page height child i : ℕ) (k : K
 
 -- the last record before it too
 pub floor_touched_more : {old new newer : Option (List (List ℕ))} {page height child prior i : ℕ} {k : Key} {inner : Inner}
-    (h0 h1 h2 h3 : Option (List ℕ)) → AtFloor old new page height child i k inner → i ≡ place_of k inner → i ≢ 0 → newer ≡ old
+    (h0 h1 h2 h3 : Option (List ℕ)) → AtFloor old new page height child i k inner → i ≡ child_place k inner → i ≢ 0 → newer ≡ old
     → prior ≡ slice_index inner.children (i - 1) → ((pages : List (List ℕ)) → new ≡ Some pages → finds_floor pages k (height - 1) child ≡ false)
     → Goes (Touches page) h0 h1 → TouchesInTurn (λ pages. floor_pages pages k (height - 1) child) new h1 h2
     → TouchesInTurn (λ pages. last_pages pages (height - 1) prior) newer h2 h3 → TouchesInTurn (λ pages. floor_pages pages k height page) old h0 h3
@@ -96,7 +96,7 @@ floor_touched_more {old = old} {new = new} {page = page} {height = height} {chil
     (more_turns (under ++ more) under more h1 h2 h3 refl (f pages (a.told ∙ is)) (g pages (told ∙ is)))
 
 pub floor_again_more : {old new newer : Option (List (List ℕ))} {page height child prior i : ℕ} {k : Key} {inner : Inner} (h0 h1 h2 : Option (List ℕ))
-    (a b c d : Option ℕ) → AtFloor old new page height child i k inner → i ≡ place_of k inner → i ≢ 0 → newer ≡ old
+    (a b c d : Option ℕ) → AtFloor old new page height child i k inner → i ≡ child_place k inner → i ≢ 0 → newer ≡ old
     → prior ≡ slice_index inner.children (i - 1) → ((pages : List (List ℕ)) → new ≡ Some pages → finds_floor pages k (height - 1) child ≡ false)
     → Goes (Touches page) h0 h1 → OneFree page h0 a b → TouchesInTurn (λ pages. floor_pages pages k (height - 1) child) new h1 h2
     → ReadsNone (λ pages. floor_pages pages k (height - 1) child) new h1 b c → ReadsNone (λ pages. last_pages pages (height - 1) prior) newer h2 c d
@@ -117,7 +117,7 @@ abbrev pub Finds : Option (List (List ℕ)) → Key → ℕ → ℕ → Bool →
 Finds told k height page b = (pages : List (List ℕ)) → told ≡ Some pages → finds_floor pages k height page ≡ b
 
 module _ (old new : Option (List (List ℕ))) (page height child i : ℕ) (k : Key) (inner : Inner) (a : AtFloor old new page height child i k inner)
-    (place : i ≡ place_of k inner) where
+    (place : i ≡ child_place k inner) where
   finds_parts : (pages : List (List ℕ)) → old ≡ Some pages → finds_floor pages k height page ≡ (nat_lt 0 i || finds_floor pages k (height - 1) child)
   finds_parts pages is =
       finds_splits pages k height page child i inner a.some a.above (a.reads pages is) place a.is_child

@@ -5,7 +5,7 @@ ghost use Rattle.quilt_world.specs.Doors.{attached, made, OpensAt, MakesAt, Take
 ghost use Rattle.quilt_world.specs.Tale.{Adds, Goes};
 ghost use Rattle.quilt_world.specs.declared.disk.Door.TheVariants as doors;
 ghost use Rattle.quilt_world.specs.declared.event.Event.TheVariants.{Wrote, Tore, Synced, Put};
-ghost use Rattle.quilt_desk.specs.Sources.{Gives};
+ghost use Rattle.quilt_desk.specs.Sources.{SourceGives};
 ghost use Rattle.quilt_desk.specs.CalmViews.{path_of, shelf_of, disk_of, room_of, source_of, written_by, KeepsFile, KeepsStreams};
 
 use super::Calm;
@@ -140,7 +140,7 @@ impl World for Calm {
         ensures took { IfOk result (λ n. Goes (TakesFrom (take n into.new)) (⟦<Calm as Disk>⟧.told self.old) (⟦<Calm as Disk>⟧.told self.new)) }
         ensures nothing { OnErr result (Goes (Adds []) (⟦<Calm as Disk>⟧.told self.old) (⟦<Calm as Disk>⟧.told self.new)) }
         ensures ok { IsOk result }
-        ensures gives { IfOk result (λ n. Gives (source_of self.old) (take n into.new) (length into.old) (source_of self.new)) }
+        ensures gives { IfOk result (λ n. SourceGives (source_of self.old) (take n into.new) (length into.old) (source_of self.new)) }
         ensures written { written_by self.new ≡ written_by self.old }
         ensures file { KeepsFile self.old self.new }
     {

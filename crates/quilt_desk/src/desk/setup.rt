@@ -2,7 +2,7 @@ ghost use Rattle.std.specs.Prelude.{◌≡◌, ◌≤◌, [], ◌∷◌, ◌++�
 ghost use Rattle.std.specs.Option.{option_copied};
 ghost use Rattle.quilt_world.specs.Tale.{put_bytes};
 ghost use Rattle.quilt_world.specs.declared.disk.Door.TheVariants as doors;
-ghost use Rattle.quilt_desk.specs.DeskViews.{calls_of, failing_of, file_of, most_of, HasRoom};
+ghost use Rattle.quilt_desk.specs.DeskViews.{calls_of, failing_of, file_of, most_of, LogHasRoom};
 
 use super::Desk;
 use crate::calls::Calls;
@@ -28,7 +28,7 @@ impl Desk {
         ensures calls { IfOk result (λ d. calls_of d ≡ 0) }
         ensures failing { IfOk result (λ d. failing_of d ≡ []) }
         ensures most { IfOk result (λ d. most_of d ≡ usize.MAX) }
-        ensures room { IfOk result HasRoom }
+        ensures room { IfOk result LogHasRoom }
     {
         let was_there = file.is_some();
         let shelf = match file {
@@ -61,7 +61,7 @@ impl Desk {
         ensures err { OnErr result (failing_of self.new ≡ failing_of self.old) }
         ensures calls { calls_of self.new ≡ calls_of self.old }
         ensures most { most_of self.new ≡ most_of self.old }
-        ensures room { HasRoom self.old → HasRoom self.new }
+        ensures room { LogHasRoom self.old → LogHasRoom self.new }
         ensures told { ⟦<Desk as Disk>⟧.told self.new ≡ ⟦<Desk as Disk>⟧.told self.old }
         ensures door { ⟦<Desk as Disk>⟧.door self.new ≡ ⟦<Desk as Disk>⟧.door self.old }
         ensures faults { ⟦<Desk as Disk>⟧.faults self.new ≡ ⟦<Desk as Disk>⟧.faults self.old }
@@ -74,7 +74,7 @@ impl Desk {
     pub fn piece(&mut self, most: usize)
         requires { 1 ≤ most }
         ensures most { most_of self.new ≡ most }
-        ensures room { HasRoom self.old → HasRoom self.new }
+        ensures room { LogHasRoom self.old → LogHasRoom self.new }
         ensures failing { failing_of self.new ≡ failing_of self.old }
         ensures calls { calls_of self.new ≡ calls_of self.old }
         ensures told { ⟦<Desk as Disk>⟧.told self.new ≡ ⟦<Desk as Disk>⟧.told self.old }

@@ -5,7 +5,7 @@ ghost use Rattle.quilt_world.specs.Doors.{attached, made, OpensAt, MakesAt, Take
 ghost use Rattle.quilt_world.specs.Tale.{Adds, Goes};
 ghost use Rattle.quilt_world.specs.declared.disk.Door.TheVariants as doors;
 ghost use Rattle.quilt_world.specs.declared.event.Event.TheVariants.{Wrote, Tore, Synced, Put};
-ghost use Rattle.quilt_desk.specs.DeskViews.{file_of, most_of, FailsNext, HasRoom, CountsCall};
+ghost use Rattle.quilt_desk.specs.DeskViews.{file_of, most_of, FailsNext, LogHasRoom, CountsCall};
 
 use super::Desk;
 use crate::copies::Copies;
@@ -51,7 +51,7 @@ impl Disk for Desk {
         ensures nothing { Goes (Adds []) (⟦<Desk as Disk>⟧.told self.old) (⟦<Desk as Disk>⟧.told self.new) }
         ensures bytes { OnOk result (IfSome (⟦<Desk as Disk>⟧.told self.new) (λ new. into.new ≡ slice_index_or new.seen i [])) }
         ensures call { CountsCall self.old self.new }
-        ensures room { HasRoom self.old → HasRoom self.new }
+        ensures room { LogHasRoom self.old → LogHasRoom self.new }
         ensures named { IsErr result ↔ FailsNext self.old }
     {
         self.reads = self.reads.saturating_add(1);
@@ -71,9 +71,9 @@ impl Disk for Desk {
         ensures tore { OnErr result
             (Goes (λ old new. Adds (Tore i ∷ []) old new ⊎ Adds [] old new) (⟦<Desk as Disk>⟧.told self.old) (⟦<Desk as Disk>⟧.told self.new)) }
         ensures call { CountsCall self.old self.new }
-        ensures torn { FailsNext self.old → HasRoom self.old
+        ensures torn { FailsNext self.old → LogHasRoom self.old
             → Goes (Adds (Tore i ∷ [])) (⟦<Desk as Disk>⟧.told self.old) (⟦<Desk as Disk>⟧.told self.new) }
-        ensures room { OnOk result (HasRoom self.new) }
+        ensures room { OnOk result (LogHasRoom self.new) }
         ensures named { FailsNext self.old → IsErr result }
     {
         self.writes = self.writes.saturating_add(1);
@@ -111,7 +111,7 @@ impl Disk for Desk {
         ensures synced { OnOk result (Goes (Adds (Synced ∷ [])) (⟦<Desk as Disk>⟧.told self.old) (⟦<Desk as Disk>⟧.told self.new)) }
         ensures nothing { OnErr result (Goes (Adds []) (⟦<Desk as Disk>⟧.told self.old) (⟦<Desk as Disk>⟧.told self.new)) }
         ensures call { CountsCall self.old self.new }
-        ensures room { HasRoom self.old → HasRoom self.new }
+        ensures room { LogHasRoom self.old → LogHasRoom self.new }
         ensures named { FailsNext self.old → IsErr result }
     {
         self.calls.begin()?;
@@ -130,7 +130,7 @@ impl World for Desk {
         ensures tale { Goes (OpensAt path.now (⟦<Desk as Disk>⟧.door self.new)) (⟦<Desk as Disk>⟧.told self.old) (⟦<Desk as Disk>⟧.told self.new) }
         ensures file { file_of self.new ≡ file_of self.old }
         ensures call { CountsCall self.old self.new }
-        ensures room { HasRoom self.old → HasRoom self.new }
+        ensures room { LogHasRoom self.old → LogHasRoom self.new }
         ensures named { IsErr result ↔ FailsNext self.old }
     {
         self.door = Door::Failed;
@@ -158,7 +158,7 @@ impl World for Desk {
         ensures tale { Goes (MakesAt path.now pages (⟦<Desk as Disk>⟧.door self.new)) (⟦<Desk as Disk>⟧.told self.old) (⟦<Desk as Disk>⟧.told self.new) }
         ensures file { ⟦<Desk as Disk>⟧.door self.new ≡ doors.Taken → file_of self.new ≡ file_of self.old }
         ensures call { CountsCall self.old self.new }
-        ensures room { HasRoom self.old → HasRoom self.new }
+        ensures room { LogHasRoom self.old → LogHasRoom self.new }
         ensures named { FailsNext self.old → IsErr result }
     {
         self.door = Door::Failed;
@@ -188,7 +188,7 @@ impl World for Desk {
         ensures took { IfOk result (λ n. Goes (TakesFrom (take n into.new)) (⟦<Desk as Disk>⟧.told self.old) (⟦<Desk as Disk>⟧.told self.new)) }
         ensures nothing { OnErr result (Goes (Adds []) (⟦<Desk as Disk>⟧.told self.old) (⟦<Desk as Disk>⟧.told self.new)) }
         ensures call { CountsCall self.old self.new }
-        ensures room { HasRoom self.old → HasRoom self.new }
+        ensures room { LogHasRoom self.old → LogHasRoom self.new }
         ensures named { FailsNext self.old → IsErr result }
         ensures most { IfOk result (λ n. n ≤ most_of self.old) }
     {
@@ -217,7 +217,7 @@ impl World for Desk {
         ensures put { IfOk result (λ n. Goes (Adds (Put (take n bytes.now) ∷ [])) (⟦<Desk as Disk>⟧.told self.old) (⟦<Desk as Disk>⟧.told self.new)) }
         ensures nothing { OnErr result (Goes (Adds []) (⟦<Desk as Disk>⟧.told self.old) (⟦<Desk as Disk>⟧.told self.new)) }
         ensures call { CountsCall self.old self.new }
-        ensures room { HasRoom self.old → HasRoom self.new }
+        ensures room { LogHasRoom self.old → LogHasRoom self.new }
         ensures named { FailsNext self.old → IsErr result }
         ensures most { IfOk result (λ n. n ≡ min (length bytes.now) (most_of self.old)) }
     {

@@ -14,12 +14,12 @@ ghost use Rattle.quilt_journal.specs.declared.journal.State.TheVariants.{Idle};
 ghost use Rattle.quilt_edition.specs.Books.{world_of, pages_of, last_of, work_of, next_of, published_free, IsReady, GoesOn, Publishes, HasPublished, SameBut};
 ghost use Rattle.quilt_journal.specs.Changed.{has_bit};
 ghost use Rattle.quilt_pool.specs.Entries.{AreBelow};
-ghost use Rattle.quilt_edition.specs.Keeping.{IsKeptBy, told_pages, reads_of, is_free, is_left_out, marked_count, IsLater};
+ghost use Rattle.quilt_edition.specs.Keeping.{IsKeptBy, told_pages, tale_reads, is_free, is_left_out, marked_count, IsLater};
 
 use crate::book::Book;
 use crate::free::{Tally, complement_of, count_free_pages};
 use crate::publish::publish_pages;
-use crate::reverting::give_up_pages;
+use crate::revert::give_up_pages;
 use quilt_journal::{Journal, State};
 use quilt_node::{Head, header_bytes};
 use quilt_pool::Pool;

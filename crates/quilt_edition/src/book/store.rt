@@ -2,7 +2,7 @@ ghost use Rattle.quilt_pool.specs.Views.{entries_of};
 ghost use Rattle.std.specs.Prelude.{◌≡◌, Some, refl};
 ghost use Rattle.std.specs.Map.{keys_of};
 ghost use Rattle.quilt_world.specs.Tale.{Goes};
-ghost use Rattle.quilt_edition.specs.Keeping.{told_pages, reads_of, is_free, marked_count, IsLater};
+ghost use Rattle.quilt_edition.specs.Keeping.{told_pages, tale_reads, is_free, marked_count, IsLater};
 ghost use Rattle.quilt_edition.specs.Laws.{free_within, told_many, later_same, later_on};
 ghost use Rattle.std.proofs.Common.{◌∙◌};
 
@@ -27,7 +27,7 @@ impl<W: Disk> PageStore for Book<W> {
 
     ghost held = { λ s. Some (keys_of (entries_of s.pool)) };
 
-    ghost reads = { λ s. reads_of (W.told s.world) };
+    ghost reads = { λ s. tale_reads (W.told s.world) };
 
     ghost changed = { λ s. marked_count s.journal.pages (entries_of s.pool) s.journal.changed };
 

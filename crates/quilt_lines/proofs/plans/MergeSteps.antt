@@ -34,9 +34,9 @@ use Rattle.quilt_line_laws.specs.Lines.{IsMet, none_on}
 use Rattle.quilt_line_laws.specs.Merging.{is_one, becomes_one, going_in}
 use Rattle.quilt_line_laws.proofs.LineFacts.{entry, got}
 use Rattle.quilt_line_laws.proofs.Meeting.{meets_parts}
-use Rattle.quilt_line_laws.specs.Settling.{IsSettled}
+use Rattle.quilt_line_laws.specs.Settling.{IsBlockSettled}
 use Rattle.quilt_line_laws.proofs.Settling.{leaf_step, unmet_step, merge_step, cut_step}
-use Rattle.quilt_lines.specs.declared.merging.Settled.{Settled}
+use Rattle.quilt_lines.specs.declared.merge.Settled.{Settled}
 use Rattle.quilt_lines.specs.Layers.{fact_record}
 use Rattle.quilt_lines.specs.Reads.{ids_of, AreIdsAt}
 use Rattle.quilt_lines.specs.Merges.{records_on, pair_facts, met_by, SettlesBlock, Gathers, IsMerged}
@@ -274,7 +274,7 @@ module _ (n layer t id : ℕ) (segs : SegMap) (cover : BlockSet) (s : Seg) (k : 
 
 -- ---- a block that is none of the layer's, and that is one pixel or is not met
 module _ (n layer t id : ℕ) (segs : SegMap) (cover : BlockSet) (s : Seg) where
-  nothing_settles : (k : ℕ) (b : Block) (x : Settled) → IsSettled t (finmap.remove segs id) cover s k b false [] [] [] → x.one ≡ false
+  nothing_settles : (k : ℕ) (b : Block) (x : Settled) → IsBlockSettled t (finmap.remove segs id) cover s k b false [] [] [] → x.one ≡ false
       → x.coming.items ≡ [] → x.going.items ≡ [] → x.staying.items ≡ [] → x.emptied.items ≡ [] → SettlesBlock n layer t id segs cover s k b x
   nothing_settles k b x step one coming going staying emptied = record {
     one = one ∙ step.is_one;

@@ -20,7 +20,7 @@ use Rattle.quilt_line_laws.proofs.Removing.{remove_law}
 use Rattle.quilt_line_laws.proofs.FactsOnce.{remove_once_law}
 use Rattle.quilt_line_laws.proofs.Counting.{fewer_law}
 use Rattle.quilt_line_laws.proofs.Lawful.{removed_law}
-use Rattle.quilt_lines.specs.declared.merging.Settled.{Settled}
+use Rattle.quilt_lines.specs.declared.merge.Settled.{Settled}
 use Rattle.quilt_lines.specs.Layers.{fact_record}
 use Rattle.quilt_lines.specs.Merges.{met_by, SettlesBlock}
 use Rattle.quilt_lines.specs.Plans.{IsLinePlan}

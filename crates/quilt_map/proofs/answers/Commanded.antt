@@ -24,7 +24,7 @@ use Rattle.quilt_words.specs.declared.command.Command.{Command}
 use Rattle.quilt_words.specs.declared.command.Command.TheVariants as commands
 use Rattle.quilt_journal.specs.Kept.{HasHome}
 use Rattle.quilt_journal.specs.Writing.{Writing}
-use Rattle.quilt_store.specs.Stops.{HasStopCause, IsSound}
+use Rattle.quilt_store.specs.Stops.{HasStopCause, IsNotDamage}
 use Rattle.quilt_edition.specs.Books as books
 use Rattle.quilt_edition.specs.Keeping.{IsLater}
 use Rattle.quilt_edition.proofs.Steps.{seen_home}
@@ -34,10 +34,10 @@ use Rattle.quilt_replies.specs.Answers.{State, answer}
 use Rattle.quilt_map.specs.Commanding.{Answered, IsApplied, IsAppliedBy, IsWholeBy, Refuses}
 use Rattle.quilt_map.specs.Asking.{KeepsAll, reads_in}
 use Rattle.quilt_map.specs.Reading.{IsPromised, ReadsFew}
-use Rattle.quilt_map.specs.Sessions.{IsAt, IsAtState, IsReady, IsSpelled, IsWarm, IsPublishedAs, world_of, format_of, level_of, head_of, changes_of, reads_of}
+use Rattle.quilt_map.specs.Sessions.{IsAt, IsAtState, IsSessionReady, IsSpelled, IsWarm, IsPublishedAs, session_world, format_of, level_of, head_of, changes_of, reads_of}
 use Rattle.quilt_map.specs.Sessions.{free_of, changed_of, last_count}
 use Rattle.quilt_replies.specs.States.{Tells, IsRefusal, after}
-use Rattle.quilt_map.specs.Steps.{Leaves, StandsFor, WritesFew, asks, changes_after, gives_edition, goes_back}
+use Rattle.quilt_map.specs.Steps.{LeavesEdition, StandsFor, CommandWritesFew, asks, changes_after, gives_edition, goes_back}
 use Rattle.quilt_replies.specs.declared.reply.Reply.{Reply}
 use Rattle.quilt_replies.specs.declared.reply.Reply.TheVariants as given
 use Rattle.quilt_map.specs.declared.session.Session.{Session}
@@ -65,7 +65,7 @@ only_pages : (added : List Event) → Only is_write added → Only is_of_pages a
 only_pages [] only = refl
 only_pages (e ∷ es) only = let parts = and_parts (is_write e) (list_all is_write es) only in rw (write_of_pages e parts.0) (only_pages es parts.1)
 
-damaged_of : {T : Type 0} (At : State → Type 0) (r : Result T Stop) → IfErr r (λ e. (s : State) → At s → IsSound e)
+damaged_of : {T : Type 0} (At : State → Type 0) (r : Result T Stop) → IfErr r (λ e. (s : State) → At s → IsNotDamage e)
     → IfErr r (λ stop. (page : ℕ) → stop ≡ stops.Damaged page → (s : State) → At s → ⊥)
 damaged_of At (Ok x) h = tt
 damaged_of At (Err e) h = λ page is s at. h s at page is
@@ -187,8 +187,8 @@ module _ {W : Type 0} {D : disk.Ghosts W} where
     kept_head (Ok reply) h = λ no_. let k = h no_ in (k.0, ap (λ (x : Head). x.format) k.0, k.1)
     kept_head (Err e) h = tt
 
-    ready_on : books.IsReady old.book → books.GoesOn old.book new.book → IsReady new
-    unfolding IsReady
+    ready_on : books.IsReady old.book → books.GoesOn old.book new.book → IsSessionReady new
+    unfolding IsSessionReady
     ready_on ready goes = goes.1 ∙ ready
 
   -- ---- a book that goes on
@@ -197,19 +197,19 @@ module _ {W : Type 0} {D : disk.Ghosts W} where
     unfolding level_of
     level_on = ap (λ (h : Head). h.level) goes.2
 
-    events_on : Goes (AddsOnly is_of_pages) (D.told (world_of old)) (D.told (world_of new))
-    unfolding world_of
+    events_on : Goes (AddsOnly is_of_pages) (D.told (session_world old)) (D.told (session_world new))
+    unfolding session_world
     events_on =
         goes_map (IsLater old.book.journal.pages) (AddsOnly is_of_pages) (D.told old.book.world) (D.told new.book.world)
         (λ t u is l. record { file = l.tries.file; events = l.tries.added; log = l.tries.log; only = only_pages l.tries.added l.tries.only }) goes.4
 
-    input_on : Goes (λ old new. new.input ≡ old.input) (D.told (world_of old)) (D.told (world_of new))
-    unfolding world_of
+    input_on : Goes (λ old new. new.input ≡ old.input) (D.told (session_world old)) (D.told (session_world new))
+    unfolding session_world
     input_on =
         goes_map (IsLater old.book.journal.pages) (λ t u. u.input ≡ t.input) (D.told old.book.world) (D.told new.book.world) (λ t u is l. l.tries.input) goes.4
 
     leaves_from : (command : Command) (s : State) → IsAtState old s → (t u : Tale) → D.told old.book.world ≡ Some t
-        → IsLater old.book.journal.pages t u → Leaves s command t u
+        → IsLater old.book.journal.pages t u → LeavesEdition s command t u
     leaves_from command s at t u told later =
         let n = old.book.journal.pages in
         let same : at.tale ≡ t = let e : Some at.tale ≡ Some t = sym at.told ∙ told in cc in
@@ -222,16 +222,16 @@ module _ {W : Type 0} {D : disk.Ghosts W} where
               (λ image has. inl (book_stands old.book t told at.ready old.last s.last image last (subst (λ (p : Pages). HasHome n p image) home_is has)));
         }
 
-    leaves_on : (command : Command) (s : State) → IsAtState old s → Goes (Leaves s command) (D.told (world_of old)) (D.told (world_of new))
-    unfolding world_of
-    leaves_on command s at = goes_map (IsLater old.book.journal.pages) (Leaves s command) (D.told old.book.world) (D.told new.book.world)
+    leaves_on : (command : Command) (s : State) → IsAtState old s → Goes (LeavesEdition s command) (D.told (session_world old)) (D.told (session_world new))
+    unfolding session_world
+    leaves_on command s at = goes_map (IsLater old.book.journal.pages) (LeavesEdition s command) (D.told old.book.world) (D.told new.book.world)
         (λ t u is l. leaves_from command s at t u is l) goes.4
 
     few_on : (command : Command) → gives_edition command ≡ false → (s : State)
-        → Goes (WritesFew s command (changes_of old)) (D.told (world_of old)) (D.told (world_of new))
-    unfolding world_of changes_of
+        → Goes (CommandWritesFew s command (changes_of old)) (D.told (session_world old)) (D.told (session_world new))
+    unfolding session_world changes_of
     few_on command quiet s =
-        goes_map (IsLater old.book.journal.pages) (WritesFew s command old.changes) (D.told old.book.world) (D.told new.book.world)
+        goes_map (IsLater old.book.journal.pages) (CommandWritesFew s command old.changes) (D.told old.book.world) (D.told new.book.world)
         (λ t u is l some. absurd (let no_ : false ≡ true = sym (ap (λ (o : Option Edition). is_some o) (quiet_none s command quiet)) ∙ some in cc)) goes.4
 
 -- ---- a session that may give an edition
@@ -245,20 +245,20 @@ writing_events a b w = goes_map (λ old new. (most : ℕ) × Writing most old ne
 writing_input : (a b : Option Tale) → WritesPages a b → Goes (λ old new. new.input ≡ old.input) a b
 writing_input a b w = goes_map (λ old new. (most : ℕ) × Writing most old new) (λ t u. u.input ≡ t.input) a b (λ t u is x. x.1.input) w
 
-writing_few : (a b : Option Tale) (s : State) (command : Command) (k : ℕ) → Goes (Writing (18 * k + 8)) a b → Goes (WritesFew s command k) a b
-writing_few a b s command k w = goes_map (Writing (18 * k + 8)) (WritesFew s command k) a b (λ t u is x some. x) w
+writing_few : (a b : Option Tale) (s : State) (command : Command) (k : ℕ) → Goes (Writing (18 * k + 8)) a b → Goes (CommandWritesFew s command k) a b
+writing_few a b s command k w = goes_map (Writing (18 * k + 8)) (CommandWritesFew s command k) a b (λ t u is x some. x) w
 
 on_ok : {T E : Type 0} (P : Type 0) (r : Result T E) → P → OnOk r P
 on_ok P (Ok x) h = h
 on_ok P (Err e) h = tt
 
-pub sound_at : {T : Type 0} (At : State → Type 0) (r : Result T Stop) → IfErr r IsSound → IfErr r (λ e. (s : State) → At s → IsSound e)
+pub sound_at : {T : Type 0} (At : State → Type 0) (r : Result T Stop) → IfErr r IsNotDamage → IfErr r (λ e. (s : State) → At s → IsNotDamage e)
 sound_at At (Ok x) h = tt
 sound_at At (Err e) h = λ s at. h
 
 module _ {W : Type 0} {D : disk.Ghosts W} (old new : Session W D) (command other : Command) (same : other ≡ command) (r : Result Reply Stop)
     (answers : IfOk r (λ reply. (s : State) → IsAtState old s → Answered s other old new reply))
-    (sound : IfErr r (λ e. (s : State) → IsAtState old s → IsSound e))
+    (sound : IfErr r (λ e. (s : State) → IsAtState old s → IsNotDamage e))
     (cause : HasStopCause (D.faults old.book.world) (D.faults new.book.world) r)
     (reads : (s : State) → IsAtState old s → IsPromised s command r → ReadsFew s command (reads_in old.book) (reads_in new.book))
     (refuses : IfOk r (Refuses old new)) where
@@ -266,7 +266,7 @@ module _ {W : Type 0} {D : disk.Ghosts W} (old new : Session W D) (command other
   pub applied_going : books.IsReady old.book → books.GoesOn old.book new.book → gives_edition command ≡ false
       → (goes_back command ≡ true → (new.book.world ≡ old.book.world) × OnErr r (new ≡ old))
       → (asks command ≡ true → (s : State) → IsAtState old s → IsAtState new s) → IsAppliedBy IsAtState command old new r
-  unfolding world_of reads_of
+  unfolding session_world reads_of
   applied_going ready goes quiet back stays = record {
     answer = answer_of old new command other same r answers;
     refused = refused_keeps old new command other same r answers;
@@ -281,7 +281,7 @@ module _ {W : Type 0} {D : disk.Ghosts W} (old new : Session W D) (command other
     crash = leaves_on old new goes command;
     writes = λ s at. few_on old new goes command quiet s;
     reads = reads;
-    ready = on_ok (IsReady new) r (ready_on old new ready goes);
+    ready = on_ok (IsSessionReady new) r (ready_on old new ready goes);
     kept = kept_head old new r refuses;
     stays = stays;
     whole = whole_going old new command r quiet (λ is. (back is).1);
@@ -293,10 +293,10 @@ module _ {W : Type 0} {D : disk.Ghosts W} (old new : Session W D) (command other
   pub applied_giving : gives_edition command ≡ true → OnOk r (books.IsReady new.book) → IfErr r (λ stop. stop ≡ stops.Memory → new ≡ old)
       → OnOk r (new.book.last.level ≡ old.book.last.level) → D.door new.book.world ≡ D.door old.book.world
       → WritesPages (D.told old.book.world) (D.told new.book.world)
-      → ((s : State) → IsAtState old s → Goes (Leaves s other) (D.told old.book.world) (D.told new.book.world))
+      → ((s : State) → IsAtState old s → Goes (LeavesEdition s other) (D.told old.book.world) (D.told new.book.world))
       → ((s : State) → IsAtState old s → Goes (Writing (18 * old.changes + 8)) (D.told old.book.world) (D.told new.book.world))
       → IsAppliedBy IsAtState command old new r
-  unfolding world_of level_of changes_of reads_of IsReady
+  unfolding session_world level_of changes_of reads_of IsSessionReady
   applied_giving gives ready whole level door events crash writes = record {
     answer = answer_of old new command other same r answers;
     refused = refused_keeps old new command other same r answers;
@@ -308,7 +308,7 @@ module _ {W : Type 0} {D : disk.Ghosts W} (old new : Session W D) (command other
     door = door;
     events = writing_events (D.told old.book.world) (D.told new.book.world) events;
     input = writing_input (D.told old.book.world) (D.told new.book.world) events;
-    crash = λ s at. subst (λ (c : Command). Goes (Leaves s c) (D.told old.book.world) (D.told new.book.world)) same (crash s at);
+    crash = λ s at. subst (λ (c : Command). Goes (LeavesEdition s c) (D.told old.book.world) (D.told new.book.world)) same (crash s at);
     writes = λ s at. writing_few (D.told old.book.world) (D.told new.book.world) s command old.changes (writes s at);
     reads = reads;
     ready = ready;
@@ -322,7 +322,7 @@ module _ {W : Type 0} {D : disk.Ghosts W} (old new : Session W D) (command other
 -- a command that only asks: all of the session stays but the last pixel, and the pages that its answer reads are few
 module _ {W : Type 0} {D : disk.Ghosts W} (old new : Session W D) (command other : Command) (is : command ≡ other) (r : Result Reply Stop) where
   pub applied_asking : asks other ≡ true → books.IsReady old.book → IsLawful (D.size new.book.world) (D.told new.book.world)
-      → IfOk r (λ reply. (s : State) → IsAtState old s → Answered s other old new reply) → IfErr r (λ e. (s : State) → IsAtState old s → IsSound e)
+      → IfOk r (λ reply. (s : State) → IsAtState old s → Answered s other old new reply) → IfErr r (λ e. (s : State) → IsAtState old s → IsNotDamage e)
       → HasStopCause (D.faults old.book.world) (D.faults new.book.world) r → KeepsAll old new
       → ((s : State) → IsAtState old s → IsPromised s command r → ReadsFew s command (reads_in old.book) (reads_in new.book))
       → IsAppliedBy IsAtState command old new r
@@ -337,7 +337,7 @@ module _ {W : Type 0} {D : disk.Ghosts W} (old new : Session W D) (w : Option (L
       → IsWarm (record { book = new.book; catalog = new.catalog; last = new.last; changes = new.changes; warm = w; alloc = new.alloc })
       → IsAppliedBy IsAtState command old new r
       → IsApplied command old (record { book = new.book; catalog = new.catalog; last = new.last; changes = new.changes; warm = w; alloc = new.alloc }) r
-  unfolding IsAt world_of level_of head_of format_of changes_of reads_of IsReady
+  unfolding IsAt session_world level_of head_of format_of changes_of reads_of IsSessionReady
   applied_warm command r warm h = record {
     answer = if_ok _ _ r (λ reply p s at. let a = p s at.at in (a.0, record { at = warm_at {D = D} new w (after s command) a.1; warm = warm })) h.answer;
     refused = if_ok _ _ r (λ reply p no_ s at. record { at = warm_at {D = D} new w s (p no_ s at.at); warm = warm }) h.refused;

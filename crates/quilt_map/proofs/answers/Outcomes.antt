@@ -27,7 +27,7 @@ use Rattle.quilt_map.specs.Commanding.{Answered}
 use Rattle.quilt_map.specs.Renewing.{CanPublish, IsRenewed, LeavesEither}
 use Rattle.quilt_map.specs.Sessions.{IsAtState, IsSpelled, told_of, free_of, changed_of, last_count}
 use Rattle.quilt_replies.specs.States.{Tells, after, after_outcome}
-use Rattle.quilt_map.specs.Steps.{Leaves, StandsFor, StandsForNew, changes_after, goes_back}
+use Rattle.quilt_map.specs.Steps.{LeavesEdition, StandsFor, StandsForNew, changes_after, goes_back}
 use Rattle.quilt_replies.specs.Runs.{text_of}
 use Rattle.quilt_lang.specs.Trials.{spaced}
 use Rattle.quilt_replies.specs.declared.reply.Reply as replies
@@ -88,7 +88,7 @@ upgrade_gives s f e =
 
 -- where the command gives an edition
 pub leaves_given : (s : State) (command : Command) (e : Edition) (a b : Option Tale) → (answer s command).published ≡ Some e
-    → Goes (LeavesEither s.last e) a b → Goes (Leaves s command) a b
+    → Goes (LeavesEither s.last e) a b → Goes (LeavesEdition s command) a b
 leaves_given s command e None None is goes = tt
 leaves_given s command e None (Some u) is goes = absurd goes
 leaves_given s command e (Some t) None is goes = absurd goes
@@ -117,10 +117,10 @@ module _ {W : Type 0} {D : disk.Ghosts W} where
 
   -- a stop leaves the last edition
   pub leaves_last : (session : Session W D) (s : State) (command : Command) → IsAtState session s
-      → Goes (Leaves s command) (D.told session.book.world) (D.told session.book.world)
+      → Goes (LeavesEdition s command) (D.told session.book.world) (D.told session.book.world)
   leaves_last session s command at =
       let leaves = book_leaves session.book at.tale at.told at.ready in
-      subst (λ (o : Option Tale). Goes (Leaves s command) o o) (sym at.told) (record {
+      subst (λ (o : Option Tale). Goes (LeavesEdition s command) o o) (sym at.told) (record {
         since = since_here at.tale (StandsFor s command)
             (λ image left. inl (book_stands session.book at.tale at.told at.ready session.last s.last image at.last (leaves image left)));
       })

@@ -18,7 +18,7 @@ use Rattle.quilt_spell.proofs.Maps.{entry_from_get}
 use Rattle.quilt_spell.proofs.Written.{name_same}
 use Rattle.quilt_replies.specs.Answers.{State}
 use Rattle.quilt_replies.specs.declared.reply.Reply.TheVariants as given
-use Rattle.quilt_map.specs.Making.{AnsweredBy, placed}
+use Rattle.quilt_map.specs.Making.{AnsweredBy, layer_placed}
 use Rattle.quilt_map.specs.Planning.{IsFull}
 use Rattle.quilt_map.specs.Sessions.{IsAtState}
 use Rattle.quilt_map.specs.declared.session.Session.{Session}
@@ -67,7 +67,7 @@ module _ {W : Type 0} {D : disk.Ghosts W} (session : Session W D) (s : State) (a
 
   -- the layer of these colours is refused
   pub past_refused : (name : List ℕ) (g : Grid) (n q : ℕ) → q ≡ quota session.book.journal.pages → n ≡ s.last.level → q < length (leaves_by_code n g)
-      → AnsweredBy s (placed s name (Region g)) session session (given.No no.Full)
+      → AnsweredBy s (layer_placed s name (Region g)) session session (given.No no.Full)
   past_refused name g n q is level over =
       let same = at.quota in
       let here : q < length (leaves_by_code s.last.level g) = subst (λ (m : ℕ). q < length (leaves_by_code m g)) level over in

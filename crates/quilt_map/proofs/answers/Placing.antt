@@ -14,7 +14,7 @@ use Rattle.quilt_spell.proofs.Looping.{changes_none}
 use Rattle.quilt_words.specs.declared.command.Command.{Command}
 use Rattle.quilt_replies.specs.Answers.{State, Outcome, Refused, Done, answer, unless, changed, with}
 use Rattle.quilt_map.specs.Commanding.{Answered}
-use Rattle.quilt_map.specs.Making.{AnsweredBy, placed}
+use Rattle.quilt_map.specs.Making.{AnsweredBy, layer_placed}
 use Rattle.quilt_map.specs.Planning.{HasLayer, IsFull, changed_state}
 use Rattle.quilt_replies.specs.Runs.{text_of}
 use Rattle.quilt_map.specs.Sessions.{IsAtWith, IsAtState, last_count}
@@ -29,18 +29,18 @@ abbrev by_quota : State → Map → Bool → Outcome
 by_quota s work b = unless ((b, no.Full) ∷ []) s (changed work)
 
 pub placed_full : (s : State) (name : List ℕ) (layer : Layer) → s.quota < records s.last.level (with s name layer)
-    → placed s name layer ≡ nothing_done s (Refused no.Full)
+    → layer_placed s name layer ≡ nothing_done s (Refused no.Full)
 placed_full s name layer past = ap (by_quota s (with s name layer)) (lt-ltb s.quota (records s.last.level (with s name layer)) past)
 
 pub placed_within : (s : State) (name : List ℕ) (layer : Layer) → records s.last.level (with s name layer) ≤ s.quota
-    → placed s name layer ≡ changed (with s name layer)
+    → layer_placed s name layer ≡ changed (with s name layer)
 placed_within s name layer within = ap (by_quota s (with s name layer)) (le-ltb s.quota (records s.last.level (with s name layer)) within)
 
 none_given : (s : State) (work : Map) (b : Bool) → (by_quota s work b).published ≡ None
 none_given s work true = refl
 none_given s work false = refl
 
-pub placed_none : (s : State) (name : List ℕ) (layer : Layer) → (placed s name layer).published ≡ None
+pub placed_none : (s : State) (name : List ℕ) (layer : Layer) → (layer_placed s name layer).published ≡ None
 placed_none s name layer = none_given s (with s name layer) (nat_lt s.quota (records s.last.level (with s name layer)))
 
 module _ {W : Type 0} {D : disk.Ghosts W} where
@@ -65,7 +65,7 @@ module _ {W : Type 0} {D : disk.Ghosts W} where
 
   -- the quota refuses
   pub full_answer : (old new : Session W D) (s : State) (name : List ℕ) (layer : Layer) → IsAtState old s → IsFull old new s name (Some layer)
-      → AnsweredBy s (placed s name layer) old new (given.No no.Full)
+      → AnsweredBy s (layer_placed s name layer) old new (given.No no.Full)
   full_answer old new s name layer was is =
       subst (λ (o : Outcome). AnsweredBy s o old new (given.No no.Full)) (sym (placed_full s name layer is.past))
       (refused_by old new s no.Full was.bounded is.at is.count)
@@ -73,7 +73,7 @@ module _ {W : Type 0} {D : disk.Ghosts W} where
   -- the layer stands under the name, with its catalog renewed
   pub placed_answer : (old mid new : Session W D) (s : State) (name : List ℕ) (layer : Layer) (entries : List Entry) (text : List ℕ)
       → HasLayer old mid s name (Some layer) entries
-      → new ≡ record mid { catalog = entries } → text ≡ text_of (Done []) → AnsweredBy s (placed s name layer) old new (given.Ok text)
+      → new ≡ record mid { catalog = entries } → text ≡ text_of (Done []) → AnsweredBy s (layer_placed s name layer) old new (given.Ok text)
   placed_answer old mid new s name layer entries text has is told =
       subst (λ (o : Outcome). AnsweredBy s o old new (given.Ok text)) (sym (placed_within s name layer has.within)) (record {
         tells = (told, refl);

@@ -8,16 +8,16 @@ use Rattle.quilt_world.specs.Tale.{Goes}
 use Rattle.quilt_world.specs.declared.disk.Disk as disk
 use Rattle.quilt_words.specs.declared.command.Command.{Command}
 use Rattle.quilt_journal.specs.Writing.{Writing}
-use Rattle.quilt_store.specs.Stops.{HasStopCause, IsSound}
+use Rattle.quilt_store.specs.Stops.{HasStopCause, IsNotDamage}
 use Rattle.quilt_edition.specs.Books as books
 use Rattle.quilt_replies.specs.Answers.{State}
 use Rattle.quilt_replies.specs.declared.reply.Reply.{Reply}
 use Rattle.quilt_map.specs.Asking.{KeepsAll, reads_in}
 use Rattle.quilt_map.specs.Commanding.{Answered, IsApplied, IsAppliedBy, Refuses}
 use Rattle.quilt_map.specs.Reading.{IsPromised, ReadsFew, warm_left}
-use Rattle.quilt_map.specs.Serving.{IsHeldIn, IsServed, ReadsNoneAgain}
+use Rattle.quilt_map.specs.Serving.{IsLastPixelIn, IsServed, ReadsNoneAgain}
 use Rattle.quilt_map.specs.Sessions.{IsAtState}
-use Rattle.quilt_map.specs.Steps.{Leaves, asks, gives_edition, goes_back}
+use Rattle.quilt_map.specs.Steps.{LeavesEdition, asks, gives_edition, goes_back}
 use Rattle.quilt_map.specs.declared.session.Session.{Session}
 use Rattle.quilt_map.proofs.answers.Answered.{keeps_here}
 use Rattle.quilt_map.proofs.answers.Commanded.{WritesPages, applied_asking, applied_giving, applied_going, applied_warm, sound_at}
@@ -31,7 +31,7 @@ IsEdit c = (gives_edition c ≡ false) × (goes_back c ≡ false) × (asks c ≡
 module _ {W : Type 0} {D : disk.Ghosts W} (old new : Session W D) (command other : Command) (is : command ≡ other) (r : Result Reply Stop)
     (ready : books.IsReady old.book)
     (answers : IfOk r (λ reply. (s : State) → IsAtState old s → Answered s command old new reply))
-    (sound : IfErr r (λ e. (s : State) → IsAtState old s → IsSound e))
+    (sound : IfErr r (λ e. (s : State) → IsAtState old s → IsNotDamage e))
     (cause : HasStopCause (D.faults old.book.world) (D.faults new.book.world) r) where
   -- behind a command that is no `at` no pixel is kept
   abbrev Forgets : Type 0
@@ -43,7 +43,7 @@ module _ {W : Type 0} {D : disk.Ghosts W} (old new : Session W D) (command other
   forgetting : Forgets → IsAppliedBy IsAtState command old new r → IsServed command old new r
   forgetting forgets applied = record {
     applied = applied;
-    held = subst (λ (w : Option (List ℕ × Pixel)). IsHeldIn w new) (sym (ap (λ (x : Command). warm_left x r) is ∙ forgets.0)) (cold _ _ _ _);
+    held = subst (λ (w : Option (List ℕ × Pixel)). IsLastPixelIn w new) (sym (ap (λ (x : Command). warm_left x r) is ∙ forgets.0)) (cold _ _ _ _);
     again = subst (λ (x : Command). ReadsNoneAgain x old new) (sym is) forgets.1;
   }
 
@@ -82,14 +82,14 @@ module _ {W : Type 0} {D : disk.Ghosts W} (old new : Session W D) (command other
   pub published : IfOk r (Refuses old new) → OnOk r (books.IsReady new.book) → IfErr r (λ stop. stop ≡ stops.Memory → new ≡ old)
       → OnOk r (new.book.last.level ≡ old.book.last.level) → D.door new.book.world ≡ D.door old.book.world
       → WritesPages (D.told old.book.world) (D.told new.book.world)
-      → ((s : State) → IsAtState old s → Goes (Leaves s command) (D.told old.book.world) (D.told new.book.world))
+      → ((s : State) → IsAtState old s → Goes (LeavesEdition s command) (D.told old.book.world) (D.told new.book.world))
       → ((s : State) → IsAtState old s → Goes (Writing (18 * old.changes + 8)) (D.told old.book.world) (D.told new.book.world))
       → ((s : State) → IsPromised s other r → ⊥) → gives_edition other ≡ true → Forgets → IsServed command old new r
   published refuses again whole level door events crash writes never gives forgets =
       forgetting forgets (applied_giving old new command command refl r answers sound cause (unbounded never) refuses
       (ap gives_edition is ∙ gives) again whole level door events crash writes)
 
-memory_sound : {T : Type 0} (r : Result T Stop) → IfErr r (λ stop. stop ≡ stops.Memory) → IfErr r IsSound
+memory_sound : {T : Type 0} (r : Result T Stop) → IfErr r (λ stop. stop ≡ stops.Memory) → IfErr r IsNotDamage
 memory_sound (Ok x) is = tt
 memory_sound (Err e) is = λ page damaged. let bad : stops.Memory ≡ stops.Damaged page = sym is ∙ damaged in cc
 
@@ -115,4 +115,4 @@ module _ {W : Type 0} {D : disk.Ghosts W} (old new : Session W D) (w : Option (L
   pub served_warm : w ≡ warm_left command r → IsServed command old new r
       → IsApplied command old (record { book = new.book; catalog = new.catalog; last = new.last; changes = new.changes; warm = w; alloc = new.alloc }) r
   served_warm is served =
-      applied_warm old new w command r (subst (λ (x : Option (List ℕ × Pixel)). IsHeldIn x new) (sym is) served.held) served.applied
+      applied_warm old new w command r (subst (λ (x : Option (List ℕ × Pixel)). IsLastPixelIn x new) (sym is) served.held) served.applied

@@ -20,8 +20,8 @@ use Rattle.quilt_replies.specs.Answers.{State, Outcome, Refused, answer, unless,
 use Rattle.quilt_replies.specs.Answers.{grid_in}
 use Rattle.quilt_map.specs.Asking.{IsRefusedFirst}
 use Rattle.quilt_map.specs.Commanding.{Answered}
-use Rattle.quilt_map.specs.Derivation.{layers_derived, derived, is_inside}
-use Rattle.quilt_map.specs.Making.{AnsweredBy, placed, refused}
+use Rattle.quilt_map.specs.Derivation.{layers_derived, derived, window_is_inside}
+use Rattle.quilt_map.specs.Making.{AnsweredBy, layer_placed, refused}
 use Rattle.quilt_map.specs.Painting.{IsRegionIn}
 use Rattle.quilt_map.specs.Sessions.{IsAtState, told_of, tree_in}
 use Rattle.quilt_map.specs.Steps.{goes_back}
@@ -40,7 +40,7 @@ use Rattle.quilt_map.proofs.answers.Placing.{answered_by, answered_from, placed_
 -- the layer that the command makes, unless it is refused
 abbrev deriving_of : State → Command → List ℕ → List ℕ → Outcome
 deriving_of s command name into =
-    makes s (unknown s name ∷ unless_region s name ∷ exists s into ∷ too_many s ∷ (not (is_inside s.last.level command), no.Outside) ∷ []) into
+    makes s (unknown s name ∷ unless_region s name ∷ exists s into ∷ too_many s ∷ (not (window_is_inside s.last.level command), no.Outside) ∷ []) into
     (Region (derived command s.last.level (grid s name)))
 
 derive_is : (s : State) (command : Command) (name into : List ℕ) → layers_derived command ≡ Some (name, into)
@@ -75,48 +75,48 @@ module _ (s : State) (command : Command) (name into : List ℕ) (is : layers_der
   derive_refused code first =
       let work = with s into (Region (derived command s.last.level (grid s name))) in
       derive_is s command name into is
-      ∙ region_refused s name code first (exists s into ∷ too_many s ∷ (not (is_inside s.last.level command), no.Outside) ∷ full s work ∷ []) (changed work)
+      ∙ region_refused s name code first (exists s into ∷ too_many s ∷ (not (window_is_inside s.last.level command), no.Outside) ∷ full s work ∷ []) (changed work)
 
   module _ (g : Grid) (got : finmap.get s.work name ≡ Some (Region g)) where
     derive_tests : let work = with s into (Region (derived command s.last.level (grid s name))) in
-        answer s command ≡ unless (exists s into ∷ too_many s ∷ (not (is_inside s.last.level command), no.Outside) ∷ full s work ∷ []) s (changed work)
+        answer s command ≡ unless (exists s into ∷ too_many s ∷ (not (window_is_inside s.last.level command), no.Outside) ∷ full s work ∷ []) s (changed work)
     derive_tests =
         let work = with s into (Region (derived command s.last.level (grid s name))) in
         derive_is s command name into is
-        ∙ region_passes s name g (exists s into ∷ too_many s ∷ (not (is_inside s.last.level command), no.Outside) ∷ full s work ∷ []) (changed work) got
+        ∙ region_passes s name g (exists s into ∷ too_many s ∷ (not (window_is_inside s.last.level command), no.Outside) ∷ full s work ∷ []) (changed work) got
 
     pub derive_taken : (code : Code)
         → ((rs : List (Bool × Code)) (done : Outcome) → unless (exists s into ∷ too_many s ∷ rs) s done ≡ refused s code)
         → answer s command ≡ nothing_done s (Refused code)
     derive_taken code h =
         let work = with s into (Region (derived command s.last.level (grid s name))) in
-        derive_tests ∙ h ((not (is_inside s.last.level command), no.Outside) ∷ full s work ∷ []) (changed work)
+        derive_tests ∙ h ((not (window_is_inside s.last.level command), no.Outside) ∷ full s work ∷ []) (changed work)
 
     module _ (passes : ((exists s into).0 ≡ false) × ((too_many s).0 ≡ false)) where
       derive_new : let work = with s into (Region (derived command s.last.level (grid s name))) in
-          answer s command ≡ unless ((not (is_inside s.last.level command), no.Outside) ∷ full s work ∷ []) s (changed work)
+          answer s command ≡ unless ((not (window_is_inside s.last.level command), no.Outside) ∷ full s work ∷ []) s (changed work)
       derive_new =
           let work = with s into (Region (derived command s.last.level (grid s name))) in
-          let rest : List (Bool × Code) = (not (is_inside s.last.level command), no.Outside) ∷ full s work ∷ [] in
+          let rest : List (Bool × Code) = (not (window_is_inside s.last.level command), no.Outside) ∷ full s work ∷ [] in
           derive_tests ∙ first_false (exists s into).0 no.Exists (too_many s ∷ rest) s (changed work) passes.0
           ∙ first_false (too_many s).0 no.Layers rest s (changed work) passes.1
 
-      pub derive_outside : is_inside s.last.level command ≡ false → answer s command ≡ nothing_done s (Refused no.Outside)
+      pub derive_outside : window_is_inside s.last.level command ≡ false → answer s command ≡ nothing_done s (Refused no.Outside)
       derive_outside out =
           let work = with s into (Region (derived command s.last.level (grid s name))) in
-          derive_new ∙ first_true (not (is_inside s.last.level command)) no.Outside (full s work ∷ []) s (changed work) (ap not out)
+          derive_new ∙ first_true (not (window_is_inside s.last.level command)) no.Outside (full s work ∷ []) s (changed work) (ap not out)
 
-      derive_done : is_inside s.last.level command ≡ true → answer s command ≡ placed s into (Region (derived command s.last.level g))
+      derive_done : window_is_inside s.last.level command ≡ true → answer s command ≡ layer_placed s into (Region (derived command s.last.level g))
       derive_done inside =
           let work = with s into (Region (derived command s.last.level (grid s name))) in
-          derive_new ∙ first_false (not (is_inside s.last.level command)) no.Outside (full s work ∷ []) s (changed work) (ap not inside)
-          ∙ ap (λ (o : Option Layer). placed s into (Region (derived command s.last.level (grid_in o)))) got
+          derive_new ∙ first_false (not (window_is_inside s.last.level command)) no.Outside (full s work ∷ []) s (changed work) (ap not inside)
+          ∙ ap (λ (o : Option Layer). layer_placed s into (Region (derived command s.last.level (grid_in o)))) got
 
-      pub derive_answered : {W : Type 0} {D : disk.Ghosts W} (old new : Session W D) (reply : Reply) → is_inside s.last.level command ≡ true
-          → AnsweredBy {D = D} s (placed s into (Region (derived command s.last.level g))) old new reply → Answered {D = D} s command old new reply
+      pub derive_answered : {W : Type 0} {D : disk.Ghosts W} (old new : Session W D) (reply : Reply) → window_is_inside s.last.level command ≡ true
+          → AnsweredBy {D = D} s (layer_placed s into (Region (derived command s.last.level g))) old new reply → Answered {D = D} s command old new reply
       derive_answered {W} {D} old new reply inside by =
           let layer = Region (derived command s.last.level g) in
-          answered_by {D = D} s command (placed s into layer) old new reply (derive_done inside) (placed_none s into layer)
+          answered_by {D = D} s command (layer_placed s into layer) old new reply (derive_done inside) (placed_none s into layer)
           (derive_forward command name into is) by
 
 -- ---- the grid that is made
@@ -139,10 +139,10 @@ module _ {W : Type 0} {D : disk.Ghosts W} where
   -- the layer that was made is the one of this grid
   pub made_answered : (old mid new : Session W D) (s : State) (into : List ℕ) (made : Raster) (h : Grid) (reply : Reply) → mid.changes ≡ old.changes
       → made ≡ record { level = s.last.level; grid = h }
-      → AnsweredBy s (placed s into (Region made.grid)) mid new reply → AnsweredBy s (placed s into (Region h)) old new reply
+      → AnsweredBy s (layer_placed s into (Region made.grid)) mid new reply → AnsweredBy s (layer_placed s into (Region h)) old new reply
   made_answered old mid new s into made h reply same is by =
-      subst (λ (x : Grid). AnsweredBy s (placed s into (Region x)) old new reply) (ap (λ (l : Raster). l.grid) is)
-      (answered_from old mid new s (placed s into (Region made.grid)) reply same by)
+      subst (λ (x : Grid). AnsweredBy s (layer_placed s into (Region x)) old new reply) (ap (λ (l : Raster). l.grid) is)
+      (answered_from old mid new s (layer_placed s into (Region made.grid)) reply same by)
 
   module _ (session : Session W D) (s : State) (at : IsAtState session s) where
     -- the list of the leaves of a layer

@@ -19,7 +19,7 @@ use Rattle.quilt_blocks.proofs.Squares.{width}
 use Rattle.quilt_region.proofs.GridsFit.{fits_law}
 use Rattle.quilt_replies.specs.Answers.{State, Outcome, Refused, answer, unless, exists, too_many, full, with, changed}
 use Rattle.quilt_map.specs.Commanding.{Answered}
-use Rattle.quilt_map.specs.Making.{AnsweredBy, placed, refused}
+use Rattle.quilt_map.specs.Making.{AnsweredBy, layer_placed, refused}
 use Rattle.quilt_replies.specs.declared.reply.Reply.{Reply}
 use Rattle.quilt_map.specs.declared.session.Session.{Session}
 use Rattle.quilt_map.proofs.answers.FirstTests.{new_passes, first_true, first_false}
@@ -89,7 +89,7 @@ module _ (s : State) (a : List ℕ) (c : Colour) where
           ∙ first_true (leave (side s.last.level) rings) no.Outside last_tests s (done_with rings) out
 
       pub polygon_done : leave (side s.last.level) rings ≡ false
-          → answer s (commands.Polygon a c more) ≡ placed s a (Region (filled_rings s.last.level rings c.0))
+          → answer s (commands.Polygon a c more) ≡ layer_placed s a (Region (filled_rings s.last.level rings c.0))
       unfolding last_tests
       polygon_done inside = ap (λ (o : Option Rings). answer s (commands.Polygon a c o)) there ∙ later (Some rings)
           ∙ first_false (leave (side s.last.level) rings) no.Outside last_tests s (done_with rings) inside
@@ -111,9 +111,9 @@ module _ {W : Type 0} {D : disk.Ghosts W} where
       (reply : Reply) → more ≡ Some rings
       → list ≡ record { level = n; grid = filled_rings n rings c.0 } → n ≡ s.last.level → ((exists s a).0 ≡ false) × ((too_many s).0 ≡ false)
       → leave (side s.last.level) rings ≡ false
-      → AnsweredBy s (placed s a (Region list.grid)) old new reply → Answered s (commands.Polygon a c more) old new reply
+      → AnsweredBy s (layer_placed s a (Region list.grid)) old new reply → Answered s (commands.Polygon a c more) old new reply
   polygon_answered old new s a c more rings list n reply there is same passes inside by =
       let layer = Region (filled_rings s.last.level rings c.0) in
-      answered_by {D = D} s (commands.Polygon a c more) (placed s a layer) old new reply (polygon_done s a c passes more rings there inside)
+      answered_by {D = D} s (commands.Polygon a c more) (layer_placed s a layer) old new reply (polygon_done s a c passes more rings there inside)
       (placed_none s a layer) refl
-      (subst (λ (g : Grid). AnsweredBy s (placed s a (Region g)) old new reply) (filled_grid s c rings list n is same) by)
+      (subst (λ (g : Grid). AnsweredBy s (layer_placed s a (Region g)) old new reply) (filled_grid s c rings list n is same) by)

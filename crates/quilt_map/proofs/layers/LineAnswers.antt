@@ -13,7 +13,7 @@ use Rattle.quilt_replies.specs.Answers.{State, Outcome, Refused, answer, unless,
 use Rattle.quilt_replies.specs.declared.reply.Reply as replies
 use Rattle.quilt_map.specs.Commanding.{Answered}
 use Rattle.quilt_map.specs.LineLayers.{IsNoLines, with_segment, without_segment, segment_put, segment_taken}
-use Rattle.quilt_map.specs.Making.{AnsweredBy, placed}
+use Rattle.quilt_map.specs.Making.{AnsweredBy, layer_placed}
 use Rattle.quilt_map.specs.declared.session.Session.{Session}
 use Rattle.quilt_map.proofs.answers.FirstTests.{lines_refused, first_true, first_false}
 use Rattle.quilt_map.proofs.answers.Outcomes.{nothing_done}
@@ -92,7 +92,7 @@ module _ (s : State) (a : List ℕ) (t : ℕ) (segs : SegMap) (cover : BlockSet)
   segment_present seg there =
       let work = with s a (with_segment t segs cover id seg) in first_true (is_some (finmap.get segs id)) no.Present (full s work ∷ []) s (changed work) there
 
-  pub segment_new : (seg : Seg) → is_some (finmap.get segs id) ≡ false → segment_put s a t segs cover id seg ≡ placed s a (with_segment t segs cover id seg)
+  pub segment_new : (seg : Seg) → is_some (finmap.get segs id) ≡ false → segment_put s a t segs cover id seg ≡ layer_placed s a (with_segment t segs cover id seg)
   segment_new seg away =
       let work = with s a (with_segment t segs cover id seg) in first_false (is_some (finmap.get segs id)) no.Present (full s work ∷ []) s (changed work) away
 
@@ -105,6 +105,6 @@ module _ (s : State) (a : List ℕ) (t : ℕ) (segs : SegMap) (cover : BlockSet)
   taken_with gone = unless ((is_none gone, no.Absent) ∷ []) s (changed (with s a (without_segment s.last.level t segs cover id (unwrap_or gone no_segment))))
 
   pub segment_there : (seg : Seg) → finmap.get segs id ≡ Some seg → records s.last.level (with s a (without_segment s.last.level t segs cover id seg)) ≤ s.quota
-      → segment_taken s a t segs cover id ≡ placed s a (without_segment s.last.level t segs cover id seg)
+      → segment_taken s a t segs cover id ≡ layer_placed s a (without_segment s.last.level t segs cover id seg)
   unfolding taken_with
   segment_there seg there within = ap taken_with there ∙ sym (placed_within s a (without_segment s.last.level t segs cover id seg) within)

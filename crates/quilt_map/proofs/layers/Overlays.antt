@@ -13,7 +13,7 @@ use Rattle.quilt_region.proofs.GridsFit.{fits_law}
 use Rattle.quilt_replies.specs.Answers.{State, Outcome, Refused, answer, unless, unknown, unless_region, is_region, exists, too_many, full, makes, changed}
 use Rattle.quilt_replies.specs.Answers.{with, grid, grid_in}
 use Rattle.quilt_map.specs.Commanding.{Answered}
-use Rattle.quilt_map.specs.Making.{AnsweredBy, placed, refused}
+use Rattle.quilt_map.specs.Making.{AnsweredBy, layer_placed, refused}
 use Rattle.quilt_map.specs.Overlaying.{overlay_command, AreRefusedFirst}
 use Rattle.quilt_map.specs.Steps.{goes_back}
 use Rattle.quilt_replies.specs.declared.reply.Reply.{Reply}
@@ -70,19 +70,19 @@ module _ (s : State) (op : Op) (a b into : List ℕ) where
         overlay_tests ∙ refuses (full s work ∷ []) (changed work)
 
     overlay_done : ((exists s into).0 ≡ false) × ((too_many s).0 ≡ false)
-        → answer s (overlay_command op a b into) ≡ placed s into (Region (overlaid op s.last.level g h))
+        → answer s (overlay_command op a b into) ≡ layer_placed s into (Region (overlaid op s.last.level g h))
     overlay_done passes =
         let work = with s into (Region (overlaid op s.last.level (grid s a) (grid s b))) in
         overlay_tests ∙ first_false (exists s into).0 no.Exists (too_many s ∷ full s work ∷ []) s (changed work) passes.0
         ∙ first_false (too_many s).0 no.Layers (full s work ∷ []) s (changed work) passes.1
-        ∙ (λ i. placed s into (Region (overlaid op s.last.level (grid_in (e i)) (grid_in (f i)))))
+        ∙ (λ i. layer_placed s into (Region (overlaid op s.last.level (grid_in (e i)) (grid_in (f i)))))
 
     pub overlay_answered : {W : Type 0} {D : disk.Ghosts W} (old new : Session W D) (reply : Reply) → ((exists s into).0 ≡ false) × ((too_many s).0 ≡ false)
-        → AnsweredBy {D = D} s (placed s into (Region (overlaid op s.last.level g h))) old new reply
+        → AnsweredBy {D = D} s (layer_placed s into (Region (overlaid op s.last.level g h))) old new reply
         → Answered {D = D} s (overlay_command op a b into) old new reply
     overlay_answered {W} {D} old new reply passes by =
         let layer = Region (overlaid op s.last.level g h) in
-        answered_by {D = D} s (overlay_command op a b into) (placed s into layer) old new reply (overlay_done passes) (placed_none s into layer)
+        answered_by {D = D} s (overlay_command op a b into) (layer_placed s into layer) old new reply (overlay_done passes) (placed_none s into layer)
         (overlay_forward op a b into) by
 
 -- ---- the grid that is made

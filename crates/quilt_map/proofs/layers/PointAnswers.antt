@@ -16,9 +16,9 @@ use Rattle.quilt_replies.specs.Answers.{State, Outcome, Reply, Refused, Done, an
 use Rattle.quilt_replies.specs.Answers.{outside, window_outside, is_points, points_in, capacity_in, point_line}
 use Rattle.quilt_replies.specs.Runs.{text_of}
 use Rattle.quilt_replies.specs.declared.reply.Reply as replies
-use Rattle.quilt_points.specs.Layers.{entries_of}
+use Rattle.quilt_points.specs.Layers.{point_entries}
 use Rattle.quilt_map.specs.Commanding.{Answered}
-use Rattle.quilt_map.specs.Making.{AnsweredBy, placed}
+use Rattle.quilt_map.specs.Making.{AnsweredBy, layer_placed}
 use Rattle.quilt_map.specs.PointLayers.{IsNoPoints, points_put, points_del}
 use Rattle.quilt_map.specs.declared.session.Session.{Session}
 use Rattle.quilt_map.proofs.answers.Answered.{IsBodyOf}
@@ -36,7 +36,7 @@ none_with_two true c k l s work = refl
 none_with_two false c k l s work = none_with c l s work
 
 -- the lines of points, as entries
-entry_lines : (list : List Point) → map (λ (p : Point). point_line (p.at, p.label)) list ≡ map point_line (entries_of list)
+entry_lines : (list : List Point) → map (λ (p : Point). point_line (p.at, p.label)) list ≡ map point_line (point_entries list)
 entry_lines [] = refl
 entry_lines (p ∷ list) = ap (λ (ls : List (List ℕ)). point_line (p.at, p.label) ∷ ls) (entry_lines list)
 
@@ -165,7 +165,7 @@ module _ (s : State) (a : List ℕ) where
     }
 
     pub within_body : (w : Window) → is_window s.last.level w ≡ true → (list : List Point)
-        → entries_of list ≡ filter (λ e. in_window w e.0) (finmap.entries points)
+        → point_entries list ≡ filter (λ e. in_window w e.0) (finmap.entries points)
         → (t : List ℕ) → t ≡ text_of (Done (map (λ (p : Point). point_line (p.at, p.label)) list)) → IsBodyOf ((answer s (commands.Within a w)).reply) t
     within_body w on list all t written = record {
       body = map point_line (filter (λ e. in_window w e.0) (finmap.entries points));
@@ -194,7 +194,7 @@ module _ (s : State) (a : List ℕ) (capacity : ℕ) (points : PointMap) (p : Pi
       first_true (is_some (finmap.get points p)) no.Present (full s work ∷ []) s (changed work) there
 
   pub put_new : (label : ℕ) → is_some (finmap.get points p) ≡ false
-      → points_put s a capacity points p label ≡ placed s a (Points capacity (finmap.insert points p label))
+      → points_put s a capacity points p label ≡ layer_placed s a (Points capacity (finmap.insert points p label))
   put_new label away =
       let work = with s a (Points capacity (finmap.insert points p label)) in
       first_false (is_some (finmap.get points p)) no.Present (full s work ∷ []) s (changed work) away
@@ -203,7 +203,7 @@ module _ (s : State) (a : List ℕ) (capacity : ℕ) (points : PointMap) (p : Pi
   del_absent away = first_true (is_none (finmap.get points p)) no.Absent [] s (changed (with s a (Points capacity (finmap.remove points p)))) away
 
   pub del_there : is_none (finmap.get points p) ≡ false → records s.last.level (with s a (Points capacity (finmap.remove points p))) ≤ s.quota
-      → points_del s a capacity points p ≡ placed s a (Points capacity (finmap.remove points p))
+      → points_del s a capacity points p ≡ layer_placed s a (Points capacity (finmap.remove points p))
   del_there there within =
       first_false (is_none (finmap.get points p)) no.Absent [] s (changed (with s a (Points capacity (finmap.remove points p)))) there
       ∙ sym (placed_within s a (Points capacity (finmap.remove points p)) within)

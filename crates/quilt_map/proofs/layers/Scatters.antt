@@ -22,7 +22,7 @@ use Rattle.quilt_replies.specs.Answers.{State, Outcome, Refused, answer, unless,
 use Rattle.quilt_replies.specs.Answers.{with_points}
 use Rattle.quilt_replies.specs.declared.reply.Reply as replies
 use Rattle.quilt_map.specs.Commanding.{Answered}
-use Rattle.quilt_map.specs.Making.{AnsweredBy, placed}
+use Rattle.quilt_map.specs.Making.{AnsweredBy, layer_placed}
 use Rattle.quilt_map.specs.PointLayers.{IsNoPoints, points_scattered}
 use Rattle.quilt_map.specs.declared.session.Session.{Session}
 use Rattle.quilt_map.proofs.answers.FirstTests.{points_refused, first_true, first_false}
@@ -141,7 +141,7 @@ module _ (s : State) (a : List ℕ) where
       scatter_present there =
           let work = with s a (Points capacity (with_points points ps)) in first_true (collide points ps) no.Present (full s work ∷ []) s (changed work) there
 
-      pub scatter_new : collide points ps ≡ false → points_scattered s a capacity points ps ≡ placed s a (Points capacity (with_points points ps))
+      pub scatter_new : collide points ps ≡ false → points_scattered s a capacity points ps ≡ layer_placed s a (Points capacity (with_points points ps))
       scatter_new away =
           let work = with s a (Points capacity (with_points points ps)) in first_false (collide points ps) no.Present (full s work ∷ []) s (changed work) away
 

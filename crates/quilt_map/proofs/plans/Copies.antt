@@ -14,12 +14,12 @@ use Rattle.quilt_world.specs.declared.disk.Disk as disk
 use Rattle.quilt_record.specs.declared.entry.Entry.{Entry}
 use Rattle.quilt_record.specs.declared.record.Record.{Record}
 use Rattle.quilt_record.specs.Records.{Numbering, record_of}
-use Rattle.quilt_record.specs.Listing.{kind_fact}
+use Rattle.quilt_record.specs.Listing.{fact_of_kind}
 use Rattle.quilt_node.specs.declared.head.Head.{Head}
 use Rattle.quilt_btree.specs.Trees.{IsTree}
-use Rattle.quilt_spell.specs.Catalogued.{entry_of, kind_of, IsCatalogOf}
-use Rattle.quilt_spell.specs.Changing.{IsKept, LeadsTo, with_layer, with_number}
-use Rattle.quilt_spell.specs.Copying.{moved}
+use Rattle.quilt_spell.specs.Catalogued.{catalog_entry, kind_of, IsCatalogOf}
+use Rattle.quilt_spell.specs.Changing.{KeepsCapacity, LeadsTo, with_layer, with_number}
+use Rattle.quilt_spell.specs.Copying.{renumbered}
 use Rattle.quilt_spell.specs.Written.{number_of}
 use Rattle.quilt_spell.specs.Stepping.{IsPlaced}
 use Rattle.quilt_region.specs.Laws as regions
@@ -29,10 +29,10 @@ use Rattle.quilt_words.specs.declared.command.Command.TheVariants as commands
 use Rattle.quilt_replies.specs.Answers.{State, Outcome, Refused, Done, answer, unless, exists, too_many, full, with, makes, changed}
 use Rattle.quilt_map.specs.Asking.{IsStill}
 use Rattle.quilt_map.specs.Commanding.{Answered}
-use Rattle.quilt_map.specs.Copying.{IsListed, records_of}
-use Rattle.quilt_map.specs.Making.{AnsweredBy, placed}
+use Rattle.quilt_map.specs.Copying.{BeginsWithEntry, records_numbered}
+use Rattle.quilt_map.specs.Making.{AnsweredBy, layer_placed}
 use Rattle.quilt_map.specs.Lookups.{IsLayerAt}
-use Rattle.quilt_map.specs.Planning.{IsPlan, HasLayer, IsFull, changed_state}
+use Rattle.quilt_map.specs.Planning.{IsLayerPlan, HasLayer, IsFull, changed_state}
 use Rattle.quilt_replies.specs.Runs.{text_of}
 use Rattle.quilt_map.specs.Sessions.{IsAtWith, IsAtState, told_of, tree_in, last_count}
 use Rattle.quilt_replies.specs.declared.reply.Reply as replies
@@ -73,7 +73,7 @@ pub copy_refused : (s : State) (a b : List ℕ) (l : Layer) (code : Code) → fi
 copy_refused s a b l code e refuses = copy_tests s a b l e ∙ refuses (full s (with s b l) ∷ []) (changed (with s b l))
 
 copy_gives : (s : State) (a b : List ℕ) (l : Layer) → finmap.get s.work a ≡ Some l → (exists s b).0 ≡ false → (too_many s).0 ≡ false
-    → answer s (commands.Copy a b) ≡ placed s b l
+    → answer s (commands.Copy a b) ≡ layer_placed s b l
 copy_gives s a b l e new few =
     copy_tests s a b l e ∙ (λ i. unless ((new i, no.Exists) ∷ (few i, no.Layers) ∷ full s (with s b l) ∷ []) s (changed (with s b l)))
 
@@ -87,9 +87,9 @@ none_published false s work = refl
 pub entry_is : (layers : Map) (numbers : Numbering) (entries again : List Entry) (name : List ℕ) (i : ℕ)
     (found : IsLayerAt layers numbers entries name i) → again ≡ entries
     → (x : Entry) → x ≡ slice_index_or again i x → (b : List ℕ) → b ≡ name
-    → record { number = x.number; name = b; kind = x.kind } ≡ entry_of numbers (name, found.layer)
+    → record { number = x.number; name = b; kind = x.kind } ≡ catalog_entry numbers (name, found.layer)
 entry_is layers numbers entries again name i found same x is b named =
-    let p : x ≡ entry_of numbers (name, found.layer) = is ∙ ap (λ (l : List Entry). slice_index_or l i x) same ∙ found.entry x in
+    let p : x ≡ catalog_entry numbers (name, found.layer) = is ∙ ap (λ (l : List Entry). slice_index_or l i x) same ∙ found.entry x in
     λ j. record { number = (p j).number; name = named j; kind = (p j).kind }
 
 pub entry_goes : (layers : Map) (numbers : Numbering) (entries : List Entry) (name : List ℕ) (number i : ℕ) → IsCatalogOf layers numbers entries
@@ -117,36 +117,36 @@ module _ {W : Type 0} {D : disk.Ghosts W} where
 
     -- the number of a layer's entry
     pub number_least : (name : List ℕ) (layer : Layer) → finmap.get s.work name ≡ Some layer → (e : Entry)
-        → e ≡ entry_of at.work.numbers (name, layer) → 1 ≤ e.number
+        → e ≡ catalog_entry at.work.numbers (name, layer) → 1 ≤ e.number
     number_least name layer got e is =
         let least = (numbers_law s.last.format s.last.level at.work.numbers at.work.records s.work name layer (at_spelled session s at) got).0 in
         let same = ap (λ (x : Entry). x.number) is in
         omega arith
 
     -- all records of a layer go
-    pub drop_plan : (name : List ℕ) (layer : Layer) → finmap.get s.work name ≡ Some layer → (e : Entry) → e ≡ entry_of at.work.numbers (name, layer)
-        → (all given : List Record) → given ≡ all → IsListed e (records_of e.number at.work.records) all → IsPlan s at.work.numbers name e.number None given []
+    pub drop_plan : (name : List ℕ) (layer : Layer) → finmap.get s.work name ≡ Some layer → (e : Entry) → e ≡ catalog_entry at.work.numbers (name, layer)
+        → (all given : List Record) → given ≡ all → BeginsWithEntry e (records_numbered e.number at.work.records) all → IsLayerPlan s at.work.numbers name e.number None given []
     drop_plan name layer got e is all given same listed =
-        subst (λ (l : List Record). IsPlan s at.work.numbers name e.number None l []) (sym same)
-        (subst (λ (x : Entry). IsListed x (records_of x.number at.work.records) all → IsPlan s at.work.numbers name x.number None all [])
+        subst (λ (l : List Record). IsLayerPlan s at.work.numbers name e.number None l []) (sym same)
+        (subst (λ (x : Entry). BeginsWithEntry x (records_numbered x.number at.work.records) all → IsLayerPlan s at.work.numbers name x.number None all [])
         (sym is) by_law listed)
       where
         number : ℕ
         number = number_of at.work.numbers name
 
-        by_law : IsListed (entry_of at.work.numbers (name, layer)) (records_of (number_of at.work.numbers name) at.work.records) all
-            → IsPlan s at.work.numbers name (number_of at.work.numbers name) None all []
+        by_law : BeginsWithEntry (catalog_entry at.work.numbers (name, layer)) (records_numbered (number_of at.work.numbers name) at.work.records) all
+            → IsLayerPlan s at.work.numbers name (number_of at.work.numbers name) None all []
         by_law l =
             let plan = drops_law s.last.format s.last.level at.work.numbers at.work.records s.work name layer 4294967295 l.0 (at_most session s at)
             (at_spelled session s at) got records_fit l.2 in
-            subst (λ (r : List Record). IsPlan s at.work.numbers name (number_of at.work.numbers name) None r []) (sym l.1) (record {
+            subst (λ (r : List Record). IsLayerPlan s at.work.numbers name (number_of at.work.numbers name) None r []) (sym l.1) (record {
               step = record {
                 fits = tt;
-                kept = subst (λ (o : Option Layer). IsKept o None) (sym got) tt;
+                kept = subst (λ (o : Option Layer). KeepsCapacity o None) (sym got) tt;
                 placed = subst (λ (o : Option Layer). IsPlaced s.work at.work.numbers name (number_of at.work.numbers name) o) (sym got) refl;
                 leads =
                     subst (λ (o : Option Layer). LeadsTo s.last.level name (number_of at.work.numbers name) o None
-                    (l.0 ∷ records_of (number_of at.work.numbers name) at.work.records) []) (sym got) plan.leads;
+                    (l.0 ∷ records_numbered (number_of at.work.numbers name) at.work.records) []) (sym got) plan.leads;
               };
               some = λ gone none. some_none layer (sym got ∙ gone);
               removed_ascend = plan.removed_ascend;
@@ -154,7 +154,7 @@ module _ {W : Type 0} {D : disk.Ghosts W} where
             })
 
     -- a map with fewer records is within its quota
-    pub never_full : (new : Session W D) (name : List ℕ) (number : ℕ) (gone : List Record) → IsPlan s at.work.numbers name number None gone []
+    pub never_full : (new : Session W D) (name : List ℕ) (number : ℕ) (gone : List Record) → IsLayerPlan s at.work.numbers name number None gone []
         → IsFull session new s name None → ⊥
     never_full new name number gone plan is =
         let c = counted session s at name number None gone [] plan in
@@ -168,25 +168,25 @@ module _ {W : Type 0} {D : disk.Ghosts W} where
         → (e : Entry) → e.kind ≡ kind_of layer
         → is_name e.name ≡ true → length session.catalog < 255 → All (λ f. f.name ≢ e.name) session.catalog → 1 ≤ e.number → e.number ≤ 255
         → ((other : List ℕ) → finmap.get at.work.numbers other ≢ Some e.number) → (all given : List Record) → given ≡ all
-        → IsListed e (map (moved e.number) (records_of number at.work.records)) all → IsPlan s at.work.numbers e.name e.number (Some layer) [] given
+        → BeginsWithEntry e (map (renumbered e.number) (records_numbered number at.work.records)) all → IsLayerPlan s at.work.numbers e.name e.number (Some layer) [] given
     copy_plan name number layer got numbered e kind named few others least most free all given same listed =
-        let rest : List Record = map (moved e.number) (records_of (number_of at.work.numbers name) at.work.records) in
-        let is : given ≡ listed.0 ∷ rest = same ∙ listed.1 ∙ ap (λ (k : ℕ). listed.0 ∷ map (moved e.number) (records_of k at.work.records)) numbered in
+        let rest : List Record = map (renumbered e.number) (records_numbered (number_of at.work.numbers name) at.work.records) in
+        let is : given ≡ listed.0 ∷ rest = same ∙ listed.1 ∙ ap (λ (k : ℕ). listed.0 ∷ map (renumbered e.number) (records_numbered k at.work.records)) numbered in
         let plan = copies_law s.last.format s.last.level at.work.numbers at.work.records s.work name layer 4294967295 e.name e.number listed.0
         (at_most session s at) (at_spelled session s at) got records_fit least
-        (λ n k. listed.2 n k ∙ ap (λ (x : Kind). record_of n k e.name e.number (kind_fact x)) kind) in
+        (λ n k. listed.2 n k ∙ ap (λ (x : Kind). record_of n k e.name e.number (fact_of_kind x)) kind) in
         new_plan session s at e.name e.number layer given named few others least most free
         (layer_is s.last.format s.last.level s.work (at_spelled session s at).map name layer got)
-        (subst (λ (l : List Record). regions.IsPlan s.last.level e.name e.number None (Some layer) [] l) (sym is) plan)
+        (subst (λ (l : List Record). regions.IsRegionPlan s.last.level e.name e.number None (Some layer) [] l) (sym is) plan)
 
   -- the copy is placed, unless the quota refuses it
   pub copy_answer : (old mid new : Session W D) (s : State) (a b : List ℕ) (l : Layer) (reply : replies.Reply) → finmap.get s.work a ≡ Some l
       → (exists s b).0 ≡ false → (too_many s).0 ≡ false
-      → mid.changes ≡ old.changes → AnsweredBy s (placed s b l) mid new reply → Answered s (commands.Copy a b) old new reply
+      → mid.changes ≡ old.changes → AnsweredBy s (layer_placed s b l) mid new reply → Answered s (commands.Copy a b) old new reply
   copy_answer old mid new s a b l reply got fresh few same by =
-      answered_by s (commands.Copy a b) (placed s b l) old new reply (copy_gives s a b l got fresh few)
+      answered_by s (commands.Copy a b) (layer_placed s b l) old new reply (copy_gives s a b l got fresh few)
       (none_published (full s (with s b l)).0 s (with s b l)) refl
-      (answered_from old mid new s (placed s b l) reply same by)
+      (answered_from old mid new s (layer_placed s b l) reply same by)
 
   -- the layer is gone, with its catalog renewed
   pub drop_answer : (old mid new : Session W D) (s : State) (name : List ℕ) (layer : Layer) (entries : List Entry) (text : List ℕ)

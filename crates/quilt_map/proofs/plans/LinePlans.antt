@@ -14,7 +14,7 @@ use Rattle.quilt_record.specs.declared.entry.Entry.{Entry}
 use Rattle.quilt_record.specs.Records.{Numbering}
 use Rattle.quilt_node.specs.declared.head.Head.{Head}
 use Rattle.quilt_btree.specs.declared.tree.Tree.{Tree}
-use Rattle.quilt_edits.specs.Edits.{AreInOrder}
+use Rattle.quilt_edits.specs.Edits.{EditsAscend}
 use Rattle.quilt_spell.specs.Catalogued.{IsCatalogOf, kind_of}
 use Rattle.quilt_lines.specs.Layers.{HasLines}
 use Rattle.quilt_lines.specs.Plans.{IsLinePlan}
@@ -106,7 +106,7 @@ module _ {W : Type 0} {D : disk.Ghosts W} (old : Session W D) (s : State) (at : 
     (name : List ℕ) (layer : LineLayer) (segs : SegMap) (cover : BlockSet) (is : IsLinesIn s.work old.catalog name layer segs cover) where
   -- a line layer becomes another
   pub line_amendment : (later : SegMap) (after : ℕ → BlockSet) (edits : Edits)
-      → IsLinePlan old.book.work.level layer.number layer.threshold segs later cover (after old.book.work.level) edits → AreInOrder edits
+      → IsLinePlan old.book.work.level layer.number layer.threshold segs later cover (after old.book.work.level) edits → EditsAscend edits
       → IsAmendment s (mid_at old s at b still law).work.numbers old.catalog name layer.number (Lines layer.threshold later (after s.last.level))
       edits.remove edits.add
   line_amendment later after edits plan order =
@@ -117,7 +117,7 @@ module _ {W : Type 0} {D : disk.Ghosts W} (old : Session W D) (s : State) (at : 
       (is.numbered there.work.numbers there.work.catalog) refl refl here.valid edits.remove edits.add
       (record { leads = here.leads name; removed_ascend = order.remove; added_ascend = order.add })
 
-  module _ (id : ℕ) (o : Option Edits) (edits : Edits) (is_plan : o ≡ Some edits) (order : IfSome o AreInOrder) where
+  module _ (id : ℕ) (o : Option Edits) (edits : Edits) (is_plan : o ≡ Some edits) (order : IfSome o EditsAscend) where
     -- a plan that puts a segment in
     pub put_amendment : (seg : Seg)
         → IfSome o (λ e. (all : SegMap) (blocks : BlockSet) → HoldsLines old.book layer all blocks →
@@ -129,7 +129,7 @@ module _ {W : Type 0} {D : disk.Ghosts W} (old : Session W D) (s : State) (at : 
         let later = finmap.insert segs id seg in
         let holds = (lines_there old s at name layer segs cover is).holds in
         line_amendment later (λ n. after_add layer.threshold later cover seg) edits (some_of _ o edits is_plan plan segs cover holds)
-        (some_of AreInOrder o edits is_plan order)
+        (some_of EditsAscend o edits is_plan order)
 
     -- a plan that takes one out
     module _ (seg : Seg) (there : finmap.get segs id ≡ Some seg)
@@ -142,7 +142,7 @@ module _ {W : Type 0} {D : disk.Ghosts W} (old : Session W D) (s : State) (at : 
           let later = finmap.remove segs id in
           let holds = (lines_there old s at name layer segs cover is).holds in
           line_amendment later (λ n. after_remove n layer.threshold later cover seg) edits
-          (some_of _ o edits is_plan plan segs cover holds seg there) (some_of AreInOrder o edits is_plan order)
+          (some_of _ o edits is_plan plan segs cover holds seg there) (some_of EditsAscend o edits is_plan order)
 
       -- a layer has fewer records without a segment
       pub taken_within : IfSome o (λ e. (all : SegMap) (blocks : BlockSet) → HoldsLines old.book layer all blocks → length e.add < length e.remove)

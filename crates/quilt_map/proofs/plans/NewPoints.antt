@@ -14,8 +14,8 @@ use Rattle.quilt_record.specs.Records.{record_of}
 use Rattle.quilt_points.specs.Plans.{IsBeginning}
 use Rattle.quilt_region.specs.Laws as regions
 use Rattle.quilt_replies.specs.Answers.{State, Outcome, Refused, answer, unless, exists, too_many, unless_written, full, with, changed}
-use Rattle.quilt_map.specs.Making.{placed, refused}
-use Rattle.quilt_map.specs.Planning.{IsPlan}
+use Rattle.quilt_map.specs.Making.{layer_placed, refused}
+use Rattle.quilt_map.specs.Planning.{IsLayerPlan}
 use Rattle.quilt_map.specs.Sessions.{IsAtState}
 use Rattle.quilt_map.specs.declared.session.Session.{Session}
 use Rattle.quilt_map.proofs.answers.FirstTests.{first_true, first_false}
@@ -47,7 +47,7 @@ module _ (s : State) (name : List ℕ) (bucket : ℕ) where
     points_unwritten un = let work =
         with s name (Points bucket bare) in to_format ∙ first_true (unless_written s bucket).0 no.Format (full s work ∷ []) s (changed work) un
 
-    pub points_given : (unless_written s bucket).0 ≡ false → answer s (commands.Points name bucket) ≡ placed s name (Points bucket bare)
+    pub points_given : (unless_written s bucket).0 ≡ false → answer s (commands.Points name bucket) ≡ layer_placed s name (Points bucket bare)
     points_given is = let work =
         with s name (Points bucket bare) in to_format ∙ first_false (unless_written s bucket).0 no.Format (full s work ∷ []) s (changed work) is
 
@@ -74,10 +74,10 @@ module _ {W : Type 0} {D : disk.Ghosts W} (session : Session W D) (s : State) (a
       → ((other : List ℕ) → finmap.get at.work.numbers other ≢ Some number)
       → (first second : Record) → added ≡ first ∷ second ∷ [] → ((n capacity : ℕ) → first ≡ record_of n capacity name number (IsOfKind 2 bucket))
       → IsBeginning level number bucket second
-      → IsPlan s at.work.numbers name number (Some (Points bucket bare)) [] added
+      → IsLayerPlan s at.work.numbers name number (Some (Points bucket bare)) [] added
   points_plan name number bucket level added same least most written named few others low high free first second is kind begins =
       let here : IsBeginning s.last.level number bucket second = subst (λ (n : ℕ). IsBeginning n number bucket second) same begins in
       new_plan session s at name number (Points bucket bare) added named few others low high free
       (bare_fits s.last.format s.last.level bucket least most written)
-      (subst (λ (rs : List Record). regions.IsPlan s.last.level name number None (Some (Points bucket bare)) [] rs) (sym is)
+      (subst (λ (rs : List Record). regions.IsRegionPlan s.last.level name number None (Some (Points bucket bare)) [] rs) (sym is)
       (record { leads = here.leads name first kind; removed_ascend = refl; added_ascend = here.ascend name first kind }))

@@ -20,7 +20,7 @@ use Rattle.quilt_record.specs.declared.entry.Entry.{Entry}
 use Rattle.quilt_record.specs.Records.{Numbering}
 use Rattle.quilt_spell.specs.Catalogued.{IsCatalogOf}
 use Rattle.quilt_spell.specs.Written.{number_of}
-use Rattle.quilt_region.specs.Plans.{LeadsTo}
+use Rattle.quilt_region.specs.Plans.{ReplacesGrid}
 use Rattle.quilt_region.specs.Regions.{HasRegion}
 use Rattle.quilt_region.proofs.GridsFit.{fits_law}
 use Rattle.quilt_region.proofs.plans.RegionLaws.{changes_law}
@@ -28,7 +28,7 @@ use Rattle.quilt_edition.specs.declared.book.Book.{Book}
 use Rattle.quilt_replies.specs.Answers.{State, Outcome, Refused, answer, unless, unknown, unless_region, window_outside, full, changed, with, grid, grid_in}
 use Rattle.quilt_map.specs.Asking.{IsRegionAt, IsRefusedFirst, IsStill}
 use Rattle.quilt_map.specs.Commanding.{Answered}
-use Rattle.quilt_map.specs.Making.{AnsweredBy, placed}
+use Rattle.quilt_map.specs.Making.{AnsweredBy, layer_placed}
 use Rattle.quilt_map.specs.Painting.{IsRegionIn}
 use Rattle.quilt_map.specs.Planning.{IsAmendment}
 use Rattle.quilt_map.specs.Sessions.{IsAtState, told_of, tree_in, last_count}
@@ -73,7 +73,7 @@ module _ {W : Type 0} {D : disk.Ghosts W} (session : Session W D) (s : State) (a
   painted_grid w c low = fits_law.painted_fits s.last.format s.last.level g w c region_grid low
 
   -- a region layer becomes another grid
-  pub region_amendment : (h : Grid) (edits : Edits) → IsGrid s.last.format s.last.level h → LeadsTo s.last.level number g h edits
+  pub region_amendment : (h : Grid) (edits : Edits) → IsGrid s.last.format s.last.level h → ReplacesGrid s.last.level number g h edits
       → IsAmendment s at.work.numbers session.catalog name number (Region h) edits.remove edits.add
   region_amendment h edits fits leads =
       amendment {D = D} session s at name number (Region g) (Region h) is.got here refl refl fits edits.remove edits.add
@@ -85,11 +85,11 @@ module _ {W : Type 0} {D : disk.Ghosts W} (old : Session W D) (s : State) (at : 
   pub mid_amendment : (name : List ℕ) (number : ℕ) (g : Grid) → IsRegionIn s.work old.catalog name number g → (next : ℕ → Grid → Grid)
       → IsGrid s.last.format s.last.level (next s.last.level g)
       → (edits : Edits) → ((h : Grid) → HasRegion (told_of old.book) (tree_in old.book.work) number old.book.work.level h
-      → LeadsTo old.book.work.level number h (next old.book.work.level h) edits)
+      → ReplacesGrid old.book.work.level number h (next old.book.work.level h) edits)
       → IsAmendment s (mid_at old s at b still law).work.numbers old.catalog name number (Region (next s.last.level g)) edits.remove edits.add
   mid_amendment name number g is next fits edits leads =
       region_amendment {D = D} (with_book old b) s (mid_at old s at b still law) name number g is (next s.last.level g) edits fits
-      (subst (λ (k : ℕ). LeadsTo k number g (next k g) edits) (level_is {D = D} old s at) (leads g (region_there {D = D} old s at name number g is)))
+      (subst (λ (k : ℕ). ReplacesGrid k number g (next k g) edits) (level_is {D = D} old s at) (leads g (region_there {D = D} old s at name number g is)))
 
 -- ---- what the definition answers
 module _ (s : State) (a : List ℕ) (w : Window) (c : Colour) where
@@ -108,11 +108,11 @@ module _ (s : State) (a : List ℕ) (w : Window) (c : Colour) where
     pub rect_outside : is_window s.last.level w ≡ false → answer s (commands.Rect a w c) ≡ nothing_done s (Refused no.Outside)
     rect_outside out = rect_tests ∙ first_true (window_outside s w).0 no.Outside (full s work_then ∷ []) s (changed work_then) (ap not out)
 
-    pub rect_done : is_window s.last.level w ≡ true → answer s (commands.Rect a w c) ≡ placed s a (Region (painted s.last.level g w c.0))
+    pub rect_done : is_window s.last.level w ≡ true → answer s (commands.Rect a w c) ≡ layer_placed s a (Region (painted s.last.level g w c.0))
     unfolding work_then
     rect_done inside =
         rect_tests ∙ first_false (window_outside s w).0 no.Outside (full s work_then ∷ []) s (changed work_then) (ap not inside)
-        ∙ ap (λ (o : Option Layer). placed s a (Region (painted s.last.level (grid_in o) w c.0))) got
+        ∙ ap (λ (o : Option Layer). layer_placed s a (Region (painted s.last.level (grid_in o) w c.0))) got
 
 -- the window of one pixel
 abbrev pub pixel_window : Pixel → Window
@@ -133,11 +133,11 @@ set_as_rect s a p c =
 module _ {W : Type 0} {D : disk.Ghosts W} where
   pub rect_answered : (old new : Session W D) (s : State) (a : List ℕ) (w : Window) (c : Colour) (g : Grid) (reply : replies.Reply)
       → finmap.get s.work a ≡ Some (Region g)
-      → is_window s.last.level w ≡ true → AnsweredBy s (placed s a (Region (painted s.last.level g w c.0))) old new reply
+      → is_window s.last.level w ≡ true → AnsweredBy s (layer_placed s a (Region (painted s.last.level g w c.0))) old new reply
       → Answered s (commands.Rect a w c) old new reply
   rect_answered old new s a w c g reply got inside by =
       let layer = Region (painted s.last.level g w c.0) in
-      answered_by {D = D} s (commands.Rect a w c) (placed s a layer) old new reply (rect_done s a w c g got inside) (placed_none s a layer) refl by
+      answered_by {D = D} s (commands.Rect a w c) (layer_placed s a layer) old new reply (rect_done s a w c g got inside) (placed_none s a layer) refl by
 
   pub set_answered : (old new : Session W D) (s : State) (a : List ℕ) (p : Pixel) (c : Colour) (reply : replies.Reply)
       → Answered s (commands.Rect a (pixel_window p) c) old new reply

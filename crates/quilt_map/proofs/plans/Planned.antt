@@ -9,7 +9,7 @@ use Rattle.quilt_replies.specs.Answers.{State, Outcome, Refused}
 use Rattle.quilt_replies.specs.declared.reply.Reply as replies
 use Rattle.quilt_replies.specs.declared.reply.Reply.TheVariants as given
 use Rattle.quilt_map.specs.Asking.{IsStill}
-use Rattle.quilt_map.specs.Making.{AnsweredBy, placed}
+use Rattle.quilt_map.specs.Making.{AnsweredBy, layer_placed}
 use Rattle.quilt_map.specs.Planning.{IsAmendment}
 use Rattle.quilt_map.specs.Sessions.{IsAtState}
 use Rattle.quilt_map.specs.declared.session.Session.{Session}
@@ -35,12 +35,12 @@ module _ {W : Type 0} {D : disk.Ghosts W} (old : Session W D) (s : State) (at : 
   Amends new edits reply =
       (now : State) (mid : IsAtState (with_book old b) now) (name : List ℕ) (number : ℕ) (layer : Layer)
       → IsAmendment now mid.work.numbers old.catalog name number layer edits.remove edits.add
-      → AnsweredBy now (placed now name layer) (with_book old b) new reply
+      → AnsweredBy now (layer_placed now name layer) (with_book old b) new reply
 
   -- the layer is amended by the edits
   pub planned : (name : List ℕ) (number : ℕ) (layer : Layer) (edits : Edits)
       → IsAmendment s (mid_at old s at b still law).work.numbers old.catalog name number layer edits.remove edits.add
-      → out ≡ placed s name layer → (new : Session W D) (reply : replies.Reply) → Amends new edits reply → AnsweredBy s out old new reply
+      → out ≡ layer_placed s name layer → (new : Session W D) (reply : replies.Reply) → Amends new edits reply → AnsweredBy s out old new reply
   planned name number layer edits amendment is new reply amends =
       subst (λ (o : Outcome). AnsweredBy s o old new reply) (sym is)
-      (answered_from old (with_book old b) new s (placed s name layer) reply refl (amends s (mid_at old s at b still law) name number layer amendment))
+      (answered_from old (with_book old b) new s (layer_placed s name layer) reply refl (amends s (mid_at old s at b still law) name number layer amendment))

@@ -12,7 +12,7 @@ use Rattle.quilt_record.specs.declared.entry.Entry.{Entry}
 use Rattle.quilt_record.specs.Records.{Numbering}
 use Rattle.quilt_node.specs.declared.head.Head.{Head}
 use Rattle.quilt_btree.specs.declared.tree.Tree.{Tree}
-use Rattle.quilt_edits.specs.Edits.{AreInOrder}
+use Rattle.quilt_edits.specs.Edits.{EditsAscend}
 use Rattle.quilt_spell.specs.Catalogued.{IsCatalogOf, kind_of}
 use Rattle.quilt_spell.specs.Written.{number_of}
 use Rattle.quilt_point_laws.proofs.Fewer.{del_count_law}
@@ -75,7 +75,7 @@ module _ {W : Type 0} {D : disk.Ghosts W} (session : Session W D) (s : State) (a
     points_fit = layer_fits session s at name layer.number (Points layer.bucket points) is.got here
 
     -- a point layer becomes another
-    pub point_amendment : (next : PointMap) (edits : Edits) → plans.IsPlan s.last.level layer.number layer.bucket points next edits → AreInOrder edits
+    pub point_amendment : (next : PointMap) (edits : Edits) → plans.IsPointPlan s.last.level layer.number layer.bucket points next edits → EditsAscend edits
         → IsAmendment s at.work.numbers session.catalog name layer.number (Points layer.bucket next) edits.remove edits.add
     point_amendment next edits plan order =
         amendment session s at name layer.number (Points layer.bucket points) (Points layer.bucket next) is.got here refl refl
@@ -84,7 +84,7 @@ module _ {W : Type 0} {D : disk.Ghosts W} (session : Session W D) (s : State) (a
 
     -- a layer has no more records without a point
     pub del_within : (p : Pixel) (label : ℕ) (edits : Edits) → finmap.get points p ≡ Some label
-        → plans.IsPlan s.last.level layer.number layer.bucket points (finmap.remove points p) edits → AreInOrder edits
+        → plans.IsPointPlan s.last.level layer.number layer.bucket points (finmap.remove points p) edits → EditsAscend edits
         → records s.last.level (with s name (Points layer.bucket (finmap.remove points p))) ≤ s.quota
     del_within p label edits there plan order =
         never_more session s at name layer.number (Points layer.bucket (finmap.remove points p)) edits.remove edits.add
@@ -110,23 +110,23 @@ module _ {W : Type 0} {D : disk.Ghosts W} (session : Session W D) (s : State) (a
 module _ {W : Type 0} {D : disk.Ghosts W} (old : Session W D) (s : State) (at : IsAtState old s) (b : Book W D) (still : IsStill old.book b)
     (law : IsLawful (D.size b.world) (D.told b.world))
     (name : List ℕ) (layer : PointLayer) (points : PointMap) (is : IsPointsIn s.work old.catalog name layer points) where
-  module _ (next : PointMap → PointMap) (o : Option Edits) (edits : Edits) (is_plan : o ≡ Some edits) (order : IfSome o AreInOrder)
+  module _ (next : PointMap → PointMap) (o : Option Edits) (edits : Edits) (is_plan : o ≡ Some edits) (order : IfSome o EditsAscend)
       (plan : IfSome o (λ e. (all : PointMap) → HoldsPoints old.book layer all
-      → plans.IsPlan old.book.work.level layer.number layer.bucket all (next all) e)) where
-    at_level : plans.IsPlan s.last.level layer.number layer.bucket points (next points) edits
-    at_level = subst (λ (n : ℕ). plans.IsPlan n layer.number layer.bucket points (next points) edits) (level_is old s at)
+      → plans.IsPointPlan old.book.work.level layer.number layer.bucket all (next all) e)) where
+    at_level : plans.IsPointPlan s.last.level layer.number layer.bucket points (next points) edits
+    at_level = subst (λ (n : ℕ). plans.IsPointPlan n layer.number layer.bucket points (next points) edits) (level_is old s at)
         (some_of _ o edits is_plan plan points (points_there old s at name layer points is))
 
     -- a plan that leads to other points
     pub mid_point : IsAmendment s (mid_at old s at b still law).work.numbers old.catalog name layer.number
         (Points layer.bucket (next points)) edits.remove edits.add
     mid_point = point_amendment (with_book old b) s (mid_at old s at b still law) name layer points is (next points) edits at_level
-        (some_of AreInOrder o edits is_plan order)
+        (some_of EditsAscend o edits is_plan order)
 
-  pub mid_within : (p : Pixel) (label : ℕ) → finmap.get points p ≡ Some label → (o : Option Edits) (edits : Edits) → o ≡ Some edits → IfSome o AreInOrder
+  pub mid_within : (p : Pixel) (label : ℕ) → finmap.get points p ≡ Some label → (o : Option Edits) (edits : Edits) → o ≡ Some edits → IfSome o EditsAscend
       → IfSome o (λ e. (all : PointMap) → HoldsPoints old.book layer all
-      → plans.IsPlan old.book.work.level layer.number layer.bucket all (finmap.remove all p) e)
+      → plans.IsPointPlan old.book.work.level layer.number layer.bucket all (finmap.remove all p) e)
       → records s.last.level (with s name (Points layer.bucket (finmap.remove points p))) ≤ s.quota
   mid_within p label there o edits is_plan order plan =
       del_within (with_book old b) s (mid_at old s at b still law) name layer points is p label edits there
-      (at_level (λ all. finmap.remove all p) o edits is_plan order plan) (some_of AreInOrder o edits is_plan order)
+      (at_level (λ all. finmap.remove all p) o edits is_plan order plan) (some_of EditsAscend o edits is_plan order)

@@ -12,7 +12,7 @@ use Rattle.quilt_replies.specs.Answers.{State, layer, grid_in, segs_in, cover_in
 use Rattle.quilt_replies.specs.declared.reply.Reply.{Reply}
 use Rattle.quilt_map.specs.Costs.{cut_pages}
 use Rattle.quilt_map.specs.Reading.{IsAnsweredOk, IsReplied, IsPromised, ReadsFew, warm_left}
-use Rattle.quilt_map.specs.Selecting.{layer_asked, HasFound, IsAnswered, pages_for}
+use Rattle.quilt_map.specs.Selecting.{layer_asked, HasFound, IsAnswered, pages_for_answer}
 use Rattle.quilt_map.proofs.answers.Asked.{if_ok}
 
 -- a bound that holds where it is answered
@@ -39,10 +39,10 @@ module _ (At : State → Type 0) (before now : Option ℕ) where
   abbrev Costs : Command → List ℕ → Result Reply Stop → Type 0
   Costs c l r =
       IfOk r (λ reply. (s : State) → At s → HasFound c (segs_in (layer s l)) → IsAnswered reply
-      → Goes (λ old new. new ≤ old + pages_for s.last.level c (segs_in (layer s l)) (cover_in (layer s l))) before now)
+      → Goes (λ old new. new ≤ old + pages_for_answer s.last.level c (segs_in (layer s l)) (cover_in (layer s l))) before now)
 
   costs_now : (c : Command) (l : List ℕ) (r : Result Reply Stop) → Costs c l r → (s : State) → At s → HasFound c (segs_in (layer s l)) → IsAnsweredOk r
-      → Goes (λ old new. new ≤ old + pages_for s.last.level c (segs_in (layer s l)) (cover_in (layer s l))) before now
+      → Goes (λ old new. new ≤ old + pages_for_answer s.last.level c (segs_in (layer s l)) (cover_in (layer s l))) before now
   costs_now c l (Ok reply) h s at found answered = h s at found answered
   costs_now c l (Err e) h s at found answered = absurd answered
 

@@ -6,7 +6,7 @@ use Rattle.quilt_types.specs.Layers.{Layer, Region, Points, PointMap, Grid}
 use Rattle.quilt_world.specs.Tale.{Goes}
 use Rattle.quilt_replies.specs.Answers.{State, layer, capacity_in, grid_in, points_in}
 use Rattle.quilt_world.proofs.ReadCounts.{reads_then}
-use Rattle.quilt_map.specs.Costs.{within_pages, show_pages, cut_pages, block_pages, block_pages_in}
+use Rattle.quilt_map.specs.Costs.{within_pages, show_pages, cut_pages, layer_block_pages, block_pages_in}
 
 -- the same cost, told otherwise
 pub costs_as : (a b : ℕ) (before now : Option ℕ) → a ≡ b → Goes {A = ℕ} (λ old new. new ≤ old + a) before now
@@ -47,8 +47,8 @@ module _ (s : State) (name : List ℕ) (n : ℕ) (before now : Option ℕ) (same
   cut_cost g side w got h =
       subst (λ (o : Option Layer). Goes {A = ℕ} (λ old new. new ≤ old + cut_pages s.last.level (grid_in o) side w) before now) (sym got) h
 
-  pub blocks_cost : (l : Layer) → finmap.get s.work name ≡ Some l → Goes {A = ℕ} (λ old new. new ≤ old + block_pages n l) before now
+  pub blocks_cost : (l : Layer) → finmap.get s.work name ≡ Some l → Goes {A = ℕ} (λ old new. new ≤ old + layer_block_pages n l) before now
       → Goes {A = ℕ} (λ old new. new ≤ old + block_pages_in s.last.level (layer s name)) before now
   blocks_cost l got h =
       subst (λ (o : Option Layer). Goes {A = ℕ} (λ old new. new ≤ old + block_pages_in s.last.level o) before now) (sym got)
-      (costs_as _ _ before now (ap (λ (m : ℕ). block_pages m l) same) h)
+      (costs_as _ _ before now (ap (λ (m : ℕ). layer_block_pages m l) same) h)

@@ -18,7 +18,7 @@ use Rattle.quilt_replies.specs.Answers.{State, Outcome, Reply, Done, Refused, an
 use Rattle.quilt_replies.specs.Answers.{is_region, layer, segs_in, cover_in, grid_in, grid, nearest_lines, ranked_line, pair_line}
 use Rattle.quilt_replies.specs.declared.reply.Reply as replies
 use Rattle.quilt_map.specs.LineLayers.{IsNoLines}
-use Rattle.quilt_map.specs.Selecting.{layer_asked, is_place, AsksSome, nearest_reply, selected, selected_over, HasFound, IsAnswered, pages_for}
+use Rattle.quilt_map.specs.Selecting.{layer_asked, is_place, AsksSome, nearest_reply, selected, selected_over, HasFound, IsAnswered, pages_for_answer}
 use Rattle.quilt_map.specs.Selecting.{AreNotLinesAndRegion, AreNotLines, crossed}
 use Rattle.quilt_map.specs.Steps.{goes_back}
 use Rattle.quilt_map.proofs.answers.Asks.{Asks, alone_reply}
@@ -92,12 +92,12 @@ module _ (command : Command) (name : List ℕ) (is : layer_asked command ≡ Som
 
     -- what the answer may cost, by the state
     pub ask_reads : (n : ℕ) (reply : replies.Reply) (before now : Option ℕ) → n ≡ s.last.level
-        → (HasFound command segs → IsAnswered reply → Goes (λ old new. new ≤ old + pages_for n command segs cover) before now)
+        → (HasFound command segs → IsAnswered reply → Goes (λ old new. new ≤ old + pages_for_answer n command segs cover) before now)
         → HasFound command (segs_in (layer s name)) → IsAnswered reply → Goes
-        (λ old new. new ≤ old + pages_for s.last.level command (segs_in (layer s name)) (cover_in (layer s name))) before now
+        (λ old new. new ≤ old + pages_for_answer s.last.level command (segs_in (layer s name)) (cover_in (layer s name))) before now
     ask_reads n reply before now same h =
         let Costs : ℕ → Option Layer → Type 0 = λ m o. HasFound command (segs_in o) → IsAnswered reply → Goes
-        (λ old new. new ≤ old + pages_for m command (segs_in o) (cover_in o)) before now in
+        (λ old new. new ≤ old + pages_for_answer m command (segs_in o) (cover_in o)) before now in
         subst (λ (o : Option Layer). Costs s.last.level o) (sym got) (subst (λ (m : ℕ). Costs m (Some (Lines threshold segs cover))) same h)
 
 -- what is spelled asks for one segment at least

@@ -43,7 +43,7 @@ use Rattle.quilt_replies.specs.Answers.{Done, Refused, seg_line, clip_lines, ran
 use Rattle.quilt_replies.specs.Bodies.{clip_line}
 use Rattle.quilt_replies.specs.Runs.{text_of}
 use Rattle.quilt_map.specs.LineLayers.{HoldsLines}
-use Rattle.quilt_map.specs.Selecting.{is_place, nearest_reply, selected, selected_over, is_near, is_asked, pages_for, Shows}
+use Rattle.quilt_map.specs.Selecting.{is_place, nearest_reply, selected, selected_over, is_near, is_asked, pages_for_answer, Shows}
 use Rattle.quilt_map.specs.Sessions.{told_of, tree_in}
 use Rattle.quilt_map.specs.declared.lines.LineLayer.{LineLayer}
 use Rattle.quilt_map.proofs.answers.Answered.{IsBodyOf}
@@ -194,7 +194,7 @@ module _ (command : Command) (segs : SegMap) (l : List ℕ) where
     -- what it may cost
     pub nearest_costs : (n : ℕ) (cover : BlockSet) (before now : Option ℕ) (e : ℕ × Fraction) → o ≡ Some e
         → IfSome o (λ a. Goes (λ old new. new ≤ old + reach n segs cover (is_close p a.1)) before now) → Goes
-        (λ old new. new ≤ old + pages_for n command segs cover) before now
+        (λ old new. new ≤ old + pages_for_answer n command segs cover) before now
     nearest_costs n cover before now e some h =
         let Cost : (Block → Bool) → Type 0 = λ test. Goes (λ old new. new ≤ old + reach n segs cover test) before now in
         let one : Cost (is_close p e.1) = subst (λ (x : Option (ℕ × Fraction)). IfSome x (λ a. Cost (is_close p a.1))) some h in
@@ -227,7 +227,7 @@ module _ (command : Command) (segs : SegMap) (l : List ℕ) where
 -- what a window may cost
 pub window_costs : (command : Command) (segs : SegMap) (cover : BlockSet) (n : ℕ) (w : Window) (before now : Option ℕ) → is_asked command segs ≡ is_touching w
     → Goes (λ old new. new ≤ old + reach n segs cover (is_touching w)) before now → Goes
-    (λ old new. new ≤ old + pages_for n command segs cover) before now
+    (λ old new. new ≤ old + pages_for_answer n command segs cover) before now
 window_costs command segs cover n w before now is h = subst
     (λ (test : Block → Bool). Goes (λ old new. new ≤ old + reach n segs cover test) before now) (sym is) h
 
@@ -242,9 +242,9 @@ over_body n g segs list items all same t written = record {
 
 -- the cost at the view's level
 pub costs_at : (command : Command) (segs : SegMap) (cover : BlockSet) (m n : ℕ) (before now : Option ℕ) → m ≡ n
-    → Goes (λ old new. new ≤ old + pages_for m command segs cover) before now → Goes
-    (λ old new. new ≤ old + pages_for n command segs cover) before now
-costs_at command segs cover m n before now same h = subst (λ (k : ℕ). Goes (λ old new. new ≤ old + pages_for k command segs cover) before now) same h
+    → Goes (λ old new. new ≤ old + pages_for_answer m command segs cover) before now → Goes
+    (λ old new. new ≤ old + pages_for_answer n command segs cover) before now
+costs_at command segs cover m n before now same h = subst (λ (k : ℕ). Goes (λ old new. new ≤ old + pages_for_answer k command segs cover) before now) same h
 
 -- ---- ids that rise
 all_by : {X : Type 0} (P : X → Type 0) (xs : List X) → ((y : X) → Contains xs y → P y) → AllByRecursion P xs

@@ -18,7 +18,7 @@ use Rattle.std.proofs.lemmas.Option.{none-some, same_Some}
 use Rattle.quilt_types.specs.declared.plane.Kind.TheVariants as kinds
 use Rattle.quilt_types.specs.Layers.{Layer, Map}
 use Rattle.quilt_record.specs.declared.entry.Entry.{Entry}
-use Rattle.quilt_record.specs.Catalogs.{IsCatalog, AreInOrder, name_cmp, with_entry}
+use Rattle.quilt_record.specs.Catalogs.{IsCatalog, NamesAscend, name_cmp, with_entry}
 use Rattle.quilt_record.specs.Records.{Numbering}
 use Rattle.quilt_record.proofs.Entries.{place_last}
 use Rattle.quilt_loc.specs.Codes.{Rises}
@@ -27,7 +27,7 @@ use Rattle.quilt_loc.proofs.Members.{list_all-at}
 use Rattle.quilt_loc.proofs.Rising.{same_rising, Rises-map, Rises-range}
 use Rattle.quilt_spell.specs.Written.{number_of, IsNumbering}
 use Rattle.quilt_spell.specs.Changing.{with_layer, with_number}
-use Rattle.quilt_spell.specs.Catalogued.{kind_of, entry_of, IsCatalogOf}
+use Rattle.quilt_spell.specs.Catalogued.{kind_of, catalog_entry, IsCatalogOf}
 use Rattle.quilt_spell.proofs.Maps.{by_first, Rises-entries, entry_from_get, get_from_entry, get_inserted, get_others, get_kept, same_or_not}
 use Rattle.quilt_spell.proofs.Changes.{got_here, got_there}
 use Rattle.quilt_spell.proofs.Lists.{Apart-rises, Apart-le}
@@ -46,19 +46,19 @@ by_name_total = on_total (λ (e : Entry). e.name) nat_list_cmp_total
 module _ (layers : Map) (numbers : Numbering) where
   -- a layer has an entry, and an entry has a layer
   pub entry_there : (entries : List Entry) → IsCatalogOf layers numbers entries → (name : List ℕ) (layer : Layer)
-      → finmap.get layers name ≡ Some layer → Contains entries (entry_of numbers (name, layer))
+      → finmap.get layers name ≡ Some layer → Contains entries (catalog_entry numbers (name, layer))
   entry_there entries c name layer at =
-      subst (λ (es : List Entry). Contains es (entry_of numbers (name, layer))) (sym c.each)
-      (Contains-map (entry_of numbers) (finmap.entries layers) (name, layer)
+      subst (λ (es : List Entry). Contains es (catalog_entry numbers (name, layer))) (sym c.each)
+      (Contains-map (catalog_entry numbers) (finmap.entries layers) (name, layer)
       (entry_from_get (slice_cmp nat_cmp) nat_list_cmp_total name_same layers name layer at))
 
   pub layer_there : (entries : List Entry) → IsCatalogOf layers numbers entries → (e : Entry) → Contains entries e
-      → (layer : Layer) × (finmap.get layers e.name ≡ Some layer) × (e ≡ entry_of numbers (e.name, layer))
+      → (layer : Layer) × (finmap.get layers e.name ≡ Some layer) × (e ≡ catalog_entry numbers (e.name, layer))
   layer_there entries c e there =
-      let m = Contains-map_from (entry_of numbers) (finmap.entries layers) e (subst (λ (es : List Entry). Contains es e) c.each there) in
+      let m = Contains-map_from (catalog_entry numbers) (finmap.entries layers) e (subst (λ (es : List Entry). Contains es e) c.each there) in
       let at = get_from_entry (slice_cmp nat_cmp) nat_list_cmp_total name_same layers m.0 m.1 in
       let name : m.0.0 ≡ e.name = ap (λ (d : Entry). d.name) m.2 in
-      (m.0.1, ap (finmap.get layers) (sym name) ∙ at, sym m.2 ∙ ap (λ (b : List ℕ). entry_of numbers (b, m.0.1)) name)
+      (m.0.1, ap (finmap.get layers) (sym name) ∙ at, sym m.2 ∙ ap (λ (b : List ℕ). catalog_entry numbers (b, m.0.1)) name)
 
   -- ---- what a look-up says
   pub no_layer : (entries : List Entry) (name : List ℕ) → IsCatalogOf layers numbers entries → All (λ e. e.name ≢ name) entries → finmap.get layers name ≡ None
@@ -67,7 +67,7 @@ module _ (layers : Map) (numbers : Numbering) where
       by_case : (o : Option Layer) → finmap.get layers name ≡ o → o ≡ None
       by_case None e = refl
       by_case (Some l) e =
-          absurd (All-contains (λ (d : Entry). d.name ≢ name) entries (entry_of numbers (name, l)) others (entry_there entries c name l e) refl)
+          absurd (All-contains (λ (d : Entry). d.name ≢ name) entries (catalog_entry numbers (name, l)) others (entry_there entries c name l e) refl)
 
   pub layer_at : (entries : List Entry) (name : List ℕ) (i : ℕ) (d : Entry) → IsCatalogOf layers numbers entries → i < length entries
       → (get_or entries i d).name ≡ name → IsLayerAt layers numbers entries name i
@@ -76,22 +76,22 @@ module _ (layers : Map) (numbers : Numbering) where
         layer = l.0;
         got = ap (finmap.get layers) (sym named) ∙ l.1;
         inside = lt;
-        entry = λ e. get_or_default entries i e d lt ∙ l.2 ∙ ap (λ (b : List ℕ). entry_of numbers (b, l.0)) named;
+        entry = λ e. get_or_default entries i e d lt ∙ l.2 ∙ ap (λ (b : List ℕ). catalog_entry numbers (b, l.0)) named;
       }
 
   -- ---- the order of the names
   pub catalog_rises : (entries : List Entry) → IsCatalogOf layers numbers entries → Rises by_name entries
   catalog_rises entries c =
       subst (Rises by_name) (sym c.each)
-      (Rises-map (by_first (slice_cmp nat_cmp)) by_name (entry_of numbers) (finmap.entries layers) (λ a b _ _ h. h) (Rises-entries (slice_cmp nat_cmp) layers))
+      (Rises-map (by_first (slice_cmp nat_cmp)) by_name (catalog_entry numbers) (finmap.entries layers) (λ a b _ _ h. h) (Rises-entries (slice_cmp nat_cmp) layers))
 
   -- rising entries are the catalog where each layer has one and each is a layer's
   pub catalog_from : (entries : List Entry) → Rises by_name entries
-      → ((name : List ℕ) (layer : Layer) → finmap.get layers name ≡ Some layer → Contains entries (entry_of numbers (name, layer)))
-      → ((e : Entry) → Contains entries e → (layer : Layer) × (finmap.get layers e.name ≡ Some layer) × (e ≡ entry_of numbers (e.name, layer)))
+      → ((name : List ℕ) (layer : Layer) → finmap.get layers name ≡ Some layer → Contains entries (catalog_entry numbers (name, layer)))
+      → ((e : Entry) → Contains entries e → (layer : Layer) × (finmap.get layers e.name ≡ Some layer) × (e ≡ catalog_entry numbers (e.name, layer)))
       → IsCatalogOf layers numbers entries
   catalog_from entries up has only =
-      let all = map (entry_of numbers) (finmap.entries layers) in
+      let all = map (catalog_entry numbers) (finmap.entries layers) in
       let made : IsCatalogOf layers numbers all = record { each = refl } in record {
         each = same_rising by_name by_name_total entries all up (catalog_rises all made) (λ e. (
           λ c. let l = only e c in subst (Contains all) (sym l.2) (entry_there all made e.name l.0 l.1),
@@ -101,7 +101,7 @@ module _ (layers : Map) (numbers : Numbering) where
 
   -- as many entries as layers
   pub catalog_length : (entries : List Entry) → IsCatalogOf layers numbers entries → length entries ≡ finmap.len layers
-  catalog_length entries c = ap length c.each ∙ length-map (finmap.entries layers) (entry_of numbers) ∙ sym (finmap.len-entries layers)
+  catalog_length entries c = ap length c.each ∙ length-map (finmap.entries layers) (catalog_entry numbers) ∙ sym (finmap.len-entries layers)
 
 -- ---- a search by name
 pub is_none : {X : Type 0} (o : Option X) → IsNone o → o ≡ None
@@ -182,7 +182,7 @@ module _ (entries : List Entry) where
   unused_number k none layers numbers is num name at =
       let l = num.only name k at in
       let there = entry_there layers numbers entries is name l.0 l.1 in
-      let t = member_any (λ (e : Entry). e.number == k) entries (entry_of numbers (name, l.0)) there
+      let t = member_any (λ (e : Entry). e.number == k) entries (catalog_entry numbers (name, l.0)) there
       (eq-eqb (number_of numbers name) k (number_at numbers name k at)) in
       let z : true ≡ false = sym t ∙ none in cc
 
@@ -205,7 +205,7 @@ less_is Equal h = cc
 less_is Greater h = cc
 
 -- the entries before a place have names before its name
-names_before : (entries : List Entry) (i : ℕ) (d : Entry) → AreInOrder entries → i < length entries → (f : Entry) → Contains (take i entries) f
+names_before : (entries : List Entry) (i : ℕ) (d : Entry) → NamesAscend entries → i < length entries → (f : Entry) → Contains (take i entries) f
     → name_cmp f.name (get_or entries i d).name ≡ Less
 names_before [] i d order lt f c = absurd (let no : ⊥ = omega arith in no)
 names_before (e ∷ es) zero d order lt f c = absurd (Contains-nil f c)
@@ -330,7 +330,7 @@ without_rises (g ∷ gs) (suc i) d name up lt at =
     (λ f c. up.0 f ((without_members gs i d name up.1 inside at f).0 c).0, without_rises gs i d name up.1 inside at)
 
 -- ---- what a command does to the catalog
-same_entry : (m n : Numbering) (name : List ℕ) (layer : Layer) → number_of m name ≡ number_of n name → entry_of m (name, layer) ≡ entry_of n (name, layer)
+same_entry : (m n : Numbering) (name : List ℕ) (layer : Layer) → number_of m name ≡ number_of n name → catalog_entry m (name, layer) ≡ catalog_entry n (name, layer)
 same_entry m n name layer same = ap (λ (k : ℕ). record { number = k; name = name; kind = kind_of layer }) same
 
 module _ (layers : Map) (numbers : Numbering) (entries : List Entry) (c : IsCatalogOf layers numbers entries) (name : List ℕ) where
@@ -354,24 +354,24 @@ module _ (layers : Map) (numbers : Numbering) (entries : List Entry) (c : IsCata
       let after = with_layer layers name (Some new) in
       let numbered = with_number numbers name number (Some new) in
       let named : e.name ≡ name = ap (λ (f : Entry). f.name) is in
-      let made : entry_of numbered (name, new) ≡ e = ap (λ (k : ℕ). record { number = k; name = name; kind = kind_of new }) (number_here number new) ∙ sym is in
+      let made : catalog_entry numbered (name, new) ≡ e = ap (λ (k : ℕ). record { number = k; name = name; kind = kind_of new }) (number_here number new) ∙ sym is in
       let apart = λ (f : Entry) (there : Contains entries f). All-contains (λ (g : Entry). g.name ≢ name) entries f others there in
       catalog_from after numbered (with_entry e entries)
       (with_rises e entries (catalog_rises layers numbers entries c) (λ f there same. apart f there (same ∙ named)))
       (λ b l at. ⊎_elim
       (λ same.
       let value : new ≡ l = same_Some new l (sym (got_here layers name (Some new)) ∙ ap (finmap.get after) (sym same) ∙ at) in
-      let pair : e ≡ entry_of numbered (b, l) = sym made ∙ (λ i. entry_of numbered (sym same i, value i)) in
-      (with_members e entries (entry_of numbered (b, l))).1 (inl (sym pair)))
+      let pair : e ≡ catalog_entry numbered (b, l) = sym made ∙ (λ i. catalog_entry numbered (sym same i, value i)) in
+      (with_members e entries (catalog_entry numbered (b, l))).1 (inl (sym pair)))
       (λ d.
       let was = entry_there layers numbers entries c b l (sym (got_there layers name (Some new) b d) ∙ at) in
-      (with_members e entries (entry_of numbered (b, l))).1
+      (with_members e entries (catalog_entry numbered (b, l))).1
       (inr (subst (Contains entries) (same_entry numbers numbered b l (sym (number_there number (Some new) b d))) was)))
       (which b))
       (λ f there. ⊎_elim
       (λ same.
       let fname : f.name ≡ name = ap (λ (g : Entry). g.name) same ∙ named in
-      (new, ap (finmap.get after) fname ∙ got_here layers name (Some new), same ∙ sym made ∙ (λ i. entry_of numbered (sym fname i, new))))
+      (new, ap (finmap.get after) fname ∙ got_here layers name (Some new), same ∙ sym made ∙ (λ i. catalog_entry numbered (sym fname i, new))))
       (λ was.
       let l = layer_there layers numbers entries c f was in
       let d = apart f was in
@@ -392,7 +392,7 @@ module _ (layers : Map) (numbers : Numbering) (entries : List Entry) (c : IsCata
       (λ same. absurd (none-some l (sym (got_here layers name None) ∙ ap (finmap.get after) (sym same) ∙ got)))
       (λ differ.
       let was = entry_there layers numbers entries c b l (sym (got_there layers name None b differ) ∙ got) in
-      (members (entry_of numbered (b, l))).1 (subst (Contains entries) (same_entry numbers numbered b l (sym (number_there number None b differ))) was, differ))
+      (members (catalog_entry numbered (b, l))).1 (subst (Contains entries) (same_entry numbers numbered b l (sym (number_there number None b differ))) was, differ))
       (which b))
       (λ f there.
       let r = (members f).0 there in
@@ -405,13 +405,13 @@ module _ (layers : Map) (numbers : Numbering) (entries : List Entry) (c : IsCata
   catalog_stays old new number was kinds_same num =
       let after = with_layer layers name (Some new) in
       let numbered = with_number numbers name number (Some new) in
-      let here : entry_of numbers (name, old) ≡ entry_of numbered (name, new) =
+      let here : catalog_entry numbers (name, old) ≡ catalog_entry numbered (name, new) =
       λ i. record { number = (num ∙ sym (number_here number new)) i; name = name; kind = kinds_same i } in
       catalog_from after numbered entries (catalog_rises layers numbers entries c)
       (λ b l at. ⊎_elim
       (λ same.
       let value : new ≡ l = same_Some new l (sym (got_here layers name (Some new)) ∙ ap (finmap.get after) (sym same) ∙ at) in
-      let pair : entry_of numbered (name, new) ≡ entry_of numbered (b, l) = λ i. entry_of numbered (sym same i, value i) in
+      let pair : catalog_entry numbered (name, new) ≡ catalog_entry numbered (b, l) = λ i. catalog_entry numbered (sym same i, value i) in
       subst (Contains entries) (here ∙ pair) (entry_there layers numbers entries c name old was))
       (λ d. subst (Contains entries) (same_entry numbers numbered b l (sym (number_there number (Some new) b d)))
       (entry_there layers numbers entries c b l (sym (got_there layers name (Some new) b d) ∙ at)))
@@ -421,8 +421,8 @@ module _ (layers : Map) (numbers : Numbering) (entries : List Entry) (c : IsCata
       ⊎_elim
       (λ same.
       let value : l.0 ≡ old = same_Some l.0 old (sym l.1 ∙ ap (finmap.get layers) same ∙ was) in
-      let is : entry_of numbers (f.name, l.0) ≡ entry_of numbers (name, old) = λ i. entry_of numbers (same i, value i) in
-      (new, ap (finmap.get after) same ∙ got_here layers name (Some new), l.2 ∙ is ∙ here ∙ (λ i. entry_of numbered (sym same i, new))))
+      let is : catalog_entry numbers (f.name, l.0) ≡ catalog_entry numbers (name, old) = λ i. catalog_entry numbers (same i, value i) in
+      (new, ap (finmap.get after) same ∙ got_here layers name (Some new), l.2 ∙ is ∙ here ∙ (λ i. catalog_entry numbered (sym same i, new))))
       (λ d. (
         l.0,
         got_there layers name (Some new) f.name d ∙ l.1,

@@ -24,7 +24,7 @@ use Rattle.quilt_edition.specs.Keeping.{IsLater}
 use Rattle.quilt_edition.specs.Laws.{later_same}
 use Rattle.quilt_replies.specs.Answers.{State}
 use Rattle.quilt_map.specs.Editing.{SameButTree}
-use Rattle.quilt_map.specs.Planning.{IsPlan, HasLayer, IsFull}
+use Rattle.quilt_map.specs.Planning.{IsLayerPlan, HasLayer, IsFull}
 use Rattle.quilt_map.specs.Sessions.{IsAtState, tree_in, told_of, free_of, changed_of, last_count}
 use Rattle.quilt_map.specs.declared.session.Session.{Session}
 use Rattle.quilt_map.proofs.states.Keeping.{published_on}
@@ -76,7 +76,7 @@ module _ {W : Type 0} {D : disk.Ghosts W} where
         (sym at.pages_told) at.work.whole
 
     module _ (name : List ℕ) (number : ℕ) (layer : Option Layer) (removed added : List Record)
-        (plan : IsPlan s at.work.numbers name number layer removed added) where
+        (plan : IsLayerPlan s at.work.numbers name number layer removed added) where
       pub there : has_each (keys_of removed) at.work.records ≡ true
       there = plan_there s.last.format s.last.level at.work.numbers at.work.records s.work at_most at_spelled name number layer removed added plan.step
 

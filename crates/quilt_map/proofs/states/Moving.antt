@@ -15,7 +15,7 @@ use Rattle.quilt_record.specs.declared.entry.Entry.{Entry}
 use Rattle.quilt_record.specs.declared.record.Record.{Record}
 use Rattle.quilt_node.specs.declared.head.Head.{Head}
 use Rattle.quilt_btree.specs.declared.tree.Tree.{Tree}
-use Rattle.quilt_btree.specs.Edits.{IsWhole, times}
+use Rattle.quilt_btree.specs.Edits.{IsWhole, multiplicity}
 use Rattle.quilt_spell.specs.Spelled.{SpellsUnder}
 use Rattle.quilt_pool.specs.Views.{entries_of}
 use Rattle.quilt_pool.specs.declared.pool.Pool.{Pool}
@@ -61,7 +61,7 @@ pub whole_free : (told : Option Pages) (free now : ℕ → Bool) (n : ℕ) (t : 
 whole_free told free now n t rs same whole = record {
   tree = whole.tree;
   number = whole.number;
-  balance = λ p low high. ap (λ b. cond b 1 0 + times p whole.tree.visited) (same p) ∙ whole.balance p low high;
+  balance = λ p low high. ap (λ b. cond b 1 0 + multiplicity p whole.tree.visited) (same p) ∙ whole.balance p low high;
 }
 
 module _ {W : Type 0} {D : disk.Ghosts W} where

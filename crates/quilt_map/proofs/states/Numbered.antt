@@ -18,7 +18,7 @@ use Rattle.quilt_spell.specs.Catalogued.{kind_of, IsCatalogOf}
 use Rattle.quilt_spell.proofs.Maps.{entry_from_get}
 use Rattle.quilt_spell.proofs.Spelling.{all_from}
 use Rattle.quilt_spell.proofs.Written.{name_same, number_at}
-use Rattle.quilt_map.specs.Sessions.{KindFits, IsNumbered}
+use Rattle.quilt_map.specs.Sessions.{KindInRange, IsNumbered}
 use Rattle.quilt_map.proofs.states.Catalogs.{by_name, with_members, layer_there, catalog_rises, never_before}
 
 differ_more : (e : Entry) (es : List Entry) → ((f : Entry) → Contains es f → f.number ≡ e.number → ⊥)
@@ -80,16 +80,16 @@ differ_without (g ∷ gs) (suc i) h =
     differ_more g (remove gs i) (λ f c. differ_head g gs h f (removed_there gs i f c)) (differ_without gs i (differ_tail g gs h))
 
 -- an entry comes, with a number that no other has
-pub numbered_comes : (e : Entry) (es : List Entry) → IsNumbered es → 1 ≤ e.number → All (λ f. f.number ≢ e.number) es → KindFits e.kind
+pub numbered_comes : (e : Entry) (es : List Entry) → IsNumbered es → 1 ≤ e.number → All (λ f. f.number ≢ e.number) es → KindInRange e.kind
     → IsNumbered (with_entry e es)
 numbered_comes e es h least new fits = record {
   least = all_from (λ (f : Entry). 1 ≤ f.number) (with_entry e es)
       (λ f c. ⊎_elim (λ same. subst (λ (g : Entry). 1 ≤ g.number) (sym same) least)
       (λ there. All-contains (λ (g : Entry). 1 ≤ g.number) es f h.least there) ((with_members e es f).0 c));
   differ = differ_with e es (λ f c. All-contains (λ (g : Entry). g.number ≢ e.number) es f new c) h.differ;
-  kinds = all_from (λ (f : Entry). KindFits f.kind) (with_entry e es)
-      (λ f c. ⊎_elim (λ same. subst (λ (g : Entry). KindFits g.kind) (sym same) fits)
-      (λ there. All-contains (λ (g : Entry). KindFits g.kind) es f h.kinds there) ((with_members e es f).0 c));
+  kinds = all_from (λ (f : Entry). KindInRange f.kind) (with_entry e es)
+      (λ f c. ⊎_elim (λ same. subst (λ (g : Entry). KindInRange g.kind) (sym same) fits)
+      (λ there. All-contains (λ (g : Entry). KindInRange g.kind) es f h.kinds there) ((with_members e es f).0 c));
 }
 
 -- an entry goes
@@ -97,11 +97,11 @@ pub numbered_goes : (es : List Entry) (i : ℕ) → IsNumbered es → IsNumbered
 numbered_goes es i h = record {
   least = all_from (λ (f : Entry). 1 ≤ f.number) (remove es i) (λ f c. All-contains (λ (g : Entry). 1 ≤ g.number) es f h.least (removed_there es i f c));
   differ = differ_without es i h.differ;
-  kinds = all_from (λ (f : Entry). KindFits f.kind) (remove es i) (λ f c. All-contains (λ (g : Entry). KindFits g.kind) es f h.kinds (removed_there es i f c));
+  kinds = all_from (λ (f : Entry). KindInRange f.kind) (remove es i) (λ f c. All-contains (λ (g : Entry). KindInRange g.kind) es f h.kinds (removed_there es i f c));
 }
 
 -- what a layer of a format is has a kind that fits
-kind_fits : (form n : ℕ) (layer : Layer) → IsLayer form n layer → KindFits (kind_of layer)
+kind_fits : (form n : ℕ) (layer : Layer) → IsLayer form n layer → KindInRange (kind_of layer)
 kind_fits form n (Region grid) h = tt
 kind_fits form n (Points capacity points) h = (h.least, by_format (form == 1) h.most)
   where
@@ -134,7 +134,7 @@ numbered_from form n layers numbers es map num c =
     k.1 ∙ ap Some (sym is) in record {
       least = all_from (λ (f : Entry). 1 ≤ f.number) es (λ e there. (num.in_range e.name e.number (has e there)).0);
       differ = differ_rising es (catalog_rises layers numbers es c) (λ d e a b same. num.differ d.name e.name e.number (has d a ∙ ap Some same) (has e b));
-      kinds = all_from (λ (f : Entry). KindFits f.kind) es (λ e there.
+      kinds = all_from (λ (f : Entry). KindInRange f.kind) es (λ e there.
           let l = layer_there layers numbers es c e there in
-          subst KindFits (ap (λ (f : Entry). f.kind) (sym l.2)) (kind_fits form n l.0 (layer_fits form n layers map e.name l.0 l.1)));
+          subst KindInRange (ap (λ (f : Entry). f.kind) (sym l.2)) (kind_fits form n l.0 (layer_fits form n layers map e.name l.0 l.1)));
     }

@@ -13,7 +13,7 @@ use Rattle.quilt_record.proofs.Names.{some_same}
 use Rattle.quilt_node.specs.Tree.{Bounds, bounded, Whole, walk_of}
 use Rattle.quilt_btree.specs.declared.tree.Tree.{Tree}
 use Rattle.quilt_btree.specs.Subtree.{Reading, Row, Subtree}
-use Rattle.quilt_btree.specs.Edits.{IsWhole, times}
+use Rattle.quilt_btree.specs.Edits.{IsWhole, multiplicity}
 use Rattle.quilt_btree.proofs.growth.TreeGrowth.{root_found}
 use Rattle.quilt_btree.proofs.subtrees.Trees.{inner_list}
 use Rattle.quilt_btree.proofs.subtrees.Walks.{same_number}
@@ -86,5 +86,5 @@ whole_over pages free now n t rs bytes some same whole =
             (λ p is. get_or-set_other pages 0 p bytes [] (λ e. false≢true (sym none ∙ ap (λ q. list_any (λ v. v == q) tree.visited) (sym e) ∙ is))) walk;
       };
       number = whole.number;
-      balance = λ p low high. ap (λ b. cond b 1 0 + times p tree.visited) (same p) ∙ whole.balance p low high;
+      balance = λ p low high. ap (λ b. cond b 1 0 + multiplicity p tree.visited) (same p) ∙ whole.balance p low high;
     }

@@ -1,6 +1,6 @@
 ghost use Rattle.std.specs.Prelude.{◌≡◌, ◌+◌, ◌^◌, ◌<◌, IfOk, IfSome, drop, length};
-ghost use Rattle.quilt_host.specs.Bytes.{padded, overlaid};
-ghost use Rattle.quilt_host.specs.Worlds.{IsFresh};
+ghost use Rattle.quilt_host.specs.Bytes.{padded, patched};
+ghost use Rattle.quilt_host.specs.Worlds.{IsUnasked};
 
 use super::Memory;
 use crate::schedule::Schedule;
@@ -16,7 +16,7 @@ impl Memory {
         file: Option<&[u8]>,
         input: &[u8],
     ) -> Result<Memory, AllocError>
-        ensures fresh { IfOk result (λ m. IfSome (⟦<Memory as System>⟧.told m) IsFresh) }
+        ensures fresh { IfOk result (λ m. IfSome (⟦<Memory as System>⟧.told m) IsUnasked) }
     {
         let mut owned = Vec::new(alloc);
         for word in words {
@@ -125,7 +125,7 @@ pub(crate) fn laid_over(
     bytes: &[u8],
 ) -> Result<Vec<u8>, AllocError>
     requires { at + length bytes.now < 2 ^ 64 }
-    ensures { IfOk result (λ v. v.items ≡ overlaid file.now at bytes.now) }
+    ensures { IfOk result (λ v. v.items ≡ patched file.now at bytes.now) }
 {
     let mut all = padded_to(alloc, file, at)?;
     all.extend_from_slice(bytes)?;

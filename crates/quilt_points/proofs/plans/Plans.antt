@@ -19,7 +19,7 @@ use Rattle.quilt_record.specs.declared.edits.Edits.{Edits}
 use Rattle.quilt_points.specs.Layers.{block_record}
 use Rattle.quilt_points.specs.Reads.{IsRow}
 use Rattle.quilt_edits.specs.Edits.{HaveOwnKeys, CanBeEdits}
-use Rattle.quilt_points.specs.Plans.{IsPlan}
+use Rattle.quilt_points.specs.Plans.{IsPointPlan}
 use Rattle.quilt_points.proofs.Shapes.{shaped, point_record_is, key_is}
 use Rattle.quilt_points.proofs.Ranges.{same_block}
 use Rattle.quilt_points.proofs.Said.{row_alone}
@@ -125,7 +125,7 @@ module _ (n capacity number : ℕ) (le : n ≤ 12) (least : 1 ≤ number) (most 
 
     pub plan : ((form : ℕ) → IsPointMap form n capacity old → IsPointMap form n capacity new) → (edits : Edits)
         → IsPermutation (map (block_record n capacity number) gone) edits.remove → IsPermutation (map (block_record n capacity number) come) edits.add
-        → IsPlan n number capacity old new edits
+        → IsPointPlan n number capacity old new edits
     plan valid edits pr pa = record {
       valid = valid;
       leads = λ name. leads_permuted n name number (Some (Points capacity old)) (Some (Points capacity new))

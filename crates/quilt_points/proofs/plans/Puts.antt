@@ -24,11 +24,11 @@ use Rattle.quilt_point_laws.specs.Plans.{without_it, with_it}
 use Rattle.quilt_point_laws.specs.Spreading.{held_facts, spread}
 use Rattle.quilt_point_laws.proofs.Counts.{Comes, put_comes}
 use Rattle.quilt_point_laws.proofs.Plans.{Changes, one_more, put_valid}
-use Rattle.quilt_points.specs.Layers.{entry_of, entries_of, block_record}
+use Rattle.quilt_points.specs.Layers.{point_entry, point_entries, block_record}
 use Rattle.quilt_points.specs.Reads.{IsHeld}
 use Rattle.quilt_point_laws.specs.Growing.{gone_of, come_of}
 use Rattle.quilt_edits.specs.Edits.{CanBeEdits}
-use Rattle.quilt_points.specs.Plans.{IsPlan}
+use Rattle.quilt_points.specs.Plans.{IsPointPlan}
 use Rattle.quilt_points.proofs.Finds.{none_or_some}
 use Rattle.quilt_points.proofs.Shapes.{block_is}
 use Rattle.quilt_points.proofs.plans.Plans as plans
@@ -50,35 +50,35 @@ pub one_come : (capacity k : ℕ) (b : Block) (held : List (Pixel × ℕ)) (p : 
 one_come capacity k b held p label = ap (λ t. cond t (HoldsPoint b p label ∷ []) (spread capacity k b ((p, label) ∷ held))) (room_test (length held) capacity)
 
 -- the point at a pixel of a block is one of the block's
-pub point_held : (n capacity : ℕ) (points : PointMap) (b : Block) (held : List Point) (at : Pixel) (label : ℕ) → AreIn points b (entries_of held)
+pub point_held : (n capacity : ℕ) (points : PointMap) (b : Block) (held : List Point) (at : Pixel) (label : ℕ) → AreIn points b (point_entries held)
     → in_block b at ≡ true → finmap.get points at ≡ Some label → (p : Point) × Contains held p × (p.at ≡ at) × (p.label ≡ label)
 point_held n capacity points b held at label are on some =
     let e : Pixel × ℕ = (at, label) in
     let c =
     (are.members e).1 (Contains-filter (λ (d : Pixel × ℕ). in_block b d.0) (finmap.entries points) e
     (entry_from_get pixel_cmp pixel_total pixel_same points at label some) on) in
-    let p = Contains-map_from entry_of held e c in
+    let p = Contains-map_from point_entry held e c in
     (p.0, p.1, ap (λ (d : Pixel × ℕ). d.0) p.2, ap (λ (d : Pixel × ℕ). d.1) p.2)
 
-pub held_point : (points : PointMap) (b : Block) (held : List Point) (p : Point) → AreIn points b (entries_of held) → Contains held p
+pub held_point : (points : PointMap) (b : Block) (held : List Point) (p : Point) → AreIn points b (point_entries held) → Contains held p
     → finmap.get points p.at ≡ Some p.label
 held_point points b held p are c =
-    let w = Contains-filter_from (λ (d : Pixel × ℕ). in_block b d.0) (finmap.entries points) (entry_of p)
-    ((are.members (entry_of p)).0 (Contains-map entry_of held p c)) in
-    get_from_entry pixel_cmp pixel_total pixel_same points (entry_of p) w.0
+    let w = Contains-filter_from (λ (d : Pixel × ℕ). in_block b d.0) (finmap.entries points) (point_entry p)
+    ((are.members (point_entry p)).0 (Contains-map point_entry held p c)) in
+    get_from_entry pixel_cmp pixel_total pixel_same points (point_entry p) w.0
 
 pub is_some_from : {X : Type 0} (o : Option X) (x : X) → o ≡ Some x → IsSome o
 is_some_from None x e = absurd (none-some x e)
 is_some_from (Some y) x e = refl
 
 -- no point at a pixel of the block where none of the block's is
-pub free_from : (n capacity : ℕ) (points : PointMap) (b : Block) (held : List Point) (at : Pixel) → AreIn points b (entries_of held)
+pub free_from : (n capacity : ℕ) (points : PointMap) (b : Block) (held : List Point) (at : Pixel) → AreIn points b (point_entries held)
     → in_block b at ≡ true → ((p : Point) → Contains held p → p.at ≡ at → ⊥) → finmap.get points at ≡ None
 free_from n capacity points b held at are on away =
     ⊎_elim (λ none. none) (λ s. let p = point_held n capacity points b held at s.0 are on s.1 in absurd (away p.0 p.1 p.2))
     (none_or_some (finmap.get points at))
 
-pub taken_from : (points : PointMap) (b : Block) (held : List Point) (at : Pixel) → AreIn points b (entries_of held) → (p : Point) → Contains held p
+pub taken_from : (points : PointMap) (b : Block) (held : List Point) (at : Pixel) → AreIn points b (point_entries held) → (p : Point) → Contains held p
     → p.at ≡ at → IsSome (finmap.get points at)
 taken_from points b held at are p c e = is_some_from (finmap.get points at) p.label (ap (finmap.get points) (sym e) ∙ held_point points b held p are c)
 
@@ -91,8 +91,8 @@ module _ (n capacity number : ℕ) (le : n ≤ 12) (least : 1 ≤ number) (most 
     (b : Block) (held : List Point) (is : IsHeld n capacity points b held) (p : Point) (on : in_block b p.at ≡ true)
     (inside : is_pixel n p.at ≡ true) (small : p.label < 2 ^ 32)
     (free : finmap.get points p.at ≡ None) (k : ℕ) (s : b.side ≡ 2 ^ k) (gone come : List Record)
-    (gone_is : gone ≡ map (block_record n capacity number) (gone_of capacity b (entries_of held) (entries_of (p ∷ []))))
-    (come_is : come ≡ map (block_record n capacity number) (come_of capacity k b (entries_of held) (entries_of (p ∷ [])))) where
+    (gone_is : gone ≡ map (block_record n capacity number) (gone_of capacity b (point_entries held) (point_entries (p ∷ []))))
+    (come_is : come ≡ map (block_record n capacity number) (come_of capacity k b (point_entries held) (point_entries (p ∷ [])))) where
   after : PointMap
   after = finmap.insert points p.at p.label
 
@@ -100,31 +100,31 @@ module _ (n capacity number : ℕ) (le : n ≤ 12) (least : 1 ≤ number) (most 
   comes = put_comes points p.at p.label free
 
   changes : Changes (facts n (Points capacity points)) (facts n (Points capacity (finmap.insert points p.at p.label)))
-      (without_it capacity b (entries_of held)) (with_it capacity k b (entries_of held) p.at p.label)
+      (without_it capacity b (point_entries held)) (with_it capacity k b (point_entries held) p.at p.label)
   changes = one_more points (finmap.insert points p.at p.label) p.at p.label comes n capacity valid.least b (block_is n capacity points b is.block)
-      (Holds-from b p.at on) k s (entries_of held) is.are
+      (Holds-from b p.at on) k s (point_entries held) is.are
 
   now_valid : (form : ℕ) → IsPointMap form n capacity points → IsPointMap form n capacity (finmap.insert points p.at p.label)
   now_valid form v = put_valid form n capacity points (finmap.insert points p.at p.label) p.at p.label comes v inside small
 
-  gone_rows : map (block_record n capacity number) (without_it capacity b (entries_of held)) ≡ gone
-  gone_rows = ap (map (block_record n capacity number)) (sym (one_gone capacity b (entries_of held) (entry_of p))) ∙ sym gone_is
+  gone_rows : map (block_record n capacity number) (without_it capacity b (point_entries held)) ≡ gone
+  gone_rows = ap (map (block_record n capacity number)) (sym (one_gone capacity b (point_entries held) (point_entry p))) ∙ sym gone_is
 
-  come_rows : map (block_record n capacity number) (with_it capacity k b (entries_of held) p.at p.label) ≡ come
-  come_rows = ap (map (block_record n capacity number)) (sym (one_come capacity k b (entries_of held) p.at p.label)) ∙ sym come_is
+  come_rows : map (block_record n capacity number) (with_it capacity k b (point_entries held) p.at p.label) ≡ come
+  come_rows = ap (map (block_record n capacity number)) (sym (one_come capacity k b (point_entries held) p.at p.label)) ∙ sym come_is
 
   pub put_can : CanBeEdits gone come
   put_can =
       subst (λ (rs : List Record). CanBeEdits rs come) gone_rows
-      (subst (CanBeEdits (map (block_record n capacity number) (without_it capacity b (entries_of held)))) come_rows
+      (subst (CanBeEdits (map (block_record n capacity number) (without_it capacity b (point_entries held)))) come_rows
       (plans.can n capacity number le least most points (finmap.insert points p.at p.label) valid (now_valid 2 valid)
-      (without_it capacity b (entries_of held)) (with_it capacity k b (entries_of held) p.at p.label) changes.swaps changes.gone_once changes.come_once))
+      (without_it capacity b (point_entries held)) (with_it capacity k b (point_entries held) p.at p.label) changes.swaps changes.gone_once changes.come_once))
 
   pub put_plan : (edits : Edits) → IsPermutation gone edits.remove → IsPermutation come edits.add
-      → IsPlan n number capacity points (finmap.insert points p.at p.label) edits
+      → IsPointPlan n number capacity points (finmap.insert points p.at p.label) edits
   put_plan edits pr pa =
       plans.plan n capacity number le least most points (finmap.insert points p.at p.label) valid (now_valid 2 valid)
-      (without_it capacity b (entries_of held)) (with_it capacity k b (entries_of held) p.at p.label) changes.swaps changes.gone_once changes.come_once
+      (without_it capacity b (point_entries held)) (with_it capacity k b (point_entries held) p.at p.label) changes.swaps changes.gone_once changes.come_once
       now_valid edits
       (subst (λ (rs : List Record). IsPermutation rs edits.remove) (sym gone_rows) pr)
       (subst (λ (rs : List Record). IsPermutation rs edits.add) (sym come_rows) pa)

@@ -35,8 +35,8 @@ use Rattle.quilt_point_laws.proofs.Counts.{put_comes, few_down}
 use Rattle.quilt_point_laws.proofs.Cuts.{Apart-one}
 use Rattle.quilt_point_laws.proofs.Plans.{Changes, put_valid}
 use Rattle.quilt_point_laws.proofs.Gains.{Gains, all_changed}
-use Rattle.quilt_points.specs.Layers.{entry_of, entries_of, block_record}
-use Rattle.quilt_points.specs.Plans.{IsPlan, AreNew, with_points}
+use Rattle.quilt_points.specs.Layers.{point_entry, point_entries, block_record}
+use Rattle.quilt_points.specs.Plans.{IsPointPlan, AreNew, points_with}
 use Rattle.quilt_points.specs.Coding.{by_code}
 use Rattle.quilt_points.specs.Scattering.{IsTaken, IsGrown}
 use Rattle.quilt_points.proofs.Finds.{pixel_in, pixel_from}
@@ -133,11 +133,11 @@ first_taken xs zero lt le = absurd (omega arith)
 first_taken [] (suc k) lt le = absurd (omega arith)
 first_taken (x ∷ xs) (suc k) lt le = (x, Contains-here x (take k xs))
 
-pub entries_apart : (ps : List Point) → Apart (map (λ p. p.at) ps) → Apart (entries_of ps)
+pub entries_apart : (ps : List Point) → Apart (map (λ p. p.at) ps) → Apart (point_entries ps)
 entries_apart [] h = tt
 entries_apart (p ∷ ps) h = (
   λ c.
-      let q = Contains-map_from entry_of ps (entry_of p) c in
+      let q = Contains-map_from point_entry ps (point_entry p) c in
       h.0 (subst (Contains (map (λ (z : Point). z.at) ps)) (ap (λ (e : Pixel × ℕ). e.0) q.2) (Contains-map (λ (z : Point). z.at) ps q.0 q.1)),
   entries_apart ps h.1,
 )
@@ -145,12 +145,12 @@ entries_apart (p ∷ ps) h = (
 module _ (n number capacity : ℕ) (old : PointMap) (done rest : List Point) (without with without_now with_now : List Record) (count : ℕ)
     (h : IsGrown n number capacity old done rest without with)
     (t : IsTaken n number capacity old rest count without without_now with with_now) (some : 0 < count) (most : count ≤ length rest)
-    (alone : Apart (entries_of (take count rest))) where
+    (alone : Apart (point_entries (take count rest))) where
   abbrev run : List Point
   run = take count rest
 
   abbrev new : Gain
-  new = record { block = t.block; held = entries_of t.held; news = entries_of (take count rest) }
+  new = record { block = t.block; held = point_entries t.held; news = point_entries (take count rest) }
 
   one : (p : Point) × Contains (take count rest) p
   one = first_taken rest count some most
@@ -166,16 +166,16 @@ module _ (n number capacity : ℕ) (old : PointMap) (done rest : List Point) (wi
       (one_maximal n (holds_few capacity old) (few_down n capacity old) (g.0).block t.block p.at (block_is n capacity old (g.0).block w.block)
       (block_is n capacity old t.block (t.is).block) (Holds-from (g.0).block p.at g.2) (Holds-from t.block p.at on))
 
-  all_entries : (e : Pixel × ℕ) → Contains (entries_of (done ++ take count rest)) e → ((p : Point) × Contains done p × (entry_of p ≡ e))
-      ⊎ ((p : Point) × Contains (take count rest) p × (entry_of p ≡ e))
+  all_entries : (e : Pixel × ℕ) → Contains (point_entries (done ++ take count rest)) e → ((p : Point) × Contains done p × (point_entry p ≡ e))
+      ⊎ ((p : Point) × Contains (take count rest) p × (point_entry p ≡ e))
   all_entries e c =
-      let p = Contains-map_from entry_of (done ++ take count rest) e c in
+      let p = Contains-map_from point_entry (done ++ take count rest) e c in
       ⊎_elim (λ d. inl (p.0, d, p.2)) (λ d. inr (p.0, d, p.2)) (Contains-append_cases done (take count rest) p.0 p.1)
 
   one_new : (g : Gain) → Contains (new ∷ []) g → new ≡ g
   one_new g c = ⊎_elim (λ e. e) (λ d. absurd (Contains-nil g d)) (Contains-cons_cases new [] g c)
 
-  old_gain : (g : Gain) → Contains h.gains g → IsGain n capacity old (entries_of (done ++ take count rest)) g
+  old_gain : (g : Gain) → Contains h.gains g → IsGain n capacity old (point_entries (done ++ take count rest)) g
   old_gain g c =
       let w = h.each g c in record {
         block = w.block;
@@ -184,37 +184,37 @@ module _ (n number capacity : ℕ) (old : PointMap) (done rest : List Point) (wi
         among = λ e. (
           λ m.
               let k = (w.among e).0 m in
-              let p = Contains-map_from entry_of done e k.0 in (
-                subst (Contains (entries_of (done ++ take count rest))) p.2
-                    (Contains-map entry_of (done ++ take count rest) p.0 (Contains-append_left done (take count rest) p.0 p.1)),
+              let p = Contains-map_from point_entry done e k.0 in (
+                subst (Contains (point_entries (done ++ take count rest))) p.2
+                    (Contains-map point_entry (done ++ take count rest) p.0 (Contains-append_left done (take count rest) p.0 p.1)),
                 k.1,
               ),
           λ k. ⊎_elim
-              (λ p. (w.among e).1 (subst (Contains (entries_of done)) p.2 (Contains-map entry_of done p.0 p.1), k.1))
+              (λ p. (w.among e).1 (subst (Contains (point_entries done)) p.2 (Contains-map point_entry done p.0 p.1), k.1))
               (λ p. absurd (h.apart g p.0 c (taken_there rest count p.0 p.1) (ap (λ (z : Pixel × ℕ). in_block g.block z.0) p.2 ∙ k.1)))
               (all_entries e k.0),
         );
         some = w.some;
       }
 
-  new_gain : IsGain n capacity old (entries_of (done ++ take count rest)) new
+  new_gain : IsGain n capacity old (point_entries (done ++ take count rest)) new
   new_gain = record {
     block = (t.is).block;
     held = (t.is).are;
     once = alone;
     among = λ e. (
       λ m.
-          let p = Contains-map_from entry_of (take count rest) e m in (
-            subst (Contains (entries_of (done ++ take count rest))) p.2
-                (Contains-map entry_of (done ++ take count rest) p.0 (Contains-append_right done (take count rest) p.0 p.1)),
+          let p = Contains-map_from point_entry (take count rest) e m in (
+            subst (Contains (point_entries (done ++ take count rest))) p.2
+                (Contains-map point_entry (done ++ take count rest) p.0 (Contains-append_right done (take count rest) p.0 p.1)),
             ap (λ (z : Pixel × ℕ). in_block t.block z.0) (sym p.2) ∙ t.inside p.0 p.1,
           ),
       λ k. ⊎_elim
           (λ p. absurd (done_out p.0 p.1 (ap (λ (z : Pixel × ℕ). in_block t.block z.0) p.2 ∙ k.1)))
-          (λ p. subst (Contains (entries_of (take count rest))) p.2 (Contains-map entry_of (take count rest) p.0 p.1))
+          (λ p. subst (Contains (point_entries (take count rest))) p.2 (Contains-map point_entry (take count rest) p.0 p.1))
           (all_entries e k.0),
     );
-    some = (entry_of one.0, Contains-map entry_of (take count rest) one.0 one.1);
+    some = (point_entry one.0, Contains-map point_entry (take count rest) one.0 one.1);
   }
 
   -- the records behind those before
@@ -237,7 +237,7 @@ module _ (n number capacity : ℕ) (old : PointMap) (done rest : List Point) (wi
         (λ c. ⊎_elim (λ d. absurd (apart_new k d (sym e ∙ ap (λ (z : Gain). z.block) (sym (one_new g c))))) (λ d. sym (one_new g c) ∙ one_new k d)
         (Contains-append_cases h.gains (new ∷ []) k ck))
         (Contains-append_cases h.gains (new ∷ []) g cg);
-    each = λ g c. ⊎_elim (λ d. old_gain g d) (λ d. subst (IsGain n capacity old (entries_of (done ++ take count rest))) (one_new g d) new_gain)
+    each = λ g c. ⊎_elim (λ d. old_gain g d) (λ d. subst (IsGain n capacity old (point_entries (done ++ take count rest))) (one_new g d) new_gain)
         (Contains-append_cases h.gains (new ∷ []) g c);
     covered = λ p c. ⊎_elim
         (λ d. let g = h.covered p d in (g.0, Contains-append_left h.gains (new ∷ []) g.0 g.1, g.2))
@@ -266,7 +266,7 @@ new_rest points p ps new = (
   },
 )
 
-with_gains : (points : PointMap) (ps : List Point) → AreNew points ps → Gains points (with_points points ps) (entries_of ps)
+with_gains : (points : PointMap) (ps : List Point) → AreNew points ps → Gains points (points_with points ps) (point_entries ps)
 with_gains points [] h =
     record { members = λ e. (λ c. inl c, λ s. ⊎_elim (λ c. c) (λ c. absurd (Contains-nil e c)) s); fresh = λ q k l c. absurd (Contains-nil (q, k) c) }
 with_gains points (p ∷ ps) new =
@@ -277,22 +277,22 @@ with_gains points (p ∷ ps) new =
       members = λ e. (
         λ c. ⊎_elim
             (λ m. ⊎_elim (λ o. inl o)
-            (λ is. inr (subst (Contains (entry_of p ∷ entries_of ps)) (sym is) (Contains-here (entry_of p) (entries_of ps)))) ((comes.members e).0 m))
-            (λ d. inr (Contains-there (entry_of p) (entries_of ps) e d))
+            (λ is. inr (subst (Contains (point_entry p ∷ point_entries ps)) (sym is) (Contains-here (point_entry p) (point_entries ps)))) ((comes.members e).0 m))
+            (λ d. inr (Contains-there (point_entry p) (point_entries ps) e d))
             ((all.members e).0 c),
         λ s. ⊎_elim
             (λ o. (all.members e).1 (inl ((comes.members e).1 (inl o))))
             (λ c. ⊎_elim (λ is. (all.members e).1 (inl ((comes.members e).1 (inr (sym is))))) (λ d. (all.members e).1 (inr d))
-            (Contains-cons_cases (entry_of p) (entries_of ps) e c)) s,
+            (Contains-cons_cases (point_entry p) (point_entries ps) e c)) s,
       );
       fresh = λ q k l c o. ⊎_elim
           (λ is. comes.fresh l (subst (λ (z : Pixel). Contains (finmap.entries points) (z, l)) (sym (ap (λ (e : Pixel × ℕ). e.0) is)) o))
           (λ d. all.fresh q k l d ((comes.members (q, l)).1 (inl o)))
-          (Contains-cons_cases (entry_of p) (entries_of ps) (q, k) c);
+          (Contains-cons_cases (point_entry p) (point_entries ps) (q, k) c);
     }
 
 with_valid : (form n capacity : ℕ) (points : PointMap) (ps : List Point) → AreNew points ps → All (λ p. is_pixel n p.at ≡ true) ps
-    → All (λ p. p.label < 2 ^ 32) ps → IsPointMap form n capacity points → IsPointMap form n capacity (with_points points ps)
+    → All (λ p. p.label < 2 ^ 32) ps → IsPointMap form n capacity points → IsPointMap form n capacity (points_with points ps)
 with_valid form n capacity points [] new inside labels v = v
 with_valid form n capacity points (p ∷ ps) new inside labels v =
     let w = new_rest points p ps new in
@@ -312,13 +312,13 @@ module _ (n capacity number : ℕ) (le : n ≤ 12) (least : 1 ≤ number) (most 
     free = λ p c. h.free p ((permuted ps qs perm p).0 c);
   }
 
-  entry_there : (e : Pixel × ℕ) → Contains (entries_of ps) e ↔ Contains (entries_of qs) e
+  entry_there : (e : Pixel × ℕ) → Contains (point_entries ps) e ↔ Contains (point_entries qs) e
   entry_there e = (
-    λ c. let p = Contains-map_from entry_of ps e c in subst (Contains (entries_of qs)) p.2 (Contains-map entry_of qs p.0 ((permuted ps qs perm p.0).0 p.1)),
-    λ c. let p = Contains-map_from entry_of qs e c in subst (Contains (entries_of ps)) p.2 (Contains-map entry_of ps p.0 ((permuted ps qs perm p.0).1 p.1)),
+    λ c. let p = Contains-map_from point_entry ps e c in subst (Contains (point_entries qs)) p.2 (Contains-map point_entry qs p.0 ((permuted ps qs perm p.0).0 p.1)),
+    λ c. let p = Contains-map_from point_entry qs e c in subst (Contains (point_entries ps)) p.2 (Contains-map point_entry ps p.0 ((permuted ps qs perm p.0).1 p.1)),
   )
 
-  gained : Gains old (with_points old ps) (entries_of qs)
+  gained : Gains old (points_with old ps) (point_entries qs)
   gained =
       let all = with_gains old ps all_new in record {
         members = λ e. (
@@ -328,30 +328,30 @@ module _ (n capacity number : ℕ) (le : n ≤ 12) (least : 1 ≤ number) (most 
         fresh = λ q k l c o. all.fresh q k l ((entry_there (q, k)).1 c) o;
       }
 
-  covered : (e : Pixel × ℕ) → Contains (entries_of qs) e → (g : Gain) × Contains h.gains g × (in_block g.block e.0 ≡ true)
+  covered : (e : Pixel × ℕ) → Contains (point_entries qs) e → (g : Gain) × Contains h.gains g × (in_block g.block e.0 ≡ true)
   covered e c =
-      let p = Contains-map_from entry_of qs e c in
+      let p = Contains-map_from point_entry qs e c in
       let g = h.covered p.0 p.1 in
       (g.0, g.1, ap (λ (z : Pixel × ℕ). in_block (g.0).block z.0) (sym p.2) ∙ g.2)
 
-  changes : Changes (facts n (Points capacity old)) (facts n (Points capacity (with_points old ps))) (flat_map (gone_in capacity) h.gains)
+  changes : Changes (facts n (Points capacity old)) (facts n (Points capacity (points_with old ps))) (flat_map (gone_in capacity) h.gains)
       (flat_map (come_in n capacity) h.gains)
-  changes = all_changed old (with_points old ps) (entries_of qs) gained n capacity valid.least h.gains h.each h.own h.once covered
+  changes = all_changed old (points_with old ps) (point_entries qs) gained n capacity valid.least h.gains h.each h.own h.once covered
 
-  now_valid : (form : ℕ) → IsPointMap form n capacity old → IsPointMap form n capacity (with_points old ps)
+  now_valid : (form : ℕ) → IsPointMap form n capacity old → IsPointMap form n capacity (points_with old ps)
   now_valid form v = with_valid form n capacity old ps all_new inside labels v
 
   pub scatter_can : CanBeEdits without with
   scatter_can =
       subst (λ (rs : List Record). CanBeEdits rs with) (sym h.gone)
       (subst (CanBeEdits (map (block_record n capacity number) (flat_map (gone_in capacity) h.gains))) (sym h.come)
-      (plans.can n capacity number le least most old (with_points old ps) valid (now_valid 2 valid) (flat_map (gone_in capacity) h.gains)
+      (plans.can n capacity number le least most old (points_with old ps) valid (now_valid 2 valid) (flat_map (gone_in capacity) h.gains)
       (flat_map (come_in n capacity) h.gains) changes.swaps changes.gone_once changes.come_once))
 
   pub scatter_plan : (edits : Edits) → IsPermutation without edits.remove → IsPermutation with edits.add
-      → IsPlan n number capacity old (with_points old ps) edits
+      → IsPointPlan n number capacity old (points_with old ps) edits
   scatter_plan edits pr pa =
-      plans.plan n capacity number le least most old (with_points old ps) valid (now_valid 2 valid) (flat_map (gone_in capacity) h.gains)
+      plans.plan n capacity number le least most old (points_with old ps) valid (now_valid 2 valid) (flat_map (gone_in capacity) h.gains)
       (flat_map (come_in n capacity) h.gains) changes.swaps changes.gone_once changes.come_once
       now_valid edits
       (subst (λ (rs : List Record). IsPermutation rs edits.remove) h.gone pr) (subst (λ (rs : List Record). IsPermutation rs edits.add) h.come pa)

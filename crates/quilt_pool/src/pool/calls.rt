@@ -13,8 +13,8 @@ ghost use Rattle.quilt_journal.specs.Changed.{is_changed, has_bit};
 ghost use Rattle.quilt_journal.specs.Kept.{work};
 ghost use Rattle.quilt_journal.specs.Writing.{Writing};
 ghost use Rattle.quilt_pool.specs.Entries.{frame_at, bytes_or, page_over, is_dirty, is_marked, AreBelow};
-ghost use Rattle.quilt_pool.specs.Views.{seen, entries_of, capacity_of, dirty_bits, fetched_of};
-ghost use Rattle.quilt_pool.specs.Keeping.{IsWork, Keeps, Changes, IsSaved};
+ghost use Rattle.quilt_pool.specs.Views.{seen, entries_of, pool_capacity, dirty_bits, fetched_of};
+ghost use Rattle.quilt_pool.specs.Keeping.{IsWork, KeepsWork, Changes, IsSaved};
 ghost use Rattle.quilt_pool.specs.Passing.{IsPassedOn};
 
 use crate::pool::Pool;
@@ -58,9 +58,9 @@ impl Pool {
             × (length journal.new.changed ≡ length journal.old.changed) }
         ensures reads { Goes (λ old new. new.reads ≡ old.reads) (D.told disk.old) (D.told disk.new) }
         ensures marked { (i : ℕ) → is_marked (entries_of self.now) journal.new.changed i ≡ is_marked (entries_of self.now) journal.old.changed i }
-        ensures kept { Goes (Keeps journal.old.pages (entries_of self.now) (entries_of self.now) journal.old.changed journal.new.changed)
+        ensures kept { Goes (KeepsWork journal.old.pages (entries_of self.now) (entries_of self.now) journal.old.changed journal.new.changed)
             (D.told disk.old) (D.told disk.new) }
-        ensures listed { OnOk result (length (entries_of self.now) ≡ capacity_of self.now → (page : ℕ) (f : _)
+        ensures listed { OnOk result (length (entries_of self.now) ≡ pool_capacity self.now → (page : ℕ) (f : _)
             → last_entry (entries_of self.now) ≡ Some (page, f) → f.is_dirty ≡ true → is_changed journal.new.changed page ≡ true) }
         ensures saved { OnOk result (IfSome (D.told disk.new) (λ new. IsSaved (seen self.now) (work new journal.old.pages journal.new.changed))) }
     {
@@ -94,10 +94,10 @@ impl Pool {
             × (length journal.new.changed ≡ length journal.old.changed) }
         ensures reads { Goes (λ old new. new.reads ≡ old.reads) (D.told disk.old) (D.told disk.new) }
         ensures marked { (i : ℕ) → is_marked (entries_of self.now) journal.new.changed i ≡ is_marked (entries_of self.now) journal.old.changed i }
-        ensures kept { Goes (Keeps journal.old.pages (entries_of self.now) (entries_of self.now) journal.old.changed journal.new.changed)
+        ensures kept { Goes (KeepsWork journal.old.pages (entries_of self.now) (entries_of self.now) journal.old.changed journal.new.changed)
             (D.told disk.old) (D.told disk.new) }
         ensures there { IsSome (frame_at (entries_of self.now) page) → IsOk result × (journal.new ≡ journal.old) × (disk.new ≡ disk.old) }
-        ensures listed { OnOk result (frame_at (entries_of self.now) page ≡ None → length (entries_of self.now) ≡ capacity_of self.now
+        ensures listed { OnOk result (frame_at (entries_of self.now) page ≡ None → length (entries_of self.now) ≡ pool_capacity self.now
             → (page : ℕ) (f : _) → last_entry (entries_of self.now) ≡ Some (page, f) → f.is_dirty ≡ true → is_changed journal.new.changed page ≡ true) }
         ensures saved { OnOk result
             (IfSome (D.told disk.new) (λ new. frame_at (entries_of self.now) page ≡ None
@@ -129,21 +129,21 @@ impl Pool {
         ensures journal { (journal.new.pages ≡ journal.old.pages) × (journal.new.state ≡ journal.old.state)
             × (length journal.new.changed ≡ length journal.old.changed) }
         ensures below { AreBelow journal.old.pages (entries_of self.new) }
-        ensures cap { capacity_of self.new ≡ capacity_of self.old }
+        ensures cap { pool_capacity self.new ≡ pool_capacity self.old }
         ensures fault { IsErrOf result Memory → frame_at (entries_of self.old) page ≡ None → IsPassedOn (seen self.old) journal.new.changed }
         ensures read { IsErrOf result Memory
             → IfSome (D.told disk.old) (λ old. into.new ≡ page_over (entries_of self.old) (work old journal.old.pages journal.old.changed) page) }
         ensures found { IsSome (frame_at (entries_of self.old) page)
-            → IsOk result × (seen self.new ≡ lru_cache (promoted (nat_eq page) (entries_of self.old)) (capacity_of self.old))
+            → IsOk result × (seen self.new ≡ lru_cache (promoted (nat_eq page) (entries_of self.old)) (pool_capacity self.old))
             × (journal.new ≡ journal.old) × (disk.new ≡ disk.old) }
         ensures entered { OnOk result (frame_at (entries_of self.old) page ≡ None
-            → seen self.new ≡ lru_cache (put_entries nat_eq (seen self.old) page (record { bytes = into.new; is_dirty = false })) (capacity_of self.old)) }
+            → seen self.new ≡ lru_cache (put_entries nat_eq (seen self.old) page (record { bytes = into.new; is_dirty = false })) (pool_capacity self.old)) }
         ensures same { OnErr result (seen self.new ≡ seen self.old) }
         ensures touched { OnOk result (Touches page (keys_of (entries_of self.old)) (keys_of (entries_of self.new))) }
         ensures reads { Goes (λ old new. new.reads ≤ old.reads + 1) (D.told disk.old) (D.told disk.new) }
         ensures held { IsSome (frame_at (entries_of self.old) page) → Goes (λ old new. new.reads ≤ old.reads) (D.told disk.old) (D.told disk.new) }
         ensures marked { (i : ℕ) → is_marked (entries_of self.new) journal.new.changed i ≡ is_marked (entries_of self.old) journal.old.changed i }
-        ensures kept { Goes (Keeps journal.old.pages (entries_of self.old) (entries_of self.new) journal.old.changed journal.new.changed)
+        ensures kept { Goes (KeepsWork journal.old.pages (entries_of self.old) (entries_of self.new) journal.old.changed journal.new.changed)
             (D.told disk.old) (D.told disk.new) }
         ensures bytes { OnOk result
             (IfSome (D.told disk.old) (λ old. into.new ≡ page_over (entries_of self.old) (work old journal.old.pages journal.old.changed) page)) }
@@ -179,19 +179,19 @@ impl Pool {
         ensures journal { (journal.new.pages ≡ journal.old.pages) × (journal.new.state ≡ journal.old.state)
             × (length journal.new.changed ≡ length journal.old.changed) }
         ensures below { AreBelow journal.old.pages (entries_of self.new) }
-        ensures cap { capacity_of self.new ≡ capacity_of self.old }
+        ensures cap { pool_capacity self.new ≡ pool_capacity self.old }
         ensures fault { IsErrOf result Memory → frame_at (entries_of self.old) page ≡ None → IsPassedOn (seen self.old) journal.new.changed }
         ensures read { IsErrOf result Memory
             → IfSome (D.told disk.old) (λ old. fetched_of self.new ≡ page_over (entries_of self.old) (work old journal.old.pages journal.old.changed) page) }
         ensures found { IsSome (frame_at (entries_of self.old) page)
-            → IsOk result × (seen self.new ≡ lru_cache (promoted (nat_eq page) (entries_of self.old)) (capacity_of self.old))
+            → IsOk result × (seen self.new ≡ lru_cache (promoted (nat_eq page) (entries_of self.old)) (pool_capacity self.old))
             × (journal.new ≡ journal.old) × (disk.new ≡ disk.old) }
         ensures same { OnErr result (seen self.new ≡ seen self.old) }
         ensures touched { OnOk result (Touches page (keys_of (entries_of self.old)) (keys_of (entries_of self.new))) }
         ensures reads { Goes (λ old new. new.reads ≤ old.reads + 1) (D.told disk.old) (D.told disk.new) }
         ensures held { IsSome (frame_at (entries_of self.old) page) → Goes (λ old new. new.reads ≤ old.reads) (D.told disk.old) (D.told disk.new) }
         ensures marked { (i : ℕ) → is_marked (entries_of self.new) journal.new.changed i ≡ is_marked (entries_of self.old) journal.old.changed i }
-        ensures kept { Goes (Keeps journal.old.pages (entries_of self.old) (entries_of self.new) journal.old.changed journal.new.changed)
+        ensures kept { Goes (KeepsWork journal.old.pages (entries_of self.old) (entries_of self.new) journal.old.changed journal.new.changed)
             (D.told disk.old) (D.told disk.new) }
         ensures there { OnOk result (IsSome (frame_at (entries_of self.new) page)) }
         ensures bytes { OnOk result
@@ -223,7 +223,7 @@ impl Pool {
         requires there { IsSome (frame_at (entries_of self.old) page) }
         requires page { page < 30000 }
         ensures marked { (f : _) → frame_at (entries_of self.old) page ≡ Some f
-            → seen self.new ≡ lru_cache (set_value (nat_eq page) (entries_of self.old) (record { bytes = f.bytes; is_dirty = true })) (capacity_of self.old) }
+            → seen self.new ≡ lru_cache (set_value (nat_eq page) (entries_of self.old) (record { bytes = f.bytes; is_dirty = true })) (pool_capacity self.old) }
     {
         let bits = &mut self.dirty;
         list_page(bits, page);
@@ -258,11 +258,11 @@ impl Pool {
         ensures journal { (journal.new.pages ≡ journal.old.pages) × (journal.new.state ≡ journal.old.state)
             × (length journal.new.changed ≡ length journal.old.changed) }
         ensures below { AreBelow journal.old.pages (entries_of self.new) }
-        ensures cap { capacity_of self.new ≡ capacity_of self.old }
+        ensures cap { pool_capacity self.new ≡ pool_capacity self.old }
         ensures fault { IsErrOf result Memory → frame_at (entries_of self.old) page ≡ None → IsPassedOn (seen self.old) journal.new.changed }
         ensures found { IsSome (frame_at (entries_of self.old) page) → IsOk result × (journal.new ≡ journal.old) × (disk.new ≡ disk.old) }
         ensures entered { OnOk result
-            (seen self.new ≡ lru_cache (put_entries nat_eq (seen self.old) page (record { bytes = bytes.now; is_dirty = true })) (capacity_of self.old)) }
+            (seen self.new ≡ lru_cache (put_entries nat_eq (seen self.old) page (record { bytes = bytes.now; is_dirty = true })) (pool_capacity self.old)) }
         ensures same { OnErr result (seen self.new ≡ seen self.old) }
         ensures touched { OnOk result (Touches page (keys_of (entries_of self.old)) (keys_of (entries_of self.new))) }
         ensures reads { Goes (λ old new. new.reads ≤ old.reads) (D.told disk.old) (D.told disk.new) }
@@ -274,7 +274,7 @@ impl Pool {
             (Goes (Changes journal.old.pages page bytes.now (entries_of self.old) (entries_of self.new) journal.old.changed journal.new.changed)
             (D.told disk.old) (D.told disk.new)) }
         ensures kept { OnErr result
-            (Goes (Keeps journal.old.pages (entries_of self.old) (entries_of self.new) journal.old.changed journal.new.changed) (D.told disk.old)
+            (Goes (KeepsWork journal.old.pages (entries_of self.old) (entries_of self.new) journal.old.changed journal.new.changed) (D.told disk.old)
             (D.told disk.new)) }
     {
         match self.make_room(journal, disk, page) {
@@ -289,14 +289,14 @@ impl Pool {
 
     /// Drops the page's entry, where there is one.
     pub fn discard(&mut self, page: u32)
-        ensures table { seen self.new ≡ lru_cache (remove_entry (nat_eq page) (entries_of self.old)) (capacity_of self.old) }
+        ensures table { seen self.new ≡ lru_cache (remove_entry (nat_eq page) (entries_of self.old)) (pool_capacity self.old) }
     {
         drop_frame(&mut self.table, page);
     }
 
     /// Drops all entries.
     pub fn forget(&mut self)
-        ensures table { seen self.new ≡ lru_cache [] (capacity_of self.old) }
+        ensures table { seen self.new ≡ lru_cache [] (pool_capacity self.old) }
     {
         let Pool {
             table,
@@ -326,13 +326,13 @@ impl Pool {
             × (length journal.new.changed ≡ length journal.old.changed) }
         ensures below { AreBelow journal.old.pages (entries_of self.new) }
         ensures marked { (i : ℕ) → is_marked (entries_of self.new) journal.new.changed i ≡ is_marked (entries_of self.old) journal.old.changed i }
-        ensures kept { Goes (Keeps journal.old.pages (entries_of self.old) (entries_of self.new) journal.old.changed journal.new.changed)
+        ensures kept { Goes (KeepsWork journal.old.pages (entries_of self.old) (entries_of self.new) journal.old.changed journal.new.changed)
             (D.told disk.old) (D.told disk.new) }
         ensures writes { Goes (Writing (if is_dirty (entries_of self.old) page then 1 else 0)) (D.told disk.old) (D.told disk.new) }
         ensures drained { OnOk result (is_dirty (entries_of self.new) page ≡ false) }
         ensures order { keys_of (entries_of self.new) ≡ keys_of (entries_of self.old) }
         ensures bytes { (i : ℕ) → bytes_or [] (frame_at (entries_of self.new) i) ≡ bytes_or [] (frame_at (entries_of self.old) i) }
-        ensures cap { capacity_of self.new ≡ capacity_of self.old }
+        ensures cap { pool_capacity self.new ≡ pool_capacity self.old }
         ensures others { (i : ℕ) → i ≢ page → is_dirty (entries_of self.new) i ≡ is_dirty (entries_of self.old) i }
     {
         let Some((bytes, is_dirty)) = self.table.peek(page) else {
@@ -360,13 +360,13 @@ impl Pool {
             × (length journal.new.changed ≡ length journal.old.changed) }
         ensures below { AreBelow journal.old.pages (entries_of self.new) }
         ensures marked { (i : ℕ) → is_marked (entries_of self.new) journal.new.changed i ≡ is_marked (entries_of self.old) journal.old.changed i }
-        ensures kept { Goes (Keeps journal.old.pages (entries_of self.old) (entries_of self.new) journal.old.changed journal.new.changed)
+        ensures kept { Goes (KeepsWork journal.old.pages (entries_of self.old) (entries_of self.new) journal.old.changed journal.new.changed)
             (D.told disk.old) (D.told disk.new) }
         ensures writes { Goes (Writing (length (filter (is_dirty (entries_of self.old)) (range_with_len 1 (journal.old.pages - 1)))))
             (D.told disk.old) (D.told disk.new) }
         ensures order { keys_of (entries_of self.new) ≡ keys_of (entries_of self.old) }
         ensures bytes { (i : ℕ) → bytes_or [] (frame_at (entries_of self.new) i) ≡ bytes_or [] (frame_at (entries_of self.old) i) }
-        ensures cap { capacity_of self.new ≡ capacity_of self.old }
+        ensures cap { pool_capacity self.new ≡ pool_capacity self.old }
         ensures drained { OnOk result ((i : ℕ) → is_dirty (entries_of self.new) i ≡ false) }
     {
         let pages = journal.pages();

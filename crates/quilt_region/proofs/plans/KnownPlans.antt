@@ -18,7 +18,7 @@ use Rattle.quilt_blocks.proofs.Leaves.{uniform_down}
 use Rattle.quilt_blocks.proofs.Listed.{held_in}
 use Rattle.quilt_region.specs.declared.known.Known.{Known}
 use Rattle.quilt_region.specs.Plans.{records_without}
-use Rattle.quilt_region.specs.Windows.{HoldsWindow, Knows, known_colour}
+use Rattle.quilt_region.specs.Windows.{HoldsWindow, KnowsAround, known_colour}
 use Rattle.quilt_region.proofs.Apart.{IsParted, AgreeOn, agree_back, records_same}
 use Rattle.quilt_region.proofs.Beside.{not_held, held_not, read_colour}
 use Rattle.quilt_region.proofs.Nearby.{window_in, window_corner, outside_pixel}
@@ -80,7 +80,7 @@ corner_in n w t =
     and_from _ _ (and_from _ _ (and_from _ _ (le-leb w.x w.x (omega arith)) (lt-ltb w.x (w.x + w.w) (omega arith))) (le-leb w.y w.y (omega arith)))
     (lt-ltb w.y (w.y + w.h) (omega arith))
 
-module _ (n : ℕ) (g : Grid) (w : Window) (k : Known) (le : n ≤ 12) (win : is_window n w ≡ true) (knows : Knows n g w k) where
+module _ (n : ℕ) (g : Grid) (w : Window) (k : Known) (le : n ≤ 12) (win : is_window n w ≡ true) (knows : KnowsAround n g w k) where
   abbrev c : ℕ
   c = k.around.0
 

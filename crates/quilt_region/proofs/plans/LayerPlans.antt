@@ -16,7 +16,7 @@ use Rattle.quilt_spell.specs.Apart.{Apart, SameMembers}
 use Rattle.quilt_spell.specs.Written.{number_of, number_in, layer_records}
 use Rattle.quilt_spell.specs.Spelled.{SpellsUnder}
 use Rattle.quilt_spell.specs.OfLayer.{kind_fact, kind_record}
-use Rattle.quilt_spell.specs.Copying.{moved}
+use Rattle.quilt_spell.specs.Copying.{renumbered}
 use Rattle.quilt_spell.proofs.Lists.{Apart-le, Apart-filter, Apart-rises}
 use Rattle.quilt_spell.proofs.Written.{layer_record, layer_record_from, number_fits, layer_fits}
 use Rattle.quilt_spell.proofs.OfLayer.{kind_there, kind_only, layer_spelled}
@@ -24,7 +24,7 @@ use Rattle.quilt_spell.proofs.facts.OneMap.{kind_layer}
 use Rattle.quilt_spell.proofs.Copying.{moved_is, copy_leads}
 use Rattle.quilt_spell.proofs.Commands.{drop_leads}
 use Rattle.quilt_btree.specs.Lists.{is_from_to, range_of}
-use Rattle.quilt_region.specs.Laws.{first_key, last_key, records_under, IsEntryRecord, IsPlan, NumberLaw, DropLaw, CopyLaw}
+use Rattle.quilt_region.specs.Laws.{first_key, last_key, records_under, IsEntryRecord, IsRegionPlan, NumberLaw, DropLaw, CopyLaw}
 use Rattle.quilt_spell.specs.Written.{by_key}
 use Rattle.quilt_spell.proofs.Written.{by_key_total}
 use Rattle.quilt_edits.proofs.Keys.{then_equal, nat_same, le_layer, less_layer, less_part}
@@ -64,7 +64,7 @@ in_range k r is low high =
     (ap is_le (less_part (first_key k) r.key (sym is) (omega arith))) (ap is_le (less_part r.key (last_key k) is (omega arith)))
 
 -- records by their keys under another number stand in the same order
-moved_less : (j k : ℕ) (r s : Record) → r.key.layer ≡ k → s.key.layer ≡ k → by_key r s ≡ Less → by_key (moved j r) (moved j s) ≡ Less
+moved_less : (j k : ℕ) (r s : Record) → r.key.layer ≡ k → s.key.layer ≡ k → by_key r s ≡ Less → by_key (renumbered j r) (renumbered j s) ≡ Less
 moved_less j k r s a b less =
     let rest = ordering_then (nat_cmp r.key.part s.key.part)
     (ordering_then (nat_cmp r.key.code s.key.code) (ordering_then (nat_cmp r.key.depth s.key.depth) (nat_cmp r.key.item s.key.item))) in
@@ -149,9 +149,9 @@ module _ (form n : ℕ) (numbers : Numbering) (rs : List Record) (layers : Map) 
         (cases_Bool (eqb old.key.layer 0)),
   )
 
-  drop_plan : (r : Record) → r ≡ kind_record n name k l → IsPlan n name k (Some l) None (r ∷ records_under k most rs) []
+  drop_plan : (r : Record) → r ≡ kind_record n name k l → IsRegionPlan n name k (Some l) None (r ∷ records_under k most rs) []
   drop_plan r is =
-      subst (λ (z : Record). IsPlan n name k (Some l) None (z ∷ records_under k most rs) []) (sym is) (record {
+      subst (λ (z : Record). IsRegionPlan n name k (Some l) None (z ∷ records_under k most rs) []) (sym is) (record {
         leads = drop_leads n name k l (kind_record n name k l ∷ records_under k most rs) drop_members
             (Apart-rises by_key by_key_total (kind_record n name k l ∷ records_under k most rs) drop_rises);
         removed_ascend = rises_ascend (kind_record n name k l ∷ records_under k most rs) drop_rises;
@@ -159,19 +159,19 @@ module _ (form n : ℕ) (numbers : Numbering) (rs : List Record) (layers : Map) 
       })
 
   module _ (other : List ℕ) (j : ℕ) (some : 1 ≤ j) where
-    copy_rises : Rises by_key (kind_record n other j l ∷ map (moved j) (records_under k most rs))
+    copy_rises : Rises by_key (kind_record n other j l ∷ map (renumbered j) (records_under k most rs))
     copy_rises =
-        first_rises j other (map (moved j) (records_under k most rs)) some
-        (λ r c. let m = Contains-map_from (moved j) (records_under k most rs) r c in ap (λ (q : Record). q.key.layer) (sym m.2))
-        (Rises-map by_key by_key (moved j) (records_under k most rs) (λ r t c d less. moved_less j k r t (range_layer r c) (range_layer t d) less) range_rises)
+        first_rises j other (map (renumbered j) (records_under k most rs)) some
+        (λ r c. let m = Contains-map_from (renumbered j) (records_under k most rs) r c in ap (λ (q : Record). q.key.layer) (sym m.2))
+        (Rises-map by_key by_key (renumbered j) (records_under k most rs) (λ r t c d less. moved_less j k r t (range_layer r c) (range_layer t d) less) range_rises)
 
-    copy_plan : (r : Record) → r ≡ kind_record n other j l → IsPlan n other j None (Some l) [] (r ∷ map (moved j) (records_under k most rs))
+    copy_plan : (r : Record) → r ≡ kind_record n other j l → IsRegionPlan n other j None (Some l) [] (r ∷ map (renumbered j) (records_under k most rs))
     copy_plan r is =
-        subst (λ (z : Record). IsPlan n other j None (Some l) [] (z ∷ map (moved j) (records_under k most rs))) (sym is) (record {
+        subst (λ (z : Record). IsRegionPlan n other j None (Some l) [] (z ∷ map (renumbered j) (records_under k most rs))) (sym is) (record {
           leads = copy_leads form n l fits name other k j least some (records_under k most rs)
               (Apart-rises by_key by_key_total (records_under k most rs) range_rises) range_members;
           removed_ascend = refl;
-          added_ascend = rises_ascend (kind_record n other j l ∷ map (moved j) (records_under k most rs)) copy_rises;
+          added_ascend = rises_ascend (kind_record n other j l ∷ map (renumbered j) (records_under k most rs)) copy_rises;
         })
 
 pub numbers_law : NumberLaw

@@ -41,8 +41,8 @@ use Rattle.quilt_edits.proofs.Lists.{member_at, take_next}
 use Rattle.quilt_edits.proofs.Ascents.{ascending_rises, permuted}
 use Rattle.quilt_region.specs.declared.known.Known.{Known}
 use Rattle.quilt_region.specs.Plans.{records_without}
-use Rattle.quilt_region.specs.Quarters.{InWindow, IsPartOf, AreSeveral, records_without_in}
-use Rattle.quilt_region.specs.Windows.{HoldsWindow, Knows}
+use Rattle.quilt_region.specs.Quarters.{InWindow, IsCommonWindow, AreSeveral, records_without_in}
+use Rattle.quilt_region.specs.Windows.{HoldsWindow, KnowsAround}
 use Rattle.quilt_region.proofs.Apart.{AgreeOn, agree_back}
 use Rattle.quilt_region.proofs.Beside.{true_false, not_held}
 use Rattle.quilt_region.proofs.plans.KnownPlans.{window_pixel, corner_in}
@@ -84,7 +84,7 @@ painted_out : (n : ℕ) (g : Grid) (w : Window) (c : ℕ) (p : Pixel) → p.x < 
 painted_out n g w c p x y t = painted_at n g w c p x y ∙ ap (λ (s : Bool). if s then c else colour_at n g p) t
 
 -- what a window has of a block is a window
-pub part_window : (n : ℕ) (w v : Window) (q : Block) → is_window n w ≡ true → IsPartOf w q v → is_window n v ≡ true
+pub part_window : (n : ℕ) (w v : Window) (q : Block) → is_window n w ≡ true → IsCommonWindow w q v → is_window n v ≡ true
 part_window n w v q t part =
     let i = window_in n w t in
     let right = i.right in
@@ -120,7 +120,7 @@ module _ (n layer : ℕ) (g : Grid) (w : Window) (c : ℕ) (b : Block) (le : n �
         (none_without n layer q le hq g h pg ph same, none_without n layer q le hq h g ph pg (agree_back n (in_block q) true g h same))
 
     -- ---- where it has a part that may be painted by itself
-    module _ (v : Window) (k : Known) (part : IsPartOf w q v) (colour : k.around.0 ≡ c) (knows : Knows n g v k) (small : k.top.side < q.side) where
+    module _ (v : Window) (k : Known) (part : IsCommonWindow w q v) (colour : k.around.0 ≡ c) (knows : KnowsAround n g v k) (small : k.top.side < q.side) where
       abbrev hv : Grid
       hv = painted n g v c
 

@@ -23,7 +23,7 @@ use Rattle.quilt_blocks.specs.Cutting.{leaves_by_code, leaf_cmp}
 use Rattle.quilt_blocks.proofs.Cuts.{leaves_rise, leaves_members}
 use Rattle.quilt_region.specs.Regions.{region_records}
 use Rattle.quilt_region.specs.Plans.{records_without}
-use Rattle.quilt_region.specs.Laws.{IsPlan, ReadLaw, ChangeLaw, FreshLaw}
+use Rattle.quilt_region.specs.Laws.{IsRegionPlan, ReadLaw, ChangeLaw, FreshLaw}
 use Rattle.quilt_spell.specs.Written.{by_key}
 use Rattle.quilt_spell.proofs.Written.{by_key_total}
 use Rattle.quilt_edits.proofs.Keys.{less_layer}
@@ -113,7 +113,7 @@ pub fresh_law : FreshLaw
 fresh_law form n name number g r le some hg is =
     let up = fresh_rises n name number g le some in
     let all = kind_record n name number (Region g) ∷ region_records n number g in
-    subst (λ (z : Record). IsPlan n name number None (Some (Region g)) [] (z ∷ region_records n number g))
+    subst (λ (z : Record). IsRegionPlan n name number None (Some (Region g)) [] (z ∷ region_records n number g))
     (sym (entry_record n r name number (Region g) is)) (record {
       leads = fresh_leads n name number (Region g) all (fresh_members n name number g) (Apart-rises by_key by_key_total all up);
       removed_ascend = refl;

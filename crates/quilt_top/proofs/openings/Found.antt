@@ -30,10 +30,10 @@ use Rattle.quilt_edition.specs.Stands.{HoldsEdition, IsDamagePage, page_of_walk}
 use Rattle.quilt_edition.specs.Starting.{Opened as BookOpened, HasNoHeader, IsNoMapFile, StopCause}
 use Rattle.quilt_edition.proofs.OneEdition.{one_head, home_length}
 use Rattle.quilt_audit.specs.Surveys.{IsDamage}
-use Rattle.quilt_top.specs.declared.opening.Opened.{Opened}
-use Rattle.quilt_top.specs.declared.opening.Opened.TheVariants as opened
+use Rattle.quilt_top.specs.declared.opened.Opened.{Opened}
+use Rattle.quilt_top.specs.declared.opened.Opened.TheVariants as opened
 use Rattle.quilt_top.specs.Headline.{IsNoMap, StandsForNothing}
-use Rattle.quilt_top.specs.Openings.{IsNew, Keeps, HoldsAs, FindsAt}
+use Rattle.quilt_top.specs.Openings.{HasNoEvents, Keeps, HoldsAs, FindsAt}
 use Rattle.quilt_top.proofs.openings.Surveys.{home_read}
 
 -- what the law of a disk says of the tale that it tells
@@ -46,7 +46,7 @@ first_fixed : (start : Pages) (i : ℕ) → fixed_bytes start [] i ≡ Some (get
 unfolding fixed_bytes last_bytes
 first_fixed start i = refl
 
-pub none_free : (o : Option Tale) → IfSome o IsNew → IfSome o NoneFree
+pub none_free : (o : Option Tale) → IfSome o HasNoEvents → IfSome o NoneFree
 none_free None new = tt
 none_free (Some t) new = record { each = λ i lt. (get_or t.start i [], ap (λ (l : Log). fixed_bytes t.start l i) new.log ∙ first_fixed t.start i) }
 
@@ -75,7 +75,7 @@ write_of_pages (Wrote page bytes) is = refl
 write_of_pages (Tore page) is = refl
 write_of_pages Synced is = refl
 
-begun_keeps : (t u : Tale) → IsNew t → IsConsistent t → Redoes t u → Keeps t u
+begun_keeps : (t u : Tale) → HasNoEvents t → IsConsistent t → Redoes t u → Keeps t u
 begun_keeps t u new law redoes = record {
   input = redoes.alone.input;
   pages = record { file = redoes.alone.file; events = redoes.alone.added; log = redoes.alone.log; only = redoes.alone.only };
@@ -83,7 +83,7 @@ begun_keeps t u new law redoes = record {
   other = λ none. (redoes.other (λ n file. none n (subst (λ (p : Pages). IsMapFile p n) (seen_first t new.log law) file))).log ∙ append-nil t.log;
 }
 
-pub goes_begun : (size : ℕ) (o m : Option Tale) → IfSome o IsNew → Lawful size o → Goes Redoes o m → Goes Keeps o m
+pub goes_begun : (size : ℕ) (o m : Option Tale) → IfSome o HasNoEvents → Lawful size o → Goes Redoes o m → Goes Keeps o m
 goes_begun size None None new law redoes = tt
 goes_begun size None (Some u) new law redoes = redoes
 goes_begun size (Some t) None new law redoes = redoes
@@ -161,7 +161,7 @@ same_damage p q e = cc
 abbrev pub IsFoundDamaged : Pages → ℕ → Type 0
 IsFoundDamaged start page = (n : ℕ) × IsMapFile start n × IsDamagePage (home start n) page × StandsForNothing start
 
-no_header : (t u : Tale) (page : ℕ) → IsNew t → IsConsistent t → page ≡ 0 → HasNoHeader t u → IsFoundDamaged t.start page
+no_header : (t u : Tale) (page : ℕ) → HasNoEvents t → IsConsistent t → page ≡ 0 → HasNoHeader t u → IsFoundDamaged t.start page
 no_header t u page new law first none =
     let seen = seen_first t new.log law in
     let file : IsMapFile t.start none.pages = subst (λ (p : Pages). IsMapFile p none.pages) seen none.file in
@@ -169,7 +169,7 @@ no_header t u page new law first none =
     (λ h so. none.none h (subst (λ (p : Pages). IsHeader none.pages (page_of (home p none.pages) 0) h) (sym seen) so)) in
     (none.pages, file, both.0, both.1)
 
-pub stop_found : (stop : Stop) (before now size : ℕ) (o m : Option Tale) → IfSome o IsNew → Lawful size o → StopCause stop before now o m
+pub stop_found : (stop : Stop) (before now size : ℕ) (o m : Option Tale) → IfSome o HasNoEvents → Lawful size o → StopCause stop before now o m
     → IfSome o (λ t. (page : ℕ) → stop ≡ stops.Damaged page → IsFoundDamaged t.start page)
 stop_found stops.Device before now size None m new law cause = tt
 stop_found stops.Device before now size (Some t) m new law cause = λ page is. absurd (let e : ◌≡◌ {A = Stop} stops.Device (stops.Damaged page) = is in cc)
@@ -180,7 +180,7 @@ stop_found (stops.Damaged p) before now size (Some t) None new law cause = absur
 stop_found (stops.Damaged p) before now size (Some t) (Some u) new law cause =
     λ page is. no_header t u page new law.0 (sym (same_damage p page is) ∙ cause.0) cause.1
 
-pub not_map_found : (size : ℕ) (o m : Option Tale) → IfSome o IsNew → Lawful size o → Goes IsNoMapFile o m → IfSome o (λ t. IsNoMap t.start)
+pub not_map_found : (size : ℕ) (o m : Option Tale) → IfSome o HasNoEvents → Lawful size o → Goes IsNoMapFile o m → IfSome o (λ t. IsNoMap t.start)
 not_map_found size None m new law none = tt
 not_map_found size (Some t) None new law none = absurd none
 not_map_found size (Some t) (Some u) new law none = λ n file. none.none n (file_first t n new.log law.0 file)
@@ -188,12 +188,12 @@ not_map_found size (Some t) (Some u) new law none = λ n file. none.none n (file
 -- ---- behind a book
 
 module _ (j : View) (es : Entries) (last : Head) (idle : j.state ≡ Idle) where
-  book_home : (t u : Tale) → IsNew t → IsConsistent t → IsConsistent u → IsKeptBy j es last (Some u) → BookOpened j.pages last t u
+  book_home : (t u : Tale) → HasNoEvents t → IsConsistent t → IsConsistent u → IsKeptBy j es last (Some u) → BookOpened j.pages last t u
       → home u.seen j.pages ≡ home t.start j.pages
   book_home t u new law_t law_u kept found =
       home_read j es last u idle law_u kept ∙ found.same ∙ ap (λ (p : Pages). home p j.pages) (seen_first t new.log law_t)
 
-  pub book_keeps : (s1 s2 : ℕ) (o m n : Option Tale) → IfSome o IsNew → Lawful s1 o → Lawful s2 m → IsKeptBy j es last m → Goes Redoes o m
+  pub book_keeps : (s1 s2 : ℕ) (o m n : Option Tale) → IfSome o HasNoEvents → Lawful s1 o → Lawful s2 m → IsKeptBy j es last m → Goes Redoes o m
       → Goes (BookOpened j.pages last) o m → Goes (IsLater j.pages) m n → Goes Keeps o n
   book_keeps s1 s2 None None None new law_o law_m kept redoes found later = tt
   book_keeps s1 s2 None None (Some w) new law_o law_m kept redoes found later = later
@@ -205,7 +205,7 @@ module _ (j : View) (es : Entries) (last : Head) (idle : j.state ≡ Idle) where
       later_keeps t u w j.pages file (book_home t u new law_o.0 law_m.0 kept found) (begun_keeps t u new law_o.0 redoes) later
 
   module _ {W : Type 0} {D : disk.Ghosts W} where
-    one_found : (result : Opened W D) (t u : Tale) → IsNew t → IsConsistent t → BookOpened j.pages last t u
+    one_found : (result : Opened W D) (t u : Tale) → HasNoEvents t → IsConsistent t → BookOpened j.pages last t u
         → HoldsAs j.pages last (published u j.pages) result → FindsAt t.start result
     one_found (opened.Map book catalog) t u new law found holds =
         let seen = seen_first t new.log law in
@@ -227,7 +227,7 @@ module _ (j : View) (es : Entries) (last : Head) (idle : j.state ≡ Idle) where
         let both = damage_found t.start j.pages file last page header (subst (λ (p : Pages). IsDamage p last page) pages (holds page is)) in
         (j.pages, file, both.0, both.1)
 
-    pub book_finds : (result : Opened W D) (s1 : ℕ) (o m : Option Tale) → IfSome o IsNew → Lawful s1 o → Goes (BookOpened j.pages last) o m
+    pub book_finds : (result : Opened W D) (s1 : ℕ) (o m : Option Tale) → IfSome o HasNoEvents → Lawful s1 o → Goes (BookOpened j.pages last) o m
         → IfSome m (λ u. HoldsAs j.pages last (published u j.pages) result) → IfSome o (λ t. FindsAt t.start result)
     book_finds result s1 None m new law found holds = tt
     book_finds result s1 (Some t) None new law found holds = absurd found

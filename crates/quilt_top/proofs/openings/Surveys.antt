@@ -23,7 +23,7 @@ use Rattle.quilt_journal.proofs.Clearing.{idle_none}
 use Rattle.quilt_journal.proofs.Homes.{published_at}
 use Rattle.quilt_record.specs.declared.entry.Entry.{Entry}
 use Rattle.quilt_record.specs.declared.record.Record.{Record}
-use Rattle.quilt_record.specs.Catalogs.{IsCatalog, AreInOrder, name_cmp}
+use Rattle.quilt_record.specs.Catalogs.{IsCatalog, NamesAscend, name_cmp}
 use Rattle.quilt_record.specs.Listing.{KindFits}
 use Rattle.quilt_types.proofs.Members.{Contains-here, Contains-there}
 use Rattle.quilt_record.proofs.Orders.{lt_not_eq}
@@ -31,8 +31,8 @@ use Rattle.quilt_spell.proofs.Spelling.{all_from}
 use Rattle.quilt_node.specs.declared.head.Head.{Head}
 use Rattle.quilt_node.specs.Pages.{IsHeader}
 use Rattle.quilt_node.specs.Tree.{Whole, walk_of}
-use Rattle.quilt_btree.specs.Edits.{times, account}
-use Rattle.quilt_btree.specs.Subtree.{IsFresh}
+use Rattle.quilt_btree.specs.Edits.{multiplicity, account}
+use Rattle.quilt_btree.specs.Subtree.{AreFreshPages}
 use Rattle.quilt_btree.proofs.lists.Counts.{none_there}
 use Rattle.quilt_btree.proofs.subtrees.Walks.{walk_found}
 use Rattle.quilt_pool.specs.Entries.{Entries}
@@ -50,7 +50,7 @@ use Rattle.quilt_edition.specs.Books as books
 use Rattle.quilt_map.specs.Sessions.{IsNumbered, IsHeadOf, IsSpelled, IsOpened, told_of, first_state, tree_in}
 use Rattle.quilt_replies.specs.Answers.{State}
 use Rattle.quilt_map.specs.Sessions as sessions
-use Rattle.quilt_top.specs.Openings.{IsFirst}
+use Rattle.quilt_top.specs.Openings.{IsFirstState}
 
 -- ---- what a book with nothing in it tells
 
@@ -106,7 +106,7 @@ behind_differs e (f ∷ fs) order once =
       behind_differs e fs parts.1 (λ x there same. once x (Contains-there f fs x there) same),
     )
 
-numbers_differ : (es : List Entry) → AreInOrder es → ((d e : Entry) → Contains es d → Contains es e → d.number ≡ e.number → d ≡ e)
+numbers_differ : (es : List Entry) → NamesAscend es → ((d e : Entry) → Contains es d → Contains es e → d.number ≡ e.number → d ≡ e)
     → IsDistinct nat_eq (map (λ (e : Entry). e.number) es)
 unfolding IsDistinct
 numbers_differ [] order once = tt
@@ -115,7 +115,7 @@ numbers_differ (e ∷ es) order once = (
   numbers_differ es order.1 (λ d f a b same. once d f (Contains-there e es d a) (Contains-there e es f b) same),
 )
 
-kind_fits : (format : ℕ) (kind : Kind) → KindFits format kind → sessions.KindFits kind
+kind_fits : (format : ℕ) (kind : Kind) → KindFits format kind → sessions.KindInRange kind
 kind_fits format kinds.Region fits = tt
 kind_fits format (kinds.Points bucket) fits = (fits.0, most (format == 1) fits.1)
   where
@@ -128,33 +128,33 @@ pub is_numbered : (format : ℕ) (entries : List Entry) → IsCatalog entries �
 is_numbered format entries catalog are = record {
   least = all_from (λ (e : Entry). 1 ≤ e.number) entries are.least;
   differ = numbers_differ entries catalog.order are.differ;
-  kinds = all_from (λ (e : Entry). sessions.KindFits e.kind) entries (λ e there. kind_fits format e.kind (are.kinds e there));
+  kinds = all_from (λ (e : Entry). sessions.KindInRange e.kind) entries (λ e there. kind_fits format e.kind (are.kinds e there));
 }
 
 -- ---- the pages of a tree
 
 times_by : (q p : ℕ) (used : List ℕ) (b : Bool) → (q == p) ≡ b → list_any (λ v. v == q) used ≡ false
-    → times p used ≡ cond {A = ℕ} (list_any (λ v. v == p) used) 1 0
-    → cond {A = ℕ} b 1 0 + times p used ≡ cond {A = ℕ} (b || list_any (λ v. v == p) used) 1 0
+    → multiplicity p used ≡ cond {A = ℕ} (list_any (λ v. v == p) used) 1 0
+    → cond {A = ℕ} b 1 0 + multiplicity p used ≡ cond {A = ℕ} (b || list_any (λ v. v == p) used) 1 0
 times_by q p used true is none later =
     let same : q ≡ p = eqb-true q p is in
-    let zero_ : times p used ≡ 0 = subst (λ (n : ℕ). times n used ≡ 0) same (none_there q used none) in
+    let zero_ : multiplicity p used ≡ 0 = subst (λ (n : ℕ). multiplicity n used ≡ 0) same (none_there q used none) in
     omega arith
 times_by q p used false is none later = omega arith
 
-fresh_times : (p : ℕ) (used : List ℕ) → IsFresh used [] → times p used ≡ cond {A = ℕ} (list_any (λ v. v == p) used) 1 0
+fresh_times : (p : ℕ) (used : List ℕ) → AreFreshPages used [] → multiplicity p used ≡ cond {A = ℕ} (list_any (λ v. v == p) used) 1 0
 fresh_times p [] fresh = refl
 fresh_times p (q ∷ used) fresh =
     times_by q p used (q == p) refl (subst (λ (l : List ℕ). list_any (λ v. v == q) l ≡ false) (append-nil used) fresh.0) (fresh_times p used fresh.1)
 
 walk_times : (pages : Pages) (root height : ℕ) (rs : List Record) (visited : List ℕ) (p : ℕ) → walk_of pages root height ≡ Whole rs visited
-    → times p visited ≡ cond {A = ℕ} (list_any (λ v. v == p) visited) 1 0
+    → multiplicity p visited ≡ cond {A = ℕ} (list_any (λ v. v == p) visited) 1 0
 unfolding walk_of
 walk_times pages root zero rs visited p is =
-    let none : [] ≡ visited = cc in subst (λ (l : List ℕ). times p l ≡ cond {A = ℕ} (list_any (λ v. v == p) l) 1 0) none refl
+    let none : [] ≡ visited = cc in subst (λ (l : List ℕ). multiplicity p l ≡ cond {A = ℕ} (list_any (λ v. v == p) l) 1 0) none refl
 walk_times pages root (suc h) rs visited p is =
     let found = walk_found pages (suc h) true (root, record { low = None; high = None }) [] rs visited is in
-    subst (λ (l : List ℕ). times p l ≡ cond {A = ℕ} (list_any (λ v. v == p) l) 1 0) (sym (found.is_now ∙ append-nil found.used))
+    subst (λ (l : List ℕ). multiplicity p l ≡ cond {A = ℕ} (list_any (λ v. v == p) l) 1 0) (sym (found.is_now ∙ append-nil found.used))
     (fresh_times p found.used found.fresh)
 
 one_of : (b : Bool) → cond {A = ℕ} (not b) 1 0 + cond {A = ℕ} b 1 0 ≡ 1
@@ -163,12 +163,12 @@ one_of false = refl
 
 -- the pages that an audit found, and no others, are spoken for by the tree
 balanced : (n : ℕ) (used visited : List ℕ) (free : ℕ → Bool) (p : ℕ) → ((q : ℕ) → free q ≡ is_left_out n used q) → bits.Marks used visited
-    → times p visited ≡ cond {A = ℕ} (list_any (λ v. v == p) visited) 1 0 → 1 ≤ p → p < n → account free visited p ≡ 1
+    → multiplicity p visited ≡ cond {A = ℕ} (list_any (λ v. v == p) visited) 1 0 → 1 ≤ p → p < n → account free visited p ≡ 1
 balanced n used visited free p is marks once low high =
     let within : (nat_le 1 p && nat_lt p n) ≡ true = and_from (nat_le 1 p) (nat_lt p n) (le-leb 1 p low) (lt-ltb p n high) in
     let out : is_left_out n used p ≡ not (list_any (λ v. v == p) visited) =
     ap (λ b. b && not (has_bit used p)) within ∙ ap not (marks.each p) in
-    ap (λ b. cond {A = ℕ} b 1 0 + times p visited) (is p ∙ out) ∙ ap (λ m. cond {A = ℕ} (not (list_any (λ v. v == p) visited)) 1 0 + m) once
+    ap (λ b. cond {A = ℕ} b 1 0 + multiplicity p visited) (is p ∙ out) ∙ ap (λ m. cond {A = ℕ} (not (list_any (λ v. v == p) visited)) 1 0 + m) once
     ∙ one_of (list_any (λ v. v == p) visited)
 
 -- ---- what is found
@@ -221,7 +221,7 @@ module _ {W : Type 0} {D : disk.Ghosts W} (a b : Book W D) (catalog : List Entry
     (tale : Goes (IsLater a.journal.pages) (D.told a.world) (D.told b.world)) (law_a : IfSome (D.told a.world) (λ t. IsConsistent t × (length t.start ≡ s1)))
     (law_b : IfSome (D.told b.world) (λ t. IsConsistent t × (length t.start ≡ s2))) where
   map_found : (t : Tale) → D.told a.world ≡ Some t → told_of a ≡ Some (published t a.journal.pages) → IsSurvey (published t a.journal.pages) a.last catalog used
-      → (e : Edition) × HoldsEdition (published t a.journal.pages) e × IsFirst b catalog (first_state a.journal.pages e)
+      → (e : Edition) × HoldsEdition (published t a.journal.pages) e × IsFirstState b catalog (first_state a.journal.pages e)
   map_found t is pages survey =
       let n = a.journal.pages in
       let es = entries_of a.pool in
@@ -270,12 +270,12 @@ module _ {W : Type 0} {D : disk.Ghosts W} (a b : Book W D) (catalog : List Entry
       → IfSome (D.told b.world) (λ t. IsConsistent t × (length t.start ≡ s2))
       → ((t : Tale) → D.told a.world ≡ Some t → told_of a ≡ Some (published t a.journal.pages))
       → (h : Head) → h ≡ a.last → ((told : Pages) → told_of a ≡ Some told → IsSurvey told h catalog used)
-      → IfSome (D.told a.world) (λ t. (e : Edition) × HoldsEdition (published t a.journal.pages) e × IsFirst b catalog (first_state a.journal.pages e))
+      → IfSome (D.told a.world) (λ t. (e : Edition) × HoldsEdition (published t a.journal.pages) e × IsFirstState b catalog (first_state a.journal.pages e))
   map_holds ready size state last free told tale law_a law_b pages h is survey =
       when_told _ (D.told a.world) (λ t now. map_found a b catalog used s1 s2 ready size state last free told tale law_a law_b t now (pages t now)
       (subst (λ (k : Head). IsSurvey (published t a.journal.pages) k catalog used) is (survey (published t a.journal.pages) (pages t now))))
 
 -- the level of the state over a book that was just opened is that of its last edition
 module _ {W : Type 0} {D : disk.Ghosts W} (book : Book W D) (catalog : List Entry) where
-  pub first_level : (s : State) → IsFirst book catalog s → s.last.level ≡ (books.last_of book).level
+  pub first_level : (s : State) → IsFirstState book catalog s → s.last.level ≡ (books.last_of book).level
   first_level s first = ap (λ (x : State). x.last.level) first.state ∙ first.opened.holds.head.level

@@ -18,8 +18,8 @@ use Rattle.quilt_words.specs.Forms.{form}
 use Rattle.quilt_types.specs.Layers.{Edition}
 use Rattle.quilt_replies.specs.Answers.{State, answer}
 use Rattle.quilt_replies.specs.Runs.{outcome_of, text_of}
-use Rattle.quilt_map.specs.Sessions.{IsAt, world_of}
-use Rattle.quilt_map.specs.Steps.{Leaves, WritesFew, StandsFor, StandsForNew, gives_edition}
+use Rattle.quilt_map.specs.Sessions.{IsAt, session_world}
+use Rattle.quilt_map.specs.Steps.{LeavesEdition, CommandWritesFew, StandsFor, StandsForNew, gives_edition}
 use Rattle.quilt_map.specs.declared.session.Session.{Session}
 use Rattle.quilt_map.proofs.Laws.{at_told}
 use Rattle.quilt_map.proofs.answers.Orderly.{quiet_none}
@@ -33,18 +33,18 @@ use Rattle.quilt_top.proofs.logs.Said.{says_nothing}
 -- ---- what a session stands for, in its tale
 
 pub leaves_told : {W : Type 0} {D : disk.Ghosts W} (session : Session W D) (s : State) → IsAt session s
-    → IfSome (D.told (world_of session)) (λ t. LeavesNow t (λ image. Stands image s.last))
+    → IfSome (D.told (session_world session)) (λ t. LeavesNow t (λ image. Stands image s.last))
 leaves_told {D = D} session s at =
     let told = at_told session s at in
     subst (λ (o : Option Tale). IfSome o (λ t. LeavesNow t (λ image. Stands image s.last))) (sym told.1) told.2
 
 pub seen_told : {W : Type 0} {D : disk.Ghosts W} (session : Session W D) (s : State) → IsAt session s
-    → IfSome (D.told (world_of session)) (λ t. Stands t.seen s.last)
+    → IfSome (D.told (session_world session)) (λ t. Stands t.seen s.last)
 seen_told {D = D} session s at =
     let told = at_told session s at in subst (λ (o : Option Tale). IfSome o (λ t. Stands t.seen s.last)) (sym told.1) told.3
 
 pub both_told : {W : Type 0} {D : disk.Ghosts W} (session : Session W D) (s : State) → IsAt session s
-    → IfSome (D.told (world_of session)) (λ t. Stands t.seen s.last × LeavesNow t (λ image. Stands image s.last))
+    → IfSome (D.told (session_world session)) (λ t. Stands t.seen s.last × LeavesNow t (λ image. Stands image s.last))
 both_told {D = D} session s at =
     let told = at_told session s at in
     subst (λ (o : Option Tale). IfSome o (λ t. Stands t.seen s.last × LeavesNow t (λ image. Stands image s.last))) (sym told.1) (told.3, told.2)
@@ -72,7 +72,7 @@ new_as : (s : State) (r q : Result Command Code) (image : Pages) → q ≡ r →
 new_as s r q image is stands = subst (λ (p : Result Command Code). StandsForNew (outcome_of s p).published image) (sym is) stands
 
 applies_one : (s : State) (item : Item) (command : Command) (c : ℕ) (t u : Tale) → form s.last.format item ≡ Ok command → AddsOnly is_of_pages t u
-    → Leaves s command t u → WritesFew s command c t u → Applies s item c t u
+    → LeavesEdition s command t u → CommandWritesFew s command c t u → Applies s item c t u
 applies_one s item command c t u is pages leaves few = record {
   pages = pages;
   stops = since_weaker t u (StandsFor s command) (StandsForItem s item) leaves.since (λ image stands. elim stands [
@@ -83,7 +83,7 @@ applies_one s item command c t u is pages leaves few = record {
 }
 
 pub applies_command : (s : State) (item : Item) (command : Command) (c : ℕ) (o n : Option Tale) → form s.last.format item ≡ Ok command
-    → Goes (AddsOnly is_of_pages) o n → Goes (Leaves s command) o n → Goes (WritesFew s command c) o n
+    → Goes (AddsOnly is_of_pages) o n → Goes (LeavesEdition s command) o n → Goes (CommandWritesFew s command c) o n
     → Goes (Applies s item c) o n
 applies_command s item command c None None is pages leaves few = tt
 applies_command s item command c None (Some u) is pages leaves few = pages
@@ -102,7 +102,7 @@ unchanged : (s : State) (o : Option Edition) (image : Pages) → o ≡ None → 
 unchanged s o image none (inl stands) = stands
 unchanged s o image none (inr stands) = absurd (subst (λ (p : Option Edition). StandsForNew p image) none stands)
 
-quiet_leaves : (s : State) (command : Command) (o n : Option Tale) → (answer s command).published ≡ None → Goes (Leaves s command) o n
+quiet_leaves : (s : State) (command : Command) (o n : Option Tale) → (answer s command).published ≡ None → Goes (LeavesEdition s command) o n
     → IfSome n (λ t. LeavesNow t (λ image. Stands image s.last))
 quiet_leaves s command None None none leaves = tt
 quiet_leaves s command None (Some u) none leaves = absurd leaves
@@ -111,7 +111,7 @@ quiet_leaves s command (Some t) (Some u) none leaves = λ image left.
     unchanged s (answer s command).published image none (since_now t u (StandsFor s command) leaves.since image left)
 
 -- A command that gave none, or that called no device: its edition is the last one still.
-pub leaves_last : (s : State) (command : Command) (o n : Option Tale) → (gives_edition command ≡ true → n ≡ o) → Goes (Leaves s command) o n
+pub leaves_last : (s : State) (command : Command) (o n : Option Tale) → (gives_edition command ≡ true → n ≡ o) → Goes (LeavesEdition s command) o n
     → IfSome o (λ t. LeavesNow t (λ image. Stands image s.last)) → IfSome n (λ t. LeavesNow t (λ image. Stands image s.last))
 leaves_last s command o n quiet leaves before = by (gives_edition command) refl
   where

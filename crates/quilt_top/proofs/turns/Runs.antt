@@ -16,8 +16,8 @@ use Rattle.quilt_top.specs.Answering.{Steps, PartStep, changes_all}
 use Rattle.quilt_top.specs.Replies.{state_after, said_for, replies_from}
 use Rattle.quilt_top.specs.Saying.{is_took, Says}
 use Rattle.quilt_top.specs.TextRun.{run_in, PromptAt, IsUntold, RunsFrom, RunsWhole, Overruns, EndsBetween}
-use Rattle.quilt_top.specs.Answered.{Answered, PrefixOfAll, StopsBetween}
-use Rattle.quilt_top.specs.Reading.{Reading}
+use Rattle.quilt_top.specs.Answered.{ItemsAnswered, PrefixOfAll, StopsBetween}
+use Rattle.quilt_top.specs.Reading.{ReadSoFar}
 use Rattle.quilt_world.specs.Added.{AtEachTook}
 use Rattle.quilt_world.proofs.AddedLaws.{adds_only_none}
 use Rattle.quilt_world.proofs.Told.{goes_then, goes_weaker, goes_and}
@@ -55,7 +55,7 @@ goes_last R S T Q (Some t) (Some u) None r s q step = s
 goes_last R S T Q (Some t) (Some u) (Some v) r s q step = step t u v r s q
 
 module _ (n : ℕ) (s0 : State) (at : s0.last.level ≡ n) where
-  pub reading_first : (c : ℕ) (t : Tale) → c ≡ 0 → IsUntold t → LeavesNow t (λ image. Stands image s0.last) → Reading n 0 true s0 s0 c [] t t
+  pub reading_first : (c : ℕ) (t : Tale) → c ≡ 0 → IsUntold t → LeavesNow t (λ image. Stands image s0.last) → ReadSoFar n 0 true s0 s0 c [] t t
   reading_first c t none new leaves = record {
     untold = new;
     leaves = leaves;
@@ -81,7 +81,7 @@ module _ (n : ℕ) (s0 : State) (at : s0.last.level ≡ n) where
 
   module _ (count : ℕ) (flag : Bool) (s1 : State) (c1 : ℕ) (rest : List ℕ) where
     -- what is put at this moment is prompt
-    prompt_now : (t u : Tale) → (so : Reading n count flag s0 s1 c1 rest t u) → whole_items n rest ≡ [] → PromptAt n s0 t.input u.log
+    prompt_now : (t u : Tale) → (so : ReadSoFar n count flag s0 s1 c1 rest t u) → whole_items n rest ≡ [] → PromptAt n s0 t.input u.log
     unfolding said_for
     prompt_now t u so none =
         let count_ : length (whole_items n (taken_bytes u.log)) ≡ length so.items =
@@ -97,8 +97,8 @@ module _ (n : ℕ) (s0 : State) (at : s0.last.level ≡ n) where
               (replies_from (state_after s0 so.items) (items_of n (rest ++ u.input))) (length so.items) (length-replies s0 so.items),
         ) so.put
 
-    reading_took : (next : ℕ) (b : List ℕ) (t u v : Tale) → next ≡ count + length b → Reading n count flag s0 s1 c1 rest t u
-        → whole_items n rest ≡ [] → 0 < length b → TakesFrom b u v → Reading n next flag s0 s1 c1 (rest ++ b) t v
+    reading_took : (next : ℕ) (b : List ℕ) (t u v : Tale) → next ≡ count + length b → ReadSoFar n count flag s0 s1 c1 rest t u
+        → whole_items n rest ≡ [] → 0 < length b → TakesFrom b u v → ReadSoFar n next flag s0 s1 c1 (rest ++ b) t v
     reading_took next b t u v sum so none some takes = record {
       untold = so.untold;
       leaves = so.leaves;
@@ -117,7 +117,7 @@ module _ (n : ℕ) (s0 : State) (at : s0.last.level ≡ n) where
       prompt = subst (AtEachTook (PromptAt n s0 t.input)) (sym (takes.log some)) (each_took (PromptAt n s0 t.input) u.log b so.prompt (prompt_now t u so none));
     }
 
-    reading_fed : (r1 : List ℕ) (t u : Tale) → Gives false n [] rest r1 → Reading n count flag s0 s1 c1 rest t u → Reading n count flag s0 s1 c1 r1 t u
+    reading_fed : (r1 : List ℕ) (t u : Tale) → Gives false n [] rest r1 → ReadSoFar n count flag s0 s1 c1 rest t u → ReadSoFar n count flag s0 s1 c1 r1 t u
     reading_fed r1 t u fed so = record {
       untold = so.untold;
       leaves = so.leaves;
@@ -137,22 +137,22 @@ module _ (n : ℕ) (s0 : State) (at : s0.last.level ≡ n) where
     }
 
     -- the steps behind those that were taken
-    steps_on : (g : List Group) (t u v : Tale) (so : Reading n count flag s0 s1 c1 rest t u) → Steps s1 c1 g u v → Steps s0 0 (so.items ++ g) t v
+    steps_on : (g : List Group) (t u v : Tale) (so : ReadSoFar n count flag s0 s1 c1 rest t u) → Steps s1 c1 g u v → Steps s0 0 (so.items ++ g) t v
     steps_on g t u v so steps =
         steps_then so.items g s0 0 t u v so.steps
         (subst (λ c. Steps (state_after s0 so.items) c g u v) so.changes (subst (λ (s : State). Steps s c1 g u v) so.state steps))
 
     -- what was put behind more items
-    put_behind : (g : List Group) (t u v : Tale) → (so : Reading n count flag s0 s1 c1 rest t u) → Says (said_for s1 g) u v
+    put_behind : (g : List Group) (t u v : Tale) → (so : ReadSoFar n count flag s0 s1 c1 rest t u) → Says (said_for s1 g) u v
         → put_bytes v.log ≡ said_for s0 (so.items ++ g)
     put_behind g t u v so says =
         said_puts (said_for s1 g) u v says ∙ ap (λ (l : List ℕ). l ++ said_for s1 g) so.put
         ∙ ap (λ (s : State). said_for s0 so.items ++ said_for s g) so.state ∙ sym (said-append s0 so.items g)
 
     -- more items were answered
-    reading_more : (more : Bool) (s2 : State) (c2 : ℕ) (g : List Group) (r2 : List ℕ) (t u v : Tale) → Reading n count flag s0 s1 c1 rest t u
+    reading_more : (more : Bool) (s2 : State) (c2 : ℕ) (g : List Group) (r2 : List ℕ) (t u v : Tale) → ReadSoFar n count flag s0 s1 c1 rest t u
         → Gives false n g rest r2 → s2 ≡ state_after s1 g → c2 ≡ changes_all s1 c1 g
-        → more ≡ (flag && list_all is_done (replies_from s1 g)) → Says (said_for s1 g) u v → Steps s1 c1 g u v → Reading n count more s0 s2 c2 r2 t v
+        → more ≡ (flag && list_all is_done (replies_from s1 g)) → Says (said_for s1 g) u v → Steps s1 c1 g u v → ReadSoFar n count more s0 s2 c2 r2 t v
     reading_more more s2 c2 g r2 t u v so gives is counts holds says steps = record {
       untold = so.untold;
       leaves = so.leaves;
@@ -173,12 +173,12 @@ module _ (n : ℕ) (s0 : State) (at : s0.last.level ≡ n) where
       prompt = said_prompt (PromptAt n s0 t.input) (said_for s1 g) u v says so.prompt;
     }
 
-    pub reading_answered : (more : Bool) (s2 : State) (c2 : ℕ) (r2 : List ℕ) (o m k : Option Tale) → Goes (Reading n count flag s0 s1 c1 rest) o m
-        → Answered false n flag more s1 s2 c1 c2 rest r2 m k → Goes (Reading n count more s0 s2 c2 r2) o k
+    pub reading_answered : (more : Bool) (s2 : State) (c2 : ℕ) (r2 : List ℕ) (o m k : Option Tale) → Goes (ReadSoFar n count flag s0 s1 c1 rest) o m
+        → ItemsAnswered false n flag more s1 s2 c1 c2 rest r2 m k → Goes (ReadSoFar n count more s0 s2 c2 r2) o k
     reading_answered more s2 c2 r2 o m k so a = goes_then _ _ _ o m k so (goes_and _ _ m k a.said a.steps)
         (λ t u v so both. reading_more more s2 c2 a.items r2 t u v so a.gives a.state a.changes a.done both.0 both.1)
 
-    reading_end : (t u v : Tale) → Reading n count flag s0 s1 c1 rest t u → TakesFrom [] u v → Reading n count flag s0 s1 c1 rest t v × (v.input ≡ [])
+    reading_end : (t u v : Tale) → ReadSoFar n count flag s0 s1 c1 rest t u → TakesFrom [] u v → ReadSoFar n count flag s0 s1 c1 rest t v × (v.input ≡ [])
     reading_end t u v so takes =
         let ended : v.input ≡ [] = sym takes.next ∙ takes.end refl in (
           record {
@@ -200,14 +200,14 @@ module _ (n : ℕ) (s0 : State) (at : s0.last.level ≡ n) where
           ended,
         )
 
-    all_said : (t u : Tale) → (so : Reading n count flag s0 s1 c1 rest t u)
+    all_said : (t u : Tale) → (so : ReadSoFar n count flag s0 s1 c1 rest t u)
         → said_for s0 (items_of n t.input) ≡ said_for s0 so.items ++ said_for s1 (items_of n (rest ++ u.input))
     all_said t u so =
         ap (λ (l : List ℕ). said_for s0 (items_of n l)) so.input ∙ said_same s0 n _ _ at (so.gives.all u.input tt)
         ∙ said-append s0 so.items (items_of n (rest ++ u.input))
         ∙ ap (λ (s : State). said_for s0 so.items ++ said_for s (items_of n (rest ++ u.input))) (sym so.state)
 
-    all_done : (t u : Tale) → (so : Reading n count flag s0 s1 c1 rest t u)
+    all_done : (t u : Tale) → (so : ReadSoFar n count flag s0 s1 c1 rest t u)
         → list_all is_done (replies_from s0 (items_of n t.input)) ≡ (flag && list_all is_done (replies_from s1 (items_of n (rest ++ u.input))))
     all_done t u so =
         ap (λ (l : List ℕ). list_all is_done (replies_from s0 (items_of n l))) so.input
@@ -216,14 +216,14 @@ module _ (n : ℕ) (s0 : State) (at : s0.last.level ≡ n) where
         ∙ ap (λ (b : Bool). b && list_all is_done (replies_from s1 (items_of n (rest ++ u.input)))) (sym so.done)
 
     -- all items are those that were answered, those of the rest, and then others
-    all_items : (g h : List Group) (t u : Tale) (so : Reading n count flag s0 s1 c1 rest t u) → Same n (items_of n (rest ++ u.input)) (g ++ h)
+    all_items : (g h : List Group) (t u : Tale) (so : ReadSoFar n count flag s0 s1 c1 rest t u) → Same n (items_of n (rest ++ u.input)) (g ++ h)
         → Same n (items_of n t.input) ((so.items ++ g) ++ h)
     all_items g h t u so same =
         subst (λ (l : List ℕ). Same n (items_of n l) ((so.items ++ g) ++ h)) (sym so.input)
         (then_same n so.items g (items_of n (so.taken ++ u.input)) (items_of n (rest ++ u.input)) h (so.gives.all u.input tt) same)
 
     -- at an exit
-    runs_after : (said : List ℕ) (g next h : List Group) (t u w v : Tale) → count ≤ 2 ^ 30 + 4096 → Reading n count flag s0 s1 c1 rest t u
+    runs_after : (said : List ℕ) (g next h : List Group) (t u w v : Tale) → count ≤ 2 ^ 30 + 4096 → ReadSoFar n count flag s0 s1 c1 rest t u
         → Says said u v → Begins (said_for s1 (items_of n (rest ++ u.input))) said
         → Same n (items_of n (rest ++ u.input)) ((g ++ next) ++ h) → Steps s1 c1 g u w → PartStep (state_after s1 g) (changes_all s1 c1 g) next w v
         → RunsFrom n s0 t v
@@ -260,17 +260,17 @@ module _ (n : ℕ) (s0 : State) (at : s0.last.level ≡ n) where
           writes = exit_writes n s0 at t.input items next h t w v all now last so.untold;
         }
 
-    runs_quietly : (t u v : Tale) → count ≤ 2 ^ 30 + 4096 → Reading n count flag s0 s1 c1 rest t u → Adds [] u v → RunsFrom n s0 t v
+    runs_quietly : (t u v : Tale) → count ≤ 2 ^ 30 + 4096 → ReadSoFar n count flag s0 s1 c1 rest t u → Adds [] u v → RunsFrom n s0 t v
     runs_quietly t u v few so none =
         runs_after [] [] [] (items_of n (rest ++ u.input)) t u u v few so (says_quiet u v none) (said_for s1 (items_of n (rest ++ u.input)), refl)
         (λ f. refl) (adds_only_none is_took u) none
 
     -- at an exit between calls
-    pub runs_now : (t u : Tale) → count ≤ 2 ^ 30 + 4096 → Reading n count flag s0 s1 c1 rest t u → RunsFrom n s0 t u
+    pub runs_now : (t u : Tale) → count ≤ 2 ^ 30 + 4096 → ReadSoFar n count flag s0 s1 c1 rest t u → RunsFrom n s0 t u
     runs_now t u few so =
         runs_quietly t u u few so (record { file = record { start = refl; path = refl; was_there = refl }; log = sym (append-nil u.log); input = refl })
 
-    runs_stopped : (ended : Bool) (t u v : Tale) → count ≤ 2 ^ 30 + 4096 → MayFollow ended u.input → Reading n count flag s0 s1 c1 rest t u
+    runs_stopped : (ended : Bool) (t u v : Tale) → count ≤ 2 ^ 30 + 4096 → MayFollow ended u.input → ReadSoFar n count flag s0 s1 c1 rest t u
         → PrefixOfAll ended n s1 c1 rest u v → RunsFrom n s0 t v
     runs_stopped ended t u v few may so stopped =
         runs_after stopped.said stopped.items stopped.next (items_of n (stopped.left ++ u.input)) t u stopped.steps.middle v few so stopped.says
@@ -278,14 +278,14 @@ module _ (n : ℕ) (s0 : State) (at : s0.last.level ≡ n) where
         (stopped.gives.all u.input may) stopped.steps.steps stopped.steps.part
 
     -- between two replies
-    pub ends_now : (t u : Tale) → Reading n count flag s0 s1 c1 rest t u → LeavesNow u (λ image. Stands image s1.last)
+    pub ends_now : (t u : Tale) → ReadSoFar n count flag s0 s1 c1 rest t u → LeavesNow u (λ image. Stands image s1.last)
         → EndsBetween (run_in s0 (items_of n t.input)) u
     ends_now t u so leaves =
         exit_ends n s0 at t.input so.items (items_of n (rest ++ u.input)) u
         (subst (λ (l : List ℕ). Same n (items_of n l) (so.items ++ items_of n (rest ++ u.input))) (sym so.input) (so.gives.all u.input tt)) so.put
         (subst (λ (s : State). LeavesNow u (λ image. Stands image s.last)) so.state leaves)
 
-    ends_stopped : (ended : Bool) (t u v : Tale) → MayFollow ended u.input → Reading n count flag s0 s1 c1 rest t u → StopsBetween ended n s1 rest u v
+    ends_stopped : (ended : Bool) (t u v : Tale) → MayFollow ended u.input → ReadSoFar n count flag s0 s1 c1 rest t u → StopsBetween ended n s1 rest u v
         → EndsBetween (run_in s0 (items_of n t.input)) v
     ends_stopped ended t u v may so stopped =
         let g = stopped.items in
@@ -294,15 +294,15 @@ module _ (n : ℕ) (s0 : State) (at : s0.last.level ≡ n) where
         (all_items g (items_of n (stopped.left ++ u.input)) t u so (stopped.gives.all u.input may)) (put_behind g t u v so stopped.says)
         (subst (λ (s : State). LeavesNow v (λ image. Stands image s.last)) state stopped.leaves)
 
-    pub goes_ends : (o m : Option Tale) → Goes (Reading n count flag s0 s1 c1 rest) o m → IfSome m (λ u. LeavesNow u (λ image. Stands image s1.last))
+    pub goes_ends : (o m : Option Tale) → Goes (ReadSoFar n count flag s0 s1 c1 rest) o m → IfSome m (λ u. LeavesNow u (λ image. Stands image s1.last))
         → Goes (λ t u. EndsBetween (run_in s0 (items_of n t.input)) u) o m
     goes_ends o m so leaves = goes_at _ _ (λ u. LeavesNow u (λ image. Stands image s1.last)) o m so leaves (λ t u so left. ends_now t u so left)
 
-    pub goes_between : (o m k : Option Tale) → Goes (Reading n count flag s0 s1 c1 rest) o m → Goes (StopsBetween false n s1 rest) m k
+    pub goes_between : (o m k : Option Tale) → Goes (ReadSoFar n count flag s0 s1 c1 rest) o m → Goes (StopsBetween false n s1 rest) m k
         → Goes (λ t u. EndsBetween (run_in s0 (items_of n t.input)) u) o k
     goes_between o m k so stopped = goes_then _ _ _ o m k so stopped (λ t u v so stopped. ends_stopped false t u v tt so stopped)
 
-    pub goes_between_end : (o m k : Option Tale) → Goes (λ t u. Reading n count flag s0 s1 c1 rest t u × (u.input ≡ [])) o m
+    pub goes_between_end : (o m k : Option Tale) → Goes (λ t u. ReadSoFar n count flag s0 s1 c1 rest t u × (u.input ≡ [])) o m
         → Goes (StopsBetween true n s1 rest) m k → Goes (λ t u. EndsBetween (run_in s0 (items_of n t.input)) u) o k
     goes_between_end o m k so stopped = goes_then _ _ _ o m k so stopped (λ t u v so stopped. ends_stopped true t u v so.1 so.0 stopped)
 
@@ -313,11 +313,11 @@ module _ (n : ℕ) (s0 : State) (at : s0.last.level ≡ n) where
         ∙ ap (λ (l : List ℕ). map (held f n) (g ++ items_of n l)) (append-nil r2) ∙ ap (λ (l : List Group). map (held f n) (g ++ l)) none
         ∙ ap (map (held f n)) (append-nil g)
 
-    level_now : (t u : Tale) → Reading n count flag s0 s1 c1 rest t u → s1.last.level ≡ n
+    level_now : (t u : Tale) → ReadSoFar n count flag s0 s1 c1 rest t u → s1.last.level ≡ n
     level_now t u so = ap (λ (s : State). s.last.level) so.state ∙ level_after s0 n so.items at
 
     -- at the end all is put
-    runs_whole : (more : Bool) (s2 : State) (r2 : List ℕ) (t u v : Tale) → (g : List Group) → count ≤ 2 ^ 30 → Reading n count flag s0 s1 c1 rest t u
+    runs_whole : (more : Bool) (s2 : State) (r2 : List ℕ) (t u v : Tale) → (g : List Group) → count ≤ 2 ^ 30 → ReadSoFar n count flag s0 s1 c1 rest t u
         → u.input ≡ [] → Gives true n g rest r2 → items_of n r2 ≡ [] → s2 ≡ state_after s1 g
         → more ≡ (flag && list_all is_done (replies_from s1 g)) → Says (said_for s1 g) u v → Steps s1 c1 g u v
         → Stands v.seen s2.last × LeavesNow v (λ image. Stands image s2.last) → RunsFrom n s0 t v × RunsWhole n more s0 t v
@@ -349,52 +349,52 @@ module _ (n : ℕ) (s0 : State) (at : s0.last.level ≡ n) where
         )
 
     pub runs_answered : (more : Bool) (s2 : State) (c2 : ℕ) (r2 : List ℕ) (o m k : Option Tale) → count ≤ 2 ^ 30
-        → Goes (λ t u. Reading n count flag s0 s1 c1 rest t u × (u.input ≡ [])) o m → Answered true n flag more s1 s2 c1 c2 rest r2 m k → items_of n r2 ≡ []
+        → Goes (λ t u. ReadSoFar n count flag s0 s1 c1 rest t u × (u.input ≡ [])) o m → ItemsAnswered true n flag more s1 s2 c1 c2 rest r2 m k → items_of n r2 ≡ []
         → IfSome k (λ v. Stands v.seen s2.last × LeavesNow v (λ image. Stands image s2.last)) → Goes (λ t v. RunsFrom n s0 t v × RunsWhole n more s0 t v) o k
     runs_answered more s2 c2 r2 o m k few so a none stands = goes_last _ _ _ _ o m k so (goes_and _ _ m k a.said a.steps) stands (λ t u v so both stands.
         runs_whole more s2 r2 t u v a.items few so.0 so.1 a.gives none a.state a.done both.0 both.1 stands)
 
-    pub runs_quiet : (o m k : Option Tale) → count ≤ 2 ^ 30 + 4096 → Goes (Reading n count flag s0 s1 c1 rest) o m → Goes (Adds []) m k
+    pub runs_quiet : (o m k : Option Tale) → count ≤ 2 ^ 30 + 4096 → Goes (ReadSoFar n count flag s0 s1 c1 rest) o m → Goes (Adds []) m k
         → Goes (RunsFrom n s0) o k
     runs_quiet o m k few so none = goes_then _ _ _ o m k so none (λ t u v so none. runs_quietly t u v few so none)
 
-    pub goes_took : (next : ℕ) (b : List ℕ) (o m k : Option Tale) → next ≡ count + length b → Goes (Reading n count flag s0 s1 c1 rest) o m
-        → whole_items n rest ≡ [] → 0 < length b → Goes (TakesFrom b) m k → Goes (Reading n next flag s0 s1 c1 (rest ++ b)) o k
+    pub goes_took : (next : ℕ) (b : List ℕ) (o m k : Option Tale) → next ≡ count + length b → Goes (ReadSoFar n count flag s0 s1 c1 rest) o m
+        → whole_items n rest ≡ [] → 0 < length b → Goes (TakesFrom b) m k → Goes (ReadSoFar n next flag s0 s1 c1 (rest ++ b)) o k
     goes_took next b o m k sum so none some takes = goes_then _ _ _ o m k so takes (λ t u v so takes. reading_took next b t u v sum so none some takes)
 
-    pub goes_fed : (r1 : List ℕ) (o m : Option Tale) → Goes (Reading n count flag s0 s1 c1 rest) o m → Gives false n [] rest r1
-        → Goes (Reading n count flag s0 s1 c1 r1) o m
+    pub goes_fed : (r1 : List ℕ) (o m : Option Tale) → Goes (ReadSoFar n count flag s0 s1 c1 rest) o m → Gives false n [] rest r1
+        → Goes (ReadSoFar n count flag s0 s1 c1 r1) o m
     goes_fed r1 o m so fed = goes_weaker _ _ o m so (λ t u so. reading_fed r1 t u fed so)
 
-    pub goes_counted : (c : ℕ) (o m : Option Tale) → c ≡ c1 → Goes (Reading n count flag s0 s1 c1 rest) o m → Goes (Reading n count flag s0 s1 c rest) o m
-    goes_counted c o m is so = subst (λ x. Goes (Reading n count flag s0 s1 x rest) o m) (sym is) so
+    pub goes_counted : (c : ℕ) (o m : Option Tale) → c ≡ c1 → Goes (ReadSoFar n count flag s0 s1 c1 rest) o m → Goes (ReadSoFar n count flag s0 s1 c rest) o m
+    goes_counted c o m is so = subst (λ x. Goes (ReadSoFar n count flag s0 s1 x rest) o m) (sym is) so
 
-    pub goes_runs : (o m : Option Tale) → count ≤ 2 ^ 30 + 4096 → Goes (Reading n count flag s0 s1 c1 rest) o m → Goes (RunsFrom n s0) o m
+    pub goes_runs : (o m : Option Tale) → count ≤ 2 ^ 30 + 4096 → Goes (ReadSoFar n count flag s0 s1 c1 rest) o m → Goes (RunsFrom n s0) o m
     goes_runs o m few so = goes_weaker _ _ o m so (λ t u so. runs_now t u few so)
 
-    overruns : (next : ℕ) (b : List ℕ) (t u v : Tale) → next ≡ count + length b → 2 ^ 30 < next → Reading n count flag s0 s1 c1 rest t u
+    overruns : (next : ℕ) (b : List ℕ) (t u v : Tale) → next ≡ count + length b → 2 ^ 30 < next → ReadSoFar n count flag s0 s1 c1 rest t u
         → whole_items n rest ≡ [] → 0 < length b → TakesFrom b u v → Overruns v
     overruns next b t u v sum past so none some takes =
         let now = reading_took next b t u v sum so none some takes in
         record { past = omega (arith, past, now.total, ap length now.takes); so_far = u.log; piece = b; last = takes.log some }
 
     pub goes_past : (next : ℕ) (b : List ℕ) (o m k : Option Tale) → next ≡ count + length b → 2 ^ 30 < next
-        → Goes (Reading n count flag s0 s1 c1 rest) o m → whole_items n rest ≡ [] → 0 < length b → Goes (TakesFrom b) m k → Goes (λ old new. Overruns new) o k
+        → Goes (ReadSoFar n count flag s0 s1 c1 rest) o m → whole_items n rest ≡ [] → 0 < length b → Goes (TakesFrom b) m k → Goes (λ old new. Overruns new) o k
     goes_past next b o m k sum past so none some takes = goes_then _ _ _ o m k so takes (λ t u v so takes. overruns next b t u v sum past so none some takes)
 
-    pub goes_stopped : (o m k : Option Tale) → count ≤ 2 ^ 30 + 4096 → Goes (Reading n count flag s0 s1 c1 rest) o m
+    pub goes_stopped : (o m k : Option Tale) → count ≤ 2 ^ 30 + 4096 → Goes (ReadSoFar n count flag s0 s1 c1 rest) o m
         → Goes (PrefixOfAll false n s1 c1 rest) m k → Goes (RunsFrom n s0) o k
     goes_stopped o m k few so stopped = goes_then _ _ _ o m k so stopped (λ t u v so stopped. runs_stopped false t u v few tt so stopped)
 
-    pub goes_ended : (o m k : Option Tale) → Goes (Reading n count flag s0 s1 c1 rest) o m → Goes (TakesFrom []) m k
-        → Goes (λ t u. Reading n count flag s0 s1 c1 rest t u × (u.input ≡ [])) o k
+    pub goes_ended : (o m k : Option Tale) → Goes (ReadSoFar n count flag s0 s1 c1 rest) o m → Goes (TakesFrom []) m k
+        → Goes (λ t u. ReadSoFar n count flag s0 s1 c1 rest t u × (u.input ≡ [])) o k
     goes_ended o m k so takes = goes_then _ _ _ o m k so takes (λ t u v so takes. reading_end t u v so takes)
 
-    pub ended_counted : (c : ℕ) (o m : Option Tale) → c ≡ c1 → Goes (λ t u. Reading n count flag s0 s1 c1 rest t u × (u.input ≡ [])) o m
-        → Goes (λ t u. Reading n count flag s0 s1 c rest t u × (u.input ≡ [])) o m
-    ended_counted c o m is so = subst (λ x. Goes (λ t u. Reading n count flag s0 s1 x rest t u × (u.input ≡ [])) o m) (sym is) so
+    pub ended_counted : (c : ℕ) (o m : Option Tale) → c ≡ c1 → Goes (λ t u. ReadSoFar n count flag s0 s1 c1 rest t u × (u.input ≡ [])) o m
+        → Goes (λ t u. ReadSoFar n count flag s0 s1 c rest t u × (u.input ≡ [])) o m
+    ended_counted c o m is so = subst (λ x. Goes (λ t u. ReadSoFar n count flag s0 s1 x rest t u × (u.input ≡ [])) o m) (sym is) so
 
-    pub goes_stopped_end : (o m k : Option Tale) → count ≤ 2 ^ 30 + 4096 → Goes (λ t u. Reading n count flag s0 s1 c1 rest t u × (u.input ≡ [])) o m
+    pub goes_stopped_end : (o m k : Option Tale) → count ≤ 2 ^ 30 + 4096 → Goes (λ t u. ReadSoFar n count flag s0 s1 c1 rest t u × (u.input ≡ [])) o m
         → Goes (PrefixOfAll true n s1 c1 rest) m k → Goes (RunsFrom n s0) o k
     goes_stopped_end o m k few so stopped = goes_then _ _ _ o m k so stopped (λ t u v so stopped. runs_stopped true t u v few so.1 so.0 stopped)
 

@@ -26,7 +26,7 @@ use Rattle.quilt_map.proofs.answers.TextLaws.{run_same, then_same}
 use Rattle.quilt_top.specs.Answering.{StandsForItem, Applies}
 use Rattle.quilt_top.specs.Replies.{held_at, outcome, reply_to, state_then, state_after, replies_from}
 use Rattle.quilt_top.specs.TextRun.{run_in, IsFine}
-use Rattle.quilt_top.specs.Trying.{IsNextCommand, IsNextItem, StandsForOne, Tries, Tried}
+use Rattle.quilt_top.specs.Trying.{IsNextCommand, IsNextItem, StandsForOne, TriesCommands, Tried}
 use Rattle.quilt_top.specs.declared.trial_run.Tally.{Tally}
 use Rattle.quilt_top.proofs.turns.Fine.{fine_either}
 use Rattle.quilt_top.proofs.turns.Places.{edition_first, fine_behind}
@@ -122,15 +122,15 @@ one_behind s (g ∷ gs) h put image fine =
     let rest = one_behind (state_then s (held_at s g)) gs h put image fine in
     (_, fine_behind s g (gs ++ h) rest.0 image rest.1)
 
-pub tries_none : (r : Run) (t : Tale) → LeavesNow t (StandsForOne r) → Tries r t t
+pub tries_none : (r : Run) (t : Tale) → LeavesNow t (StandsForOne r) → TriesCommands r t t
 tries_none r t leaves = record { pages = adds_only_none is_of_pages t; stops = since_here t (StandsForOne r) leaves }
 
-tries_both : (r : Run) (t u v : Tale) → Tries r t u → Tries r u v → Tries r t v
+tries_both : (r : Run) (t u v : Tale) → TriesCommands r t u → TriesCommands r u v → TriesCommands r t v
 tries_both r t u v a b = record { pages = adds_only_both is_of_pages t u v a.pages b.pages; stops = since_both t u v (StandsForOne r) a.stops b.stops }
 
 -- an item that stands behind others in the run
 tries_one : (s : State) (gs : List Group) (g : Group) (h : List Group) (c : ℕ) (t u : Tale)
-    → Applies (state_after s gs) (held_at (state_after s gs) g) c t u → Tries (run_in s (gs ++ g ∷ h)) t u
+    → Applies (state_after s gs) (held_at (state_after s gs) g) c t u → TriesCommands (run_in s (gs ++ g ∷ h)) t u
 tries_one s gs g h c t u applies = record {
   pages = applies.pages;
   stops =
@@ -147,7 +147,7 @@ module _ (n : ℕ) (text : List ℕ) (s : State) (at : s.last.level ≡ n) where
   abbrev r : Run
   r = run_in s (items_of n text)
 
-  pub first_tries : (o : Option Tale) → IfSome o (λ t. LeavesNow t (λ image. Stands image s.last)) → Goes (Tries r) o o
+  pub first_tries : (o : Option Tale) → IfSome o (λ t. LeavesNow t (λ image. Stands image s.last)) → Goes (TriesCommands r) o o
   first_tries None leaves = tt
   first_tries (Some t) leaves = tries_none r t (λ image left. one_first s (items_of n text) image (leaves image left))
 
@@ -156,13 +156,13 @@ module _ (n : ℕ) (text : List ℕ) (s : State) (at : s.last.level ≡ n) where
 
   module _ (left : List Group) (now : State) (tally : Tally) (so : Tried n text left s now tally) (g : Group) (behind : List Group)
       (rest : Same n left (g ∷ behind)) where
-    pub next_tries : (c : ℕ) (o m l : Option Tale) → Goes (Tries r) o m → Goes (Applies now (held_at now g) c) m l → Goes (Tries r) o l
+    pub next_tries : (c : ℕ) (o m l : Option Tale) → Goes (TriesCommands r) o m → Goes (Applies now (held_at now g) c) m l → Goes (TriesCommands r) o l
     next_tries c o m l tries applies =
         let all : Same n (items_of n text) (so.items ++ g ∷ behind) = λ f. so.all f ∙ map-append (held f n) so.items left
         ∙ ap (λ l. map (held f n) so.items ++ l) (rest f) ∙ sym (map-append (held f n) so.items (g ∷ behind)) in
         let is : r ≡ run_in s (so.items ++ g ∷ behind) = run_same s.quota s.last s.work n (items_of n text) (so.items ++ g ∷ behind) at all in
         goes_then _ _ _ o m l tries applies (λ t u v before one.
-        tries_both r t u v before (subst (λ (x : Run). Tries x u v) (sym is)
+        tries_both r t u v before (subst (λ (x : Run). TriesCommands x u v) (sym is)
         (tries_one s so.items g behind c u v (subst (λ (x : State). Applies x (held_at x g) c u v) so.state one))))
 
     one_more : (x : State) → count_by is_done (replies_from x (g ∷ [])) ≡ cond {A = ℕ} (is_done (reply_to x (held_at x g))) 1 0

@@ -9,7 +9,7 @@ use Rattle.quilt_words.specs.Items.{Group, items_of}
 use Rattle.quilt_lang.specs.Reading.{Gives, MayFollow}
 use Rattle.quilt_replies.specs.Answers.{State}
 use Rattle.quilt_replies.specs.Runs.{text_of, is_done}
-use Rattle.quilt_top.specs.Answered.{Answered, PrefixOfAll, StopsBetween}
+use Rattle.quilt_top.specs.Answered.{ItemsAnswered, PrefixOfAll, StopsBetween}
 use Rattle.quilt_top.specs.Answering.{Answers, AnswersPrefix, PutsNone, Steps, changes_then, changes_all}
 use Rattle.quilt_top.specs.Replies.{held_at, reply_to, state_then, state_after, replies_from, said_for}
 use Rattle.quilt_top.specs.Saying.{is_took, Says}
@@ -66,7 +66,7 @@ module _ (ended : Bool) (n : ℕ) where
         said_for s0 (items_of n (r0 ++ v)) ≡ said_for s0 g ++ said_for (state_after s0 g) (items_of n (r1 ++ v))
     said_with g r1 v gives may = said_same s0 n _ _ at (gives.all v may) ∙ said-append s0 g (items_of n (r1 ++ v))
 
-    pub answered_first : (o : Option Tale) → Answered ended n so_far so_far s0 s0 c0 c0 r0 r0 o o
+    pub answered_first : (o : Option Tale) → ItemsAnswered ended n so_far so_far s0 s0 c0 c0 r0 r0 o o
     answered_first o = record {
       items = [];
       gives = gives_none ended n r0;
@@ -95,7 +95,7 @@ module _ (ended : Bool) (n : ℕ) where
           };
     }
 
-    pub stopped_now : (flag : Bool) (s1 : State) (c1 : ℕ) (r1 : List ℕ) (o m : Option Tale) → Answered ended n so_far flag s0 s1 c0 c1 r0 r1 o m
+    pub stopped_now : (flag : Bool) (s1 : State) (c1 : ℕ) (r1 : List ℕ) (o m : Option Tale) → ItemsAnswered ended n so_far flag s0 s1 c0 c1 r0 r1 o m
         → Goes (PrefixOfAll ended n s0 c0 r0) o m
     stopped_now flag s1 c1 r1 o m so = goes_weaker _ _ o m (goes_and _ _ o m so.said so.steps) (λ t u both. front_here so.items r1 t u so.gives both.0 both.1)
 
@@ -104,12 +104,12 @@ module _ (ended : Bool) (n : ℕ) where
         → LeavesNow u (λ image. Stands image (state_after s0 g).last) → StopsBetween ended n s0 r0 t u
     between_here g r1 t u gives says leaves = record { items = g; left = r1; gives = gives; says = says; leaves = leaves }
 
-    pub stopped_between : (flag : Bool) (s1 : State) (c1 : ℕ) (r1 : List ℕ) (o m : Option Tale) → Answered ended n so_far flag s0 s1 c0 c1 r0 r1 o m
+    pub stopped_between : (flag : Bool) (s1 : State) (c1 : ℕ) (r1 : List ℕ) (o m : Option Tale) → ItemsAnswered ended n so_far flag s0 s1 c0 c1 r0 r1 o m
         → IfSome m (λ u. LeavesNow u (λ image. Stands image s1.last)) → Goes (StopsBetween ended n s0 r0) o m
     stopped_between flag s1 c1 r1 o m so leaves = goes_at _ _ (λ u. LeavesNow u (λ image. Stands image s1.last)) o m so.said leaves (λ t u says left.
         between_here so.items r1 t u so.gives says (subst (λ (s : State). LeavesNow u (λ image. Stands image s.last)) so.state left))
 
-    pub stopped_after : (flag : Bool) (s1 : State) (c1 : ℕ) (r1 : List ℕ) (o m l : Option Tale) → Answered ended n so_far flag s0 s1 c0 c1 r0 r1 o m
+    pub stopped_after : (flag : Bool) (s1 : State) (c1 : ℕ) (r1 : List ℕ) (o m l : Option Tale) → ItemsAnswered ended n so_far flag s0 s1 c0 c1 r0 r1 o m
         → Goes (PutsNone s1) m l → Goes (StopsBetween ended n s0 r0) o l
     stopped_after flag s1 c1 r1 o m l so none = goes_then _ _ _ o m l so.said none (λ t u v says quiet.
         between_here so.items r1 t v so.gives
@@ -145,17 +145,17 @@ module _ (ended : Bool) (n : ℕ) where
         }
 
     pub stopped_part : (flag : Bool) (s1 : State) (c1 : ℕ) (i : Group) (r1 r2 : List ℕ) (o m l : Option Tale)
-        → Answered ended n so_far flag s0 s1 c0 c1 r0 r1 o m → Gives ended n (i ∷ []) r1 r2 →
+        → ItemsAnswered ended n so_far flag s0 s1 c0 c1 r0 r1 o m → Gives ended n (i ∷ []) r1 r2 →
         Goes (AnswersPrefix s1 (held_at s1 i) c1) m l → Goes (PrefixOfAll ended n s0 c0 r0) o l
     stopped_part flag s1 c1 i r1 r2 o m l so next part =
         goes_then _ _ _ o m l (goes_and _ _ o m so.said so.steps) (rw (so.state, so.changes) at part) (λ t u v old new.
         front_next so.items i r1 r2 t u v so.gives next old.0 old.1 new)
 
     pub answered_next : (flag next_flag : Bool) (s1 s2 : State) (c1 c2 : ℕ) (i : Group) (r1 r2 : List ℕ) (o m l : Option Tale)
-        → Answered ended n so_far flag s0 s1 c0 c1 r0 r1 o m → Gives ended n (i ∷ []) r1 r2 →
+        → ItemsAnswered ended n so_far flag s0 s1 c0 c1 r0 r1 o m → Gives ended n (i ∷ []) r1 r2 →
         Goes (Answers s1 (held_at s1 i) c1 (text_of (reply_to s1 (held_at s1 i)))) m l → s2 ≡ state_then s1 (held_at s1 i)
         → c2 ≡ changes_then s1 (held_at s1 i) c1
-        → next_flag ≡ (flag && is_done (reply_to s1 (held_at s1 i))) → Answered ended n so_far next_flag s0 s2 c0 c2 r0 r2 o l
+        → next_flag ≡ (flag && is_done (reply_to s1 (held_at s1 i))) → ItemsAnswered ended n so_far next_flag s0 s2 c0 c2 r0 r2 o l
     answered_next flag next_flag s1 s2 c1 c2 i r1 r2 o m l so next answers is count holds =
         let last = state_after s0 so.items in
         let text = text_of (reply_to last (held_at last i)) in

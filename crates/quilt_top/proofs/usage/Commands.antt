@@ -6,11 +6,11 @@ use Rattle.clap.specs.Walk.{nothing_held, rows_after}
 use Rattle.clap.specs.Faults.{level_fault}
 use Rattle.clap.proofs.OnLiterals.{clap_on_literals}
 use Rattle.clap.proofs.FaultLemmas.{leaf_fault}
-use Rattle.quilt_top.specs.CommandLine.{reader, placed, pool_option}
+use Rattle.quilt_top.specs.CommandLine.{reader, placed_argument, pool_option}
 
 -- an argument at its place
 abbrev pub at_place : Text → Bool → ℕ → Rule
-at_place id required i = with_index i (filled (placed id required))
+at_place id required i = with_index i (filled (placed_argument id required))
 
 abbrev pub pool_rule : Rule
 pool_rule = filled pool_option

@@ -1,6 +1,6 @@
 use Rattle.std.proofs.Common.{◌<◌, List, Some, length, not, sym, ◌∙◌, ap, subst}
 use Rattle.quilt_record.specs.declared.record.Record.{Record}
-use Rattle.quilt_node.specs.Nodes.{records_of}
+use Rattle.quilt_node.specs.Nodes.{page_records}
 use Rattle.quilt_node.proofs.Places.{leaf_records}
 use Rattle.quilt_btree.specs.Batches.{is_due, edited, HasRoom}
 use Rattle.quilt_btree.proofs.batches.Plans.{set_over}
@@ -22,7 +22,7 @@ pub returns-in-Ok-clause-made : goal.returns-in-Ok-clause-made
 returns-in-Ok-clause-made c = λ rs is t.
     let f = c.in-Ok.ensures.place rs is in
     let some : 1 < length rs = subst (λ (l : List Record). 1 < length l) (leaf_records c.args.bytes.now rs is)
-    (subst (λ e. HasRoom e (length (records_of c.args.bytes.now))) c.in-Remove.is c.requires) in
+    (subst (λ e. HasRoom e (length (page_records c.args.bytes.now))) c.in-Remove.is c.requires) in
     c.remove_in.ensures.leaf rs is some
     ∙ ap Some (without_found c.in-Remove.key rs c.in-Ok.place f.found f f.here ∙ sym (ap (λ e. edited e rs) c.in-Remove.is))
 

@@ -3,7 +3,7 @@ use Rattle.quilt_types.specs.declared.plane.Block.{Block}
 use Rattle.quilt_types.specs.declared.plane.Seg.{Seg}
 use Rattle.quilt_types.specs.Plane.{side}
 use Rattle.quilt_blocks.proofs.Adding.{part_at}
-use Rattle.quilt_line_audit.specs.Pairs.{Begins, InTurn}
+use Rattle.quilt_line_audit.specs.Pairs.{BeginsWithPairs, EachInTurn}
 use Rattle.quilt_line_audit.proofs.Descents.{IsLeaf, leaf_some, leaf_none, cut_some, cut_none, turn_stops, turn_goes, turn_done, more_than_one, quarter_side_at}
 use Rattle.quilt_line_audit.proofs.Descents.{some_map, none_map, some_from, none_from}
 use Rattle.quilt_line_audit.proofs.descent.+end_in.Goals.{then-square-eq1-via-then-square-eq1, then-square-eq1-via-else-square-eq1+then-is_on}
@@ -53,9 +53,9 @@ returns-in-None-clause-none t c =
     (λ k rest e turn.
     turn_stops k c.deref.result.now qs i no_block (omega arith) (drop c.loop-quarter.end c.args.pairs.now) rest
     (λ mid h. none k mid (side_at k e) h)
-    (subst (λ (l : List (ℕ × Seg)). InTurn (Begins l k) (drop i qs) (drop c.loop-quarter.end c.args.pairs.now) rest) (sym c.deref.ensures.value)
+    (subst (λ (l : List (ℕ × Seg)). EachInTurn (BeginsWithPairs l k) (drop i qs) (drop c.loop-quarter.end c.args.pairs.now) rest) (sym c.deref.ensures.value)
     ((c.loop-quarter.invariant.goes k rest e).1
-    (subst (λ (l : List (ℕ × Seg)). InTurn (Begins l k) qs (drop c.args.at c.args.pairs.now) rest) c.deref.ensures.value turn))))
+    (subst (λ (l : List (ℕ × Seg)). EachInTurn (BeginsWithPairs l k) qs (drop c.args.at c.args.pairs.now) rest) c.deref.ensures.value turn))))
 
 pub loop-quarter-preserved : goal.loop-quarter-preserved
 loop-quarter-preserved t c =
@@ -71,7 +71,7 @@ loop-quarter-preserved t c =
       goes = λ k rest e.
           let side_at = quarter_side_at k b qs i no_block e c.quarters-quarter-items.ensures.value lt in
           let here =
-          subst (λ (l : List (ℕ × Seg)). Begins l k (get_or qs i no_block) (drop c.loop-quarter.end c.args.pairs.now)
+          subst (λ (l : List (ℕ × Seg)). BeginsWithPairs l k (get_or qs i no_block) (drop c.loop-quarter.end c.args.pairs.now)
           (drop c.in-Some.next c.args.pairs.now)) c.deref.ensures.value (some k side_at) in
           let step = turn_goes k near qs i no_block (omega arith) (drop c.loop-quarter.end c.args.pairs.now) (drop c.in-Some.next c.args.pairs.now)
           side_at here rest in

@@ -4,7 +4,7 @@ use Rattle.std.specs.FinMap as finmap
 use Rattle.quilt_types.specs.Layers.{SegMap, BlockSet}
 use Rattle.quilt_types.specs.Quadtrees.{after_add}
 use Rattle.quilt_node.specs.declared.head.Head.{Head}
-use Rattle.quilt_store.specs.Stops.{IsSound}
+use Rattle.quilt_store.specs.Stops.{IsNotDamage}
 use Rattle.quilt_lines.specs.Plans.{IsLinePlan}
 use Rattle.quilt_map.proofs.answers.Asked.{still_here, if_ok, if_err, if_some}
 use Rattle.quilt_map.proofs.plans.LinePlans.{lines_said}
@@ -36,4 +36,4 @@ pub returns-clause-sound : goal.returns-clause-sound
 returns-clause-sound g c =
     if_err _ _ c.plan_add.result (λ e h segs cover least has.
     lines_said {D = g.W.Disk} c.args.book.now c.args.layer c.head-head.result c.tree_of.result c.head-head.ensures.work c.tree_of.ensures
-    (λ (x : Head) (all : SegMap) (blocks : BlockSet). IsSound e) h segs cover has) c.plan_add.ensures.sound
+    (λ (x : Head) (all : SegMap) (blocks : BlockSet). IsNotDamage e) h segs cover has) c.plan_add.ensures.sound

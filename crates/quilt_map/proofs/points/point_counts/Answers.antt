@@ -3,7 +3,7 @@ use Rattle.quilt_map.specs.Sessions.{told_of}
 use Rattle.std.proofs.Common.{ap}
 use Rattle.quilt_node.specs.declared.head.Head.{Head}
 use Rattle.quilt_types.specs.Layers.{Points}
-use Rattle.quilt_map.specs.Costs.{block_pages}
+use Rattle.quilt_map.specs.Costs.{layer_block_pages}
 use Rattle.quilt_map.proofs.answers.Asked.{if_ok}
 use Rattle.quilt_map.proofs.questions.Costs.{costs_as}
 use Rattle.quilt_map.proofs.answers.Asked.{still_here, if_err}
@@ -26,6 +26,6 @@ returns-clause-sound g c =
 pub returns-clause-reads : goal.returns-clause-reads
 returns-clause-reads g c =
     if_ok _ _ c.block_counts.result (λ counts h points has.
-    costs_as _ _ _ _ (ap (λ (k : Head). block_pages k.level (Points c.args.layer.bucket points)) c.head-head.ensures.work)
+    costs_as _ _ _ _ (ap (λ (k : Head). layer_block_pages k.level (Points c.args.layer.bucket points)) c.head-head.ensures.work)
     (h points (points_as (told_of {D = g.W.Disk} c.args.book.now) c.args.layer.number c.args.layer.bucket points c.head-head.result
     c.args.book.now.work c.tree_of.result c.head-head.ensures.work c.tree_of.ensures has))) c.block_counts.ensures.reads

@@ -1,9 +1,9 @@
 use Rattle.std.proofs.Common.{subst}
 use Rattle.quilt_blocks.specs.Raster.{Raster}
-use Rattle.quilt_region.specs.Plans.{LeadsTo}
+use Rattle.quilt_region.specs.Plans.{ReplacesGrid}
 use Rattle.quilt_map.proofs.regions.plan_redraw.Goals as goal
 
 pub returns-clause-plan : goal.returns-clause-plan
 returns-clause-plan g c = λ grid has.
-    subst (λ (l : Raster). LeadsTo l.level c.args.number l.grid c.args.new.now.grid c.in-Ok-plan_replace.edits)
+    subst (λ (l : Raster). ReplacesGrid l.level c.args.number l.grid c.args.new.now.grid c.in-Ok-plan_replace.edits)
     (c.in-Ok.ensures.list grid has) c.in-Ok-plan_replace.ensures.plan

@@ -4,7 +4,7 @@ use Rattle.quilt_btree.specs.Floors.{floor_pages, HoldsFirst, ReadsNone}
 use Rattle.quilt_btree.specs.Trees.{IsTree}
 use Rattle.quilt_btree.specs.declared.tree.Tree.{Tree}
 use Rattle.quilt_region.specs.Regions.{pixel_key}
-use Rattle.quilt_map.specs.Asking.{reads_in, held_of}
+use Rattle.quilt_map.specs.Asking.{reads_in, pages_held}
 use Rattle.quilt_map.specs.Sessions.{told_of, tree_in}
 use Rattle.quilt_map.proofs.answers.Asked.{still_here, has_as, if_err}
 use Rattle.quilt_map.proofs.regions.read_colour.Goals as goal
@@ -24,8 +24,8 @@ returns-clause-held g c =
     let tree : c.tree_of.result ≡ tree_in old.work = c.tree_of.ensures ∙ ap tree_in c.head-head.ensures.work in
     subst
     (λ (t : Tree). OnOk c.colour_at.result ((rs : List Record) → IsTree (told_of {D = g.W.Disk} old) t rs →
-    HoldsFirst (λ pages. floor_pages pages (pixel_key c.args.number c.args.at) t.height t.root) (told_of {D = g.W.Disk} old) (held_of old)
-    (held_of c.colour_at.new.store)))
+    HoldsFirst (λ pages. floor_pages pages (pixel_key c.args.number c.args.at) t.height t.root) (told_of {D = g.W.Disk} old) (pages_held old)
+    (pages_held c.colour_at.new.store)))
     tree c.colour_at.ensures.held
 
 pub returns-clause-again : goal.returns-clause-again
@@ -34,6 +34,6 @@ returns-clause-again g c =
     let tree : c.tree_of.result ≡ tree_in old.work = c.tree_of.ensures ∙ ap tree_in c.head-head.ensures.work in
     subst
     (λ (t : Tree). (rs : List Record) → IsTree (told_of {D = g.W.Disk} old) t rs →
-    ReadsNone (λ pages. floor_pages pages (pixel_key c.args.number c.args.at) t.height t.root) (told_of {D = g.W.Disk} old) (held_of old)
+    ReadsNone (λ pages. floor_pages pages (pixel_key c.args.number c.args.at) t.height t.root) (told_of {D = g.W.Disk} old) (pages_held old)
     (reads_in {D = g.W.Disk} old) (reads_in {D = g.W.Disk} c.colour_at.new.store))
     tree c.colour_at.ensures.again

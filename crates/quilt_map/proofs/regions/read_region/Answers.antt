@@ -2,7 +2,7 @@ use Rattle.std.proofs.Common.{ap}
 use Rattle.quilt_node.specs.declared.head.Head.{Head}
 use Rattle.quilt_map.specs.Sessions.{told_of}
 use Rattle.quilt_types.specs.Layers.{Region}
-use Rattle.quilt_map.specs.Costs.{block_pages}
+use Rattle.quilt_map.specs.Costs.{layer_block_pages}
 use Rattle.quilt_map.proofs.questions.Costs.{costs_as, range_costs}
 use Rattle.quilt_map.proofs.answers.Asked.{still_here, has_as, if_err, if_ok, raster_as}
 use Rattle.quilt_map.proofs.regions.read_region.Goals as goal
@@ -26,6 +26,6 @@ returns-clause-sound g c =
 pub returns-clause-reads : goal.returns-clause-reads
 returns-clause-reads g c =
     if_ok _ _ c.read_list.result (λ l h grid has.
-    costs_as _ _ _ _ (ap (λ (k : Head). block_pages k.level (Region grid)) c.head-head.ensures.work)
+    costs_as _ _ _ _ (ap (λ (k : Head). layer_block_pages k.level (Region grid)) c.head-head.ensures.work)
     (range_costs _ _ _ (h grid (has_as (told_of {D = g.W.Disk} c.args.book.now) c.args.number grid c.head-head.result c.args.book.now.work c.tree_of.result
     c.head-head.ensures.work c.tree_of.ensures has)))) c.read_list.ensures.reads

@@ -4,7 +4,7 @@ use Rattle.quilt_node.specs.declared.head.Head.{Head}
 use Rattle.quilt_types.specs.Layers.{Region}
 use Rattle.quilt_types.specs.Plane.{side}
 use Rattle.quilt_types.specs.Quadtrees.{leaves}
-use Rattle.quilt_map.specs.Costs.{block_pages}
+use Rattle.quilt_map.specs.Costs.{layer_block_pages}
 use Rattle.quilt_map.specs.Sessions.{told_of}
 use Rattle.quilt_map.proofs.questions.Costs.{costs_as}
 use Rattle.quilt_map.proofs.answers.Asked.{still_here, has_as, if_err, if_ok}
@@ -29,6 +29,6 @@ returns-clause-sound g c =
 pub returns-clause-reads : goal.returns-clause-reads
 returns-clause-reads g c =
     if_ok _ _ c.leaf_counts.result (λ counts h grid has.
-    costs_as _ _ _ _ (ap (λ (k : Head). block_pages k.level (Region grid)) c.head-head.ensures.work)
+    costs_as _ _ _ _ (ap (λ (k : Head). layer_block_pages k.level (Region grid)) c.head-head.ensures.work)
     (h grid (has_as (told_of {D = g.W.Disk} c.args.book.now) c.args.number grid c.head-head.result c.args.book.now.work c.tree_of.result
     c.head-head.ensures.work c.tree_of.ensures has))) c.leaf_counts.ensures.reads

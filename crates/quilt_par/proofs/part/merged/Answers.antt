@@ -4,7 +4,7 @@ use Rattle.quilt_types.specs.Plane.{side}
 use Rattle.quilt_types.specs.Layers.{colour_at}
 use Rattle.quilt_loc.specs.Codes.{code_from, code_to}
 use Rattle.quilt_blocks.specs.Painting.{Painted, grid_by_code}
-use Rattle.quilt_blocks.specs.Adding.{Adds}
+use Rattle.quilt_blocks.specs.Adding.{AddsColours}
 use Rattle.quilt_blocks.proofs.Adding.{Adds-all}
 use Rattle.quilt_raster.proofs.Points.{grid_of-colour_at}
 use Rattle.quilt_par.specs.declared.part.Part.{Part}
@@ -31,10 +31,10 @@ loop-number-preserved c =
     let found = c.index-parts-from.result in
     let part = part_found parts i c.from.result found c.requires.four lt c.from.ensures c.index-parts-from.is in
     let b = c.quadrant.result in
-    let step : Adds n (moved_colour (quadrant_at n i) (part_in parts i)) (code_to (quadrant_at n i)) m new =
-    subst (λ (q : Block). Adds n (moved_colour q (part_in parts i)) (code_to q) m new) c.quadrant.ensures.value
-    (subst (λ (p : Part). Adds n (moved_colour b p) (code_to b) m new) part
-    (subst (λ (k : ℕ). Adds k (moved_colour b found) (code_to b) m new) inv.level c.in_ok-put.ensures)) in
+    let step : AddsColours n (moved_colour (quadrant_at n i) (part_in parts i)) (code_to (quadrant_at n i)) m new =
+    subst (λ (q : Block). AddsColours n (moved_colour q (part_in parts i)) (code_to q) m new) c.quadrant.ensures.value
+    (subst (λ (p : Part). AddsColours n (moved_colour b p) (code_to b) m new) part
+    (subst (λ (k : ℕ). AddsColours k (moved_colour b found) (code_to b) m new) inv.level c.in_ok-put.ensures)) in
     let codes = quadrant_codes n i c.requires.least c.requires.most lt in
     record {
       level = step.level ∙ inv.level;
@@ -62,7 +62,7 @@ returns c g long all =
     let test = c.loop-number-test.false in
     let end : c.loop-number.number ≡ 4 = omega arith in
     let inv = c.loop-number.invariant in
-    let adds = subst (λ (k : ℕ). Adds n (colour_at n g) k start m) (whole n c.loop-number.number c.requires.least c.requires.most end) (inv.adds g all) in
+    let adds = subst (λ (k : ℕ). AddsColours n (colour_at n g) k start m) (whole n c.loop-number.number c.requires.least c.requires.most end) (inv.adds g all) in
     let level = c.finish.ensures.level ∙ inv.level in
     let grid = c.finish.ensures.value ∙ ap (λ (k : ℕ). grid_by_code k m.colours) inv.level ∙ Adds-all n (colour_at n g) m c.requires.most adds
     ∙ sym (grid_of-colour_at n g long) in

@@ -5,8 +5,8 @@ use Rattle.quilt_types.specs.Plane.{side, IsBlock}
 use Rattle.quilt_types.specs.Layers.{Grid}
 use Rattle.quilt_loc.specs.Codes.{code_from, code_to}
 use Rattle.quilt_loc.proofs.Intervals.{side_squared}
-use Rattle.quilt_blocks.specs.Adding.{Adds}
-use Rattle.quilt_blocks.specs.Cutting.{pair_of}
+use Rattle.quilt_blocks.specs.Adding.{AddsColours}
+use Rattle.quilt_blocks.specs.Cutting.{leaf_pair}
 use Rattle.quilt_blocks.specs.Walk.{IsLeafAt}
 use Rattle.quilt_blocks.proofs.Adding.{Adds-none}
 use Rattle.quilt_par.specs.declared.part.Part.TheVariants.{Leaves}
@@ -29,7 +29,7 @@ loop-leaf-init c =
     record {
       same_level = c.new-leaves.ensures.level;
       same_grid = c.new-leaves.ensures.grid;
-      adds = subst (λ (k : ℕ). Adds m.level f k m m) end (Adds-none m.level f m);
+      adds = subst (λ (k : ℕ). AddsColours m.level f k m m) end (Adds-none m.level f m);
     }
 
 pub push-requires-clause-valid : goal.push-requires-clause-valid
@@ -38,14 +38,14 @@ push-requires-clause-valid c =
     let r = c.in-Some.leaf.block in
     let mv = moved_is n c.args.list.now.level c.args.b r c.requires.most c.requires.valid c.requires.wide
     (here c.args.list.now.level _ c.args.list.now.grid _ c.loop-leaf.leaves.at
-    (pair_of c.in-Some.leaf) c.loop-leaf.invariant.same_level c.loop-leaf.invariant.same_grid c.in-Some.ensures.leaf).block in
+    (leaf_pair c.in-Some.leaf) c.loop-leaf.invariant.same_level c.loop-leaf.invariant.same_grid c.in-Some.ensures.leaf).block in
     subst (λ (k : ℕ). IsBlock k (moved c.args.b r)) (sym c.loop-leaf.invariant.adds.level) mv.block
 
 pub push-requires-clause-next : goal.push-requires-clause-next
 push-requires-clause-next c =
     let n = c.args.maker.now.level in
     let leaf = here c.args.list.now.level _ c.args.list.now.grid _ c.loop-leaf.leaves.at
-    (pair_of c.in-Some.leaf) c.loop-leaf.invariant.same_level c.loop-leaf.invariant.same_grid c.in-Some.ensures.leaf in
+    (leaf_pair c.in-Some.leaf) c.loop-leaf.invariant.same_level c.loop-leaf.invariant.same_grid c.in-Some.ensures.leaf in
     let mv = moved_is n c.args.list.now.level c.args.b c.in-Some.leaf.block c.requires.most c.requires.valid c.requires.wide leaf.block in
     let from = mv.from in
     let begins = leaf.from in
@@ -65,9 +65,9 @@ loop-leaf-preserved c =
     record {
       same_level = c.in-Some.ensures.level ∙ inv.same_level;
       same_grid = c.in-Some.ensures.grid ∙ inv.same_grid;
-      adds = subst (λ (k : ℕ). Adds n f (code_from b + k) old new) (sym c.in-Some.ensures.at)
+      adds = subst (λ (k : ℕ). AddsColours n f (code_from b + k) old new) (sym c.in-Some.ensures.at)
           (Adds-moved n b list leaf.block leaf.colour.0 c.loop-leaf.leaves.at old c.loop-leaf.maker new c.requires.most c.requires.valid
-          c.requires.wide (here c.args.list.now.level _ c.args.list.now.grid _ c.loop-leaf.leaves.at (pair_of c.in-Some.leaf)
+          c.requires.wide (here c.args.list.now.level _ c.args.list.now.grid _ c.loop-leaf.leaves.at (leaf_pair c.in-Some.leaf)
           c.loop-leaf.invariant.same_level c.loop-leaf.invariant.same_grid c.in-Some.ensures.leaf) c.requires.next inv.adds c.in_ok-push.ensures.ok);
     }
 
@@ -83,4 +83,4 @@ returns c =
     let s = side_squared list.level in
     let square : b.side * b.side ≡ side list.level * side list.level = ap (λ z. z * z) c.requires.wide in
     let end : code_from b + c.loop-leaf.leaves.at ≡ code_to b = omega arith in
-    subst (λ (k : ℕ). Adds n f k c.args.maker.now c.loop-leaf.maker) end inv.adds
+    subst (λ (k : ℕ). AddsColours n f k c.args.maker.now c.loop-leaf.maker) end inv.adds

@@ -1,6 +1,6 @@
 use Rattle.std.proofs.Common.{◌+◌, ◌*◌, length, sym, ◌∙◌, ap, subst, arith}
 use Rattle.std.proofs.lemmas.Result.{on_ok_weaker}
-use Rattle.quilt_blocks.specs.Cutting.{pair_of}
+use Rattle.quilt_blocks.specs.Cutting.{leaf_pair}
 use Rattle.quilt_blocks.specs.Painting.{Painted}
 use Rattle.quilt_region.specs.Regions.{HasRegion}
 use Rattle.quilt_region.specs.Windows.{leaves_within}
@@ -17,7 +17,7 @@ returns-in-Ok-push-clause-colours g c grid f h same has =
     let leaf = c.in-Ok.ensures.leaf grid h in
     HasColours-push n f c.args.maker.now.colours c.push.new.self.colours c.args.b c.in-Ok.leaf.colour.0 c.requires.level.1 c.requires.block
     (sym c.requires.next)
-    (λ p held. same p held ∙ larger_colour n grid (pair_of c.in-Ok.leaf) c.args.b p c.requires.block leaf c.if-b-leaf.true held)
+    (λ p held. same p held ∙ larger_colour n grid (leaf_pair c.in-Ok.leaf) c.args.b p c.requires.block leaf c.if-b-leaf.true held)
     (ap (λ (m : Painted). m.colours) c.in-Ok-push.ensures.ok) has
 
 pub returns-in-Err-records_in-clause-sound : goal.returns-in-Err-records_in-clause-sound
@@ -39,7 +39,7 @@ returns-in-Ok-records_in-clause-sound g c =
     let after = subst (λ told. HasRegion told c.args.tree.now c.args.layer c.args.level grid) (sym c.in-Ok.ensures.left.told) h in
     let over = c.if-b-leaf.false in
     law grid (c.deref.ensures.value ∙ c.in-Ok-records_in.ensures.records grid after)
-    (smaller_cut c.args.level grid (pair_of c.in-Ok.leaf) c.args.b c.requires.block (c.in-Ok.ensures.leaf grid h) (omega arith)))
+    (smaller_cut c.args.level grid (leaf_pair c.in-Ok.leaf) c.args.b c.requires.block (c.in-Ok.ensures.leaf grid h) (omega arith)))
     c.put_records.ensures.sound
 
 pub returns-in-Ok-records_in-clause-reads : goal.returns-in-Ok-records_in-clause-reads

@@ -1,7 +1,7 @@
 use Rattle.std.proofs.Common.{◌+◌, ◌≤◌, Some, None, fold, length, eqb-true, refl, sym, ◌∙◌, ap, subst, arith}
 use Rattle.quilt_world.specs.Tale.{Goes}
 use Rattle.quilt_loc.proofs.Blocks.{IsBlock-up}
-use Rattle.quilt_near.specs.Parts.{IsPart, IsPartOf, pages_for}
+use Rattle.quilt_near.specs.Parts.{IsPart, PartFits, pages_for}
 use Rattle.quilt_near.specs.declared.part.Part.{Part}
 use Rattle.quilt_near.specs.declared.part.Part.TheVariants.{Split, Leaf}
 use Rattle.quilt_near.proofs.Telling.{tells_same}
@@ -40,7 +40,7 @@ returns-clause-opened g c = record {
   found = λ l s. subst (λ (part : Part). IsPart l c.args.b part) c.in-Ok-Split.field-0-is (c.in-Ok-Split.ensures.part l s);
   after = (
     some_length (length c.args.near.now) (sym c.is_empty.ensures ∙ c.if-is_empty.false),
-    subst (λ (part : Part). IsPartOf (g.B.SegBlocks.level_of c.args.blocks.now) c.args.b part) c.in-Ok-Split.field-0-is c.in-Ok-Split.ensures.part_of,
+    subst (λ (part : Part). PartFits (g.B.SegBlocks.level_of c.args.blocks.now) c.args.b part) c.in-Ok-Split.field-0-is c.in-Ok-Split.ensures.part_of,
     c.in-Ok-push_quarters.ensures,
     refl,
   );

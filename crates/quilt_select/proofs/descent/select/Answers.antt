@@ -3,7 +3,7 @@ use Rattle.quilt_store.proofs.Reading.{only_reads_then, only_reads_same, read_on
 use Rattle.quilt_types.specs.declared.plane.Window.{Window}
 use Rattle.quilt_types.specs.Plane.{whole}
 use Rattle.quilt_near.proofs.Knowing.{knows_nothing, knows_where}
-use Rattle.quilt_select.specs.Descents.{IsOpened}
+use Rattle.quilt_select.specs.Descents.{IsBlockVisited}
 use Rattle.quilt_select.proofs.Descending.{going_start, going_on, going_end, going_reads, first_valid, first_reached, less_left}
 use Rattle.quilt_select.proofs.descent.select.Goals as goal
 
@@ -52,7 +52,7 @@ loop-block-smaller g c =
     (g.S.PageStore.reads c.loop-block.store) c.loop-block.stack (c.in-Some.block, c.in-Some.near.items) c.pop.new.self c.loop-block.found.entries
     c.loop-block.invariant.going c.in-Some.ensures.taken
     (g.S.PageStore.reads c.open.new.store) c.open.new.stack c.open.new.found.entries (g.B.SegBlocks.shows c.args.blocks.now c.loop-block.store)
-    (subst (λ (near : List Window). IsOpened c.in-Some.block near (g.B.SegBlocks.shows c.args.blocks.now c.loop-block.store)
+    (subst (λ (near : List Window). IsBlockVisited c.in-Some.block near (g.B.SegBlocks.shows c.args.blocks.now c.loop-block.store)
     c.pop.new.self c.open.new.stack c.loop-block.found.entries c.open.new.found.entries (g.S.PageStore.reads c.loop-block.store)
     (g.S.PageStore.reads c.open.new.store)) c.deref-in-Some.ensures.value c.in-Ok-open.ensures.opened)
 
@@ -66,7 +66,7 @@ loop-block-preserved g c =
           c.pop.new.self c.loop-block.found.entries c.loop-block.invariant.going c.in-Some.ensures.taken
           (g.S.PageStore.reads c.open.new.store) c.open.new.stack c.open.new.found.entries (g.B.SegBlocks.shows c.args.blocks.now c.loop-block.store)
           (λ l s. g.met.B.SegBlocks.same c.args.blocks.now c.args.store.now c.loop-block.store l i.left.told s)
-          (subst (λ (near : List Window). IsOpened c.in-Some.block near (g.B.SegBlocks.shows c.args.blocks.now c.loop-block.store)
+          (subst (λ (near : List Window). IsBlockVisited c.in-Some.block near (g.B.SegBlocks.shows c.args.blocks.now c.loop-block.store)
           c.pop.new.self c.open.new.stack c.loop-block.found.entries c.open.new.found.entries (g.S.PageStore.reads c.loop-block.store)
           (g.S.PageStore.reads c.open.new.store)) c.deref-in-Some.ensures.value c.in-Ok-open.ensures.opened);
       left = read_on _ g.met.S.PageStore.goes_on c.args.store.now c.loop-block.store c.open.new.store i.left c.open.ensures.left;

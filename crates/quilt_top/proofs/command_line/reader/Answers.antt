@@ -4,15 +4,15 @@ use Rattle.clap.specs.Words.{App, app_of, rule_of, with_rule}
 use Rattle.clap.specs.declared.builder.command.Command.{Command}
 use Rattle.clap.specs.declared.builder.command.Command.TheOpen.{Command-F}
 use Rattle.clap.specs.Simple.{app_of_fields}
-use Rattle.quilt_top.specs.CommandLine.{bare, placed, pool_option}
+use Rattle.quilt_top.specs.CommandLine.{bare, placed_argument, pool_option}
 use Rattle.quilt_top.proofs.command_line.reader.Goals as goal
 
 pub returns : goal.returns
 returns c =
-    let mode : rule_of c.required.result ≡ placed (codes "mode") true = search rules in
-    let file : rule_of c.required-2.result ≡ placed (codes "file") true = search rules in
-    let first : rule_of c.new-4.result ≡ placed (codes "first") false = search rules in
-    let second : rule_of c.new-5.result ≡ placed (codes "second") false = search rules in
+    let mode : rule_of c.required.result ≡ placed_argument (codes "mode") true = search rules in
+    let file : rule_of c.required-2.result ≡ placed_argument (codes "file") true = search rules in
+    let first : rule_of c.new-4.result ≡ placed_argument (codes "first") false = search rules in
+    let second : rule_of c.new-5.result ≡ placed_argument (codes "second") false = search rules in
     let pool : rule_of c.long.result ≡ pool_option = search rules in
     let start : app_of c.disable_help_flag.result ≡ bare =
     ap app_of_fields c.disable_help_flag.ensures

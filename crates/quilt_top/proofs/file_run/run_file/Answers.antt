@@ -5,7 +5,7 @@ use Rattle.quilt_edition.specs.Books as books
 use Rattle.quilt_top.specs.declared.orders.Source.{Source}
 use Rattle.quilt_top.specs.declared.run.End.{End}
 use Rattle.quilt_top.specs.Headline.{WhereTold}
-use Rattle.quilt_top.specs.Openings.{IsFirst}
+use Rattle.quilt_top.specs.Openings.{IsFirstState}
 use Rattle.quilt_top.proofs.Promises.{Promise, attach_failed, file_missing, open_stopped, found_no_map, ran, tried}
 use Rattle.quilt_top.proofs.InTurn.{More, unopened_more, failed_shut, missing_shut, stopped_more, no_map_more, ran_more, tried_more}
 use Rattle.quilt_top.proofs.openings.Surveys.{first_level}
@@ -29,7 +29,7 @@ returns-in-Input-clause-promises g c =
     let end = c.run_session.result.0 in
     subst (λ (source : Source). WhereTold (Promise source c.args.file.path.now c.args.file.pool rose now end) (g.W.Disk.told c.args.world)
     (g.W.Disk.told c.run_session.result.1)) (sym c.in-Input.is)
-    (ran c.args.file.path.now c.args.file.pool rose _ now ready (c.run_session.ensures.door ∙ c.in-Map.ensures.door) (IsFirst c.in-Map.book.value c.in-Map.catalog) (books.last_of c.in-Map.book.value).level (first_level c.in-Map.book.value c.in-Map.catalog) end _ _ _ _
+    (ran c.args.file.path.now c.args.file.pool rose _ now ready (c.run_session.ensures.door ∙ c.in-Map.ensures.door) (IsFirstState c.in-Map.book.value c.in-Map.catalog) (books.last_of c.in-Map.book.value).level (first_level c.in-Map.book.value c.in-Map.catalog) end _ _ _ _
     (λ e. let risen = c.run_session.ensures.device e in omega (arith, c.attach.ensures.cause.later, c.in-Map.ensures.later, risen))
     c.run_session.ensures.sound c.attach.ensures.tale c.in-Map.ensures.keeps c.in-Map.ensures.finds c.run_session.ensures.runs)
 
@@ -41,7 +41,7 @@ returns-in-Trial-clause-promises g c =
     let end = c.try_session.result.0 in
     subst (λ (source : Source). WhereTold (Promise source c.args.file.path.now c.args.file.pool rose now end) (g.W.Disk.told c.args.world)
     (g.W.Disk.told c.try_session.result.1)) (sym c.in-Trial.is)
-    (tried c.args.file.path.now c.args.file.pool rose _ now ready (c.try_session.ensures.door ∙ c.in-Map.ensures.door) (IsFirst c.in-Map.book.value c.in-Map.catalog) (books.last_of c.in-Map.book.value).level (first_level c.in-Map.book.value c.in-Map.catalog) _ _ end _ _ _ _
+    (tried c.args.file.path.now c.args.file.pool rose _ now ready (c.try_session.ensures.door ∙ c.in-Map.ensures.door) (IsFirstState c.in-Map.book.value c.in-Map.catalog) (books.last_of c.in-Map.book.value).level (first_level c.in-Map.book.value c.in-Map.catalog) _ _ end _ _ _ _
     (λ e. let risen = c.try_session.ensures.device e in omega (arith, c.attach.ensures.cause.later, c.in-Map.ensures.later, risen))
     c.try_session.ensures.short c.try_session.ensures.sound c.attach.ensures.tale c.in-Map.ensures.keeps c.in-Map.ensures.finds c.try_session.ensures.tries)
 
@@ -80,7 +80,7 @@ returns-in-Input-clause-more g c =
     let end = c.run_session.result.0 in
     subst (λ (source : Source). WhereTold (More source c.args.file.path.now c.args.file.pool now end) (g.W.Disk.told c.args.world)
     (g.W.Disk.told c.run_session.result.1)) (sym c.in-Input.is)
-    (ran_more c.args.file.path.now _ c.args.file.pool now (IsFirst c.in-Map.book.value c.in-Map.catalog) (books.last_of c.in-Map.book.value).level (first_level c.in-Map.book.value c.in-Map.catalog) end _ _ _ _ c.attach.ensures.tale c.in-Map.ensures.keeps
+    (ran_more c.args.file.path.now _ c.args.file.pool now (IsFirstState c.in-Map.book.value c.in-Map.catalog) (books.last_of c.in-Map.book.value).level (first_level c.in-Map.book.value c.in-Map.catalog) end _ _ _ _ c.attach.ensures.tale c.in-Map.ensures.keeps
     c.in-Map.ensures.finds c.run_session.ensures.runs)
 
 pub returns-in-Trial-clause-more : goal.returns-in-Trial-clause-more
@@ -89,7 +89,7 @@ returns-in-Trial-clause-more g c =
     let end = c.try_session.result.0 in
     subst (λ (source : Source). WhereTold (More source c.args.file.path.now c.args.file.pool now end) (g.W.Disk.told c.args.world)
     (g.W.Disk.told c.try_session.result.1)) (sym c.in-Trial.is)
-    (tried_more c.args.file.path.now _ c.args.file.pool now (IsFirst c.in-Map.book.value c.in-Map.catalog) (books.last_of c.in-Map.book.value).level (first_level c.in-Map.book.value c.in-Map.catalog) _ _ end _ _ _ _ c.attach.ensures.tale c.in-Map.ensures.keeps
+    (tried_more c.args.file.path.now _ c.args.file.pool now (IsFirstState c.in-Map.book.value c.in-Map.catalog) (books.last_of c.in-Map.book.value).level (first_level c.in-Map.book.value c.in-Map.catalog) _ _ end _ _ _ _ c.attach.ensures.tale c.in-Map.ensures.keeps
     c.in-Map.ensures.finds c.try_session.ensures.tries)
 
 pub returns-in-NotMap-clause-more : goal.returns-in-NotMap-clause-more

@@ -4,7 +4,7 @@ use Rattle.quilt_words.specs.declared.item.Item.{Item}
 use Rattle.quilt_words.specs.Forms.{form}
 use Rattle.quilt_replies.specs.Answers.{State}
 use Rattle.quilt_replies.specs.Runs.{text_of, is_done}
-use Rattle.quilt_map.specs.Sessions.{world_of, changes_of, IsAt}
+use Rattle.quilt_map.specs.Sessions.{session_world, changes_of, IsAt}
 use Rattle.quilt_map.proofs.Laws.{at_level}
 use Rattle.quilt_map.proofs.answers.TextLaws.{fewer_left}
 use Rattle.quilt_types.specs.declared.stop.Stop.TheVariants as stops
@@ -44,8 +44,8 @@ returns-in_err-all_done-clause-stopped g c =
     held_is _ _ so.0 given.gives.group given.item given.gives.is (c.head.ensures.format so.0 so.1)
     (at_level c.items.session so.0 so.1 ∙ c.items.invariant.same ∙ c.requires.level) in
     let part =
-    subst (λ (i : Item). Goes (AnswersPrefix so.0 i (changes_of c.items.session)) (g.W.Disk.told (world_of c.items.session))
-    (g.W.Disk.told (world_of c.put_answer.new.session)))
+    subst (λ (i : Item). Goes (AnswersPrefix so.0 i (changes_of c.items.session)) (g.W.Disk.told (session_world c.items.session))
+    (g.W.Disk.told (session_world c.put_answer.new.session)))
     held_ (c.in_err-all_done.ensures.part given.item said so.0 so.1) in
     stopped_part _ _ _ _ _ _ (at_level c.args.session.now s at ∙ c.requires.level) _ _ _ _ _ _ _ _ _ so.2 given.gives.gives part)
 
@@ -71,7 +71,7 @@ items-preserved g c =
           (at_level c.items.session so.0 so.1 ∙ c.items.invariant.same ∙ c.requires.level) in
           let put =
           subst (λ (i : Item). Goes (Answers so.0 i (changes_of c.items.session) (text_of (reply_to so.0 i)))
-          (g.W.Disk.told (world_of c.items.session)) (g.W.Disk.told (world_of c.put_answer.new.session)))
+          (g.W.Disk.told (session_world c.items.session)) (g.W.Disk.told (session_world c.put_answer.new.session)))
           held_ (c.in_ok-all_done.ensures.said given.item said so.0 so.1) in (
             state_then so.0 given.item,
             c.in_ok-all_done.ensures.at given.item said so.0 so.1,
@@ -106,8 +106,8 @@ pub returns-in_err-all_done-clause-between : goal.returns-in_err-all_done-clause
 returns-in_err-all_done-clause-between g c =
     let given = rw (c.in-Some.is, c.items.invariant.level) at c.in_ok-spelled.ensures.given in
     let Between = λ (e : Halt). e ≡ halts.Stopped stops.Memory → (s : State) → IsAt c.args.session.now s
-    → Goes (StopsBetween c.args.ended c.args.lines.now.level s c.args.lines.now.rest) (g.W.Disk.told (world_of c.args.session.now))
-    (g.W.Disk.told (world_of c.put_answer.new.session)) in
+    → Goes (StopsBetween c.args.ended c.args.lines.now.level s c.args.lines.now.rest) (g.W.Disk.told (session_world c.args.session.now))
+    (g.W.Disk.told (session_world c.put_answer.new.session)) in
     let here : Between c.in_err-all_done.field-0.0 = λ is s at.
     let so = c.items.invariant.done s at in
     let said = ap (λ f. form f given.item) (sym c.head.ensures.is_format) ∙ given.is in

@@ -7,7 +7,7 @@ use Rattle.quilt_world.specs.Stops.{LeavesNow}
 use Rattle.quilt_world.specs.Tale.{Goes}
 use Rattle.quilt_world.proofs.Told.{goes_first, if_some_and}
 use Rattle.quilt_edition.specs.Stands.{Stands}
-use Rattle.quilt_map.specs.Sessions.{world_of, IsAt}
+use Rattle.quilt_map.specs.Sessions.{session_world, IsAt}
 use Rattle.quilt_replies.specs.Answers.{State}
 use Rattle.quilt_words.specs.Items.{items_of}
 use Rattle.quilt_map.specs.Sessions.{level_of}
@@ -32,7 +32,7 @@ pieces-init g c = record {
   none = rw c.new-lines.ensures.empty (whole_empty _);
   tale = λ s at.
       let both = if_some_and IsUntold (λ t. LeavesNow t (λ image. Stands image s.last))
-      (λ t. IsUntold t × LeavesNow t (λ image. Stands image s.last)) (g.W.Disk.told (world_of c.args.session.now)) c.requires.untold
+      (λ t. IsUntold t × LeavesNow t (λ image. Stands image s.last)) (g.W.Disk.told (session_world c.args.session.now)) c.requires.untold
       (leaves_told c.args.session.now s at) (λ t a b. (a, b)) in (
         s,
         at,
@@ -63,7 +63,7 @@ returns-in_err-total-clause-too_much g c =
     let size : length (take n into) ≡ n = omega (arith, length-take n into, c.take.auto.into, c.in_ok-n.ensures.count) in
     let some : 0 < length (take n into) = omega (arith, size, c.if-n-eq0.false) in
     let over : (s : State) → IsAt c.args.session.now s
-    → Goes (λ old new. Overruns new) (g.W.Disk.told (world_of c.args.session.now)) (g.W.Disk.told (world_of c.take.new.self)) = λ s at.
+    → Goes (λ old new. Overruns new) (g.W.Disk.told (session_world c.args.session.now)) (g.W.Disk.told (session_world c.take.new.self)) = λ s at.
     goes_past _ _ (at_level c.args.session.now s at) _ _ _ _ _ (c.pieces.total + n) (take n into) _ _ _
     (omega (arith, size)) c.in_err-total.ensures.much (c.pieces.invariant.tale s at).2 c.pieces.invariant.none some c.in_ok-n.ensures.took in
     if_err_const _ _ _ over
@@ -169,8 +169,8 @@ returns-clause-damaged g c =
 pub returns-in_err-n-clause-between : goal.returns-in_err-n-clause-between
 returns-in_err-n-clause-between g c =
     let Between = λ (e : Halt). IsNoFault e → (s : State) → IsAt c.args.session.now s
-    → Goes (λ old new. EndsBetween (run_in s (items_of (level_of c.args.session.now) old.input)) new) (g.W.Disk.told (world_of c.args.session.now))
-    (g.W.Disk.told (world_of c.take.new.self)) in
+    → Goes (λ old new. EndsBetween (run_in s (items_of (level_of c.args.session.now) old.input)) new) (g.W.Disk.told (session_world c.args.session.now))
+    (g.W.Disk.told (session_world c.take.new.self)) in
     let here : Between (halts.Stopped stops.Device) = λ calm. elim calm [
       | inl much ↦ absurd (let e : halts.Stopped stops.Device ≡ halts.TooMuch = much in cc)
       | inr is ↦ absurd (let e : halts.Stopped stops.Device ≡ halts.Stopped stops.Memory = is in cc)
@@ -204,12 +204,12 @@ returns-in_err-feed-clause-between g c =
 pub returns-in_err-all_done-clause-between : goal.returns-in_err-all_done-clause-between
 returns-in_err-all_done-clause-between g c =
     let Between = λ (e : Halt). IsNoFault e → (s : State) → IsAt c.args.session.now s
-    → Goes (λ old new. EndsBetween (run_in s (items_of (level_of c.args.session.now) old.input)) new) (g.W.Disk.told (world_of c.args.session.now))
-    (g.W.Disk.told (world_of c.answer_items.new.session)) in
+    → Goes (λ old new. EndsBetween (run_in s (items_of (level_of c.args.session.now) old.input)) new) (g.W.Disk.told (session_world c.args.session.now))
+    (g.W.Disk.told (session_world c.answer_items.new.session)) in
     let level = c.in_ok-feed.ensures.level ∙ c.pieces.invariant.level in
     let memory : c.in_err-all_done.field-0.0 ≡ halts.Stopped stops.Memory → (s : State) → IsAt c.args.session.now s
-    → Goes (λ old new. EndsBetween (run_in s (items_of (level_of c.args.session.now) old.input)) new) (g.W.Disk.told (world_of c.args.session.now))
-    (g.W.Disk.told (world_of c.answer_items.new.session)) = λ is s at.
+    → Goes (λ old new. EndsBetween (run_in s (items_of (level_of c.args.session.now) old.input)) new) (g.W.Disk.told (session_world c.args.session.now))
+    (g.W.Disk.told (session_world c.answer_items.new.session)) = λ is s at.
     let so = c.pieces.invariant.tale s at in
     let n = c.in_ok-n.n in
     let into : List ℕ = c.take.new.into in
@@ -231,8 +231,8 @@ returns-clause-between g c =
     let stopped = rw c.pieces.invariant.level at c.answer_items-2.ensures.between in
     let both = if_err_both _ _ _ c.answer_items-2.ensures.short stopped in
     IfErr-weaker c.answer_items-2.result _ (λ (e : Halt). IsNoFault e → (s : State) → IsAt c.args.session.now s
-    → Goes (λ old new. EndsBetween (run_in s (items_of (level_of c.args.session.now) old.input)) new) (g.W.Disk.told (world_of c.args.session.now))
-    (g.W.Disk.told (world_of c.answer_items-2.new.session)))
+    → Goes (λ old new. EndsBetween (run_in s (items_of (level_of c.args.session.now) old.input)) new) (g.W.Disk.told (session_world c.args.session.now))
+    (g.W.Disk.told (session_world c.answer_items-2.new.session)))
     (λ e all calm s at. elim calm [
       | inl much ↦ absurd (all.0 much)
       | inr is ↦

@@ -6,7 +6,7 @@ use Rattle.quilt_words.specs.Forms.{form}
 use Rattle.quilt_words.specs.Items.{Group, items_of}
 use Rattle.quilt_replies.specs.Answers.{State}
 use Rattle.quilt_replies.specs.Runs.{is_done}
-use Rattle.quilt_map.specs.Sessions.{world_of, changes_of, IsAt}
+use Rattle.quilt_map.specs.Sessions.{session_world, changes_of, IsAt}
 use Rattle.quilt_map.proofs.Laws.{at_level}
 use Rattle.quilt_top.specs.declared.halt.Halt.{Halt}
 use Rattle.quilt_top.specs.declared.halt.Halt.TheVariants as halts
@@ -61,8 +61,8 @@ items-preserved g c =
           held_is _ _ so.0 given.next.group given.item given.next.is (c.head.ensures.format so.0 so.1)
           (at_level c.items.session so.0 so.1 ∙ c.items.invariant.same ∙ c.requires.level) in
           let applies =
-          subst (λ (i : Item). Goes (Applies so.0 i (changes_of c.items.session)) (g.W.Disk.told (world_of c.items.session))
-          (g.W.Disk.told (world_of c.try_item.new.session)))
+          subst (λ (i : Item). Goes (Applies so.0 i (changes_of c.items.session)) (g.W.Disk.told (session_world c.items.session))
+          (g.W.Disk.told (session_world c.try_item.new.session)))
           held_ (c.try_item.ensures.applies given.item said so.0 so.1) in
           let done = c.in_ok-is_done.ensures.done given.item said so.0 so.1 ∙ ap (λ (i : Item). is_done (reply_to so.0 i)) held_ in
           let left = items_of n (text_left c.take_command.new.self) in (
@@ -89,8 +89,8 @@ returns-in_err-is_done-clause-tries g c = λ s at.
     held_is _ _ so.0 given.next.group given.item given.next.is (c.head.ensures.format so.0 so.1)
     (at_level c.items.session so.0 so.1 ∙ c.items.invariant.same ∙ c.requires.level) in
     let applies =
-    subst (λ (i : Item). Goes (Applies so.0 i (changes_of c.items.session)) (g.W.Disk.told (world_of c.items.session))
-    (g.W.Disk.told (world_of c.try_item.new.session)))
+    subst (λ (i : Item). Goes (Applies so.0 i (changes_of c.items.session)) (g.W.Disk.told (session_world c.items.session))
+    (g.W.Disk.told (session_world c.try_item.new.session)))
     held_ (c.try_item.ensures.applies given.item said so.0 so.1) in
     next_tries n (text_left c.args.items.now) s level _ so.0 c.items.tally so.2 given.next.group (items_of n (text_left c.take_command.new.self))
     given.next.rest _ _ _ _ so.3 applies

@@ -1,6 +1,6 @@
 use Rattle.std.proofs.Common.{ℕ, sym, ◌∙◌, subst, arith}
 use Rattle.quilt_loc.proofs.Blocks.{IsBlock-up}
-use Rattle.quilt_audit.specs.Points.{IsOpened}
+use Rattle.quilt_audit.specs.Points.{IsBlockBegun}
 use Rattle.quilt_audit.proofs.runs.PointRuns.{some_map, none_map, outside_refused, more_refused, code_refused, enough_refused, more_taken, opened_taken}
 use Rattle.quilt_audit.proofs.points.PointRun.next.Goals.{then-code-self-via-then-code-self, then-code-self-via-else-code-self+then-from-self}
 use Rattle.quilt_audit.proofs.points.PointRun.next.Goals as goal
@@ -50,4 +50,4 @@ returns-clause-some c form layer rs some h =
     c.args.held c.requires.fits
     (c.is_in.ensures.yes c.if-not-is_in.false) (sym c.requires.code ∙ c.if-code-self.false) (let e = c.from.ensures in
     let ge = c.if-from-self.false in omega arith)
-    c.opened.result (subst (λ (k : ℕ). IsOpened c.args.level c.args.self.now c.args.block k c.opened.result) c.count_of.ensures c.opened.ensures)
+    c.opened.result (subst (λ (k : ℕ). IsBlockBegun c.args.level c.args.self.now c.args.block k c.opened.result) c.count_of.ensures c.opened.ensures)

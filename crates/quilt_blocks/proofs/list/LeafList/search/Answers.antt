@@ -5,8 +5,8 @@ use Rattle.quilt_loc.specs.Codes.{code_from}
 use Rattle.quilt_loc.proofs.Blocks.{side_most}
 use Rattle.quilt_blocks.specs.declared.leaf.Leaf.{Leaf}
 use Rattle.quilt_blocks.specs.Raster.{Raster}
-use Rattle.quilt_blocks.specs.Cutting.{leaves_by_code, pair_of}
-use Rattle.quilt_blocks.specs.Listing.{pairs_of}
+use Rattle.quilt_blocks.specs.Cutting.{leaves_by_code, leaf_pair}
+use Rattle.quilt_blocks.specs.Listing.{leaf_pairs}
 use Rattle.quilt_blocks.proofs.Cuts.{IsLeaf, leaf_is, leaves_members}
 use Rattle.quilt_blocks.proofs.Listed.{some_leaf, listed_run, pair_member}
 use Rattle.quilt_blocks.proofs.Places.{block_at_place, first_code, held_at}
@@ -30,8 +30,8 @@ pub loop-high-init : goal.loop-high-init
 loop-high-init c =
     let n = c.self.inside.level in
     let items = c.self.inside.leaves.items in
-    let l = length-map items pair_of in
-    let some = some_leaf n (pairs_of items) (listed_run n (pairs_of items) c.self.invariant) in
+    let l = length-map items leaf_pair in
+    let some = some_leaf n (leaf_pairs items) (listed_run n (leaf_pairs items) c.self.invariant) in
     record {
       some = omega arith;
       inside = omega arith;
@@ -115,8 +115,8 @@ returns-clause-member c =
     let some = inv.some in
     let inside = inv.inside in
     let found = pair_member items c.loop-high.low c.index-2.result.now (omega arith) (sym c.index-2.ensures) in
-    subst (λ (r : Raster). Contains (leaves_by_code r.level r.grid) (pair_of c.index-2.result.now)) c.self.view_is
-    (subst (λ l. Contains l (pair_of c.index-2.result.now)) c.self.invariant.ordered found)
+    subst (λ (r : Raster). Contains (leaves_by_code r.level r.grid) (leaf_pair c.index-2.result.now)) c.self.view_is
+    (subst (λ l. Contains l (leaf_pair c.index-2.result.now)) c.self.invariant.ordered found)
 
 pub returns-clause-held : goal.returns-clause-held
 returns-clause-held c =
@@ -136,11 +136,11 @@ returns-clause-held c =
     (held_at n items c.self.invariant c.args.p c.loop-high.low c.loop-high.high d (omega arith) (omega arith) some (omega arith) inside (omega arith)
     (λ lt. let t = inv.to d lt in omega arith))
 
-found : (c : goal.After-result-1) → IsLeaf c.args.self.now.level c.args.self.now.grid (pair_of c.index-2.result.now)
+found : (c : goal.After-result-1) → IsLeaf c.args.self.now.level c.args.self.now.grid (leaf_pair c.index-2.result.now)
 found c =
     let n = c.args.self.now.level in
     let g = c.args.self.now.grid in
-    let e = pair_of c.index-2.result.now in
+    let e = leaf_pair c.index-2.result.now in
     leaf_is n g e ((leaves_members n g e).0 (returns-clause-member c))
 
 pub returns-clause-block : goal.returns-clause-block

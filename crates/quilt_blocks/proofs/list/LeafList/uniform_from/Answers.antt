@@ -4,7 +4,7 @@ use Rattle.quilt_types.specs.declared.plane.Block.{Block}
 use Rattle.quilt_types.specs.Plane.{corner}
 use Rattle.quilt_types.specs.Quadtrees.{is_uniform}
 use Rattle.quilt_loc.proofs.Nesting.{nested, Holds-corner}
-use Rattle.quilt_blocks.specs.Cutting.{pair_of}
+use Rattle.quilt_blocks.specs.Cutting.{leaf_pair}
 use Rattle.quilt_blocks.specs.Mosaic.{HasColour}
 use Rattle.quilt_blocks.proofs.Colours.{uniform-from_HasColour, HasColour-within}
 use Rattle.quilt_blocks.proofs.Maximal.{alone}
@@ -17,7 +17,7 @@ returns-then-leaf-b-clause-none c =
     let n = c.args.self.now.level in
     let g = c.args.self.now.grid in
     let b = c.args.b in
-    let e = pair_of c.search-leaf.result in
+    let e = leaf_pair c.search-leaf.result in
     let lt = c.if-leaf-b.true in
     let leaf = leaf_is n g e ((leaves_members n g e).0 c.search-leaf.ensures.member) in
     let within = nested n e.0 b (corner b) leaf.maximal.block c.requires (omega arith) c.search-leaf.ensures.held (Holds-corner n b c.requires) in
@@ -33,7 +33,7 @@ has c =
     let n = c.args.self.now.level in
     let g = c.args.self.now.grid in
     let b = c.args.b in
-    let e = pair_of c.search-leaf.result in
+    let e = leaf_pair c.search-leaf.result in
     let leaf = leaf_is n g e ((leaves_members n g e).0 c.search-leaf.ensures.member) in
     HasColour-within n g b e.0 e.1
     (nested n b e.0 (corner b) c.requires leaf.maximal.block c.if-leaf-b.false (Holds-corner n b c.requires) c.search-leaf.ensures.held) leaf.colour

@@ -1,7 +1,7 @@
 use Rattle.std.proofs.Common.{rules, sym, ◌∙◌, ◌≢◌, arith}
 use Rattle.quilt_btree.specs.Looks.{IsSpoilt}
 use Rattle.quilt_btree.proofs.ranges.Spans.{added_most, added_within, above_bound}
-use Rattle.quilt_node.specs.Nodes.{records_of}
+use Rattle.quilt_node.specs.Nodes.{page_records}
 use Rattle.quilt_btree.proofs.subtrees.Whole.{tree_spells}
 use Rattle.quilt_btree.proofs.ranges.Rests.{rest_ends, rest_fills, rest_adds, rest_next, none_over}
 use Rattle.quilt_btree.proofs.ways.Damage.{fault_named}
@@ -18,14 +18,14 @@ returns-then-now-most-clause-goes_on g c = record {
   ends =
       λ none low rs is b.
       rest_fills (g.S.PageStore.told c.args.store.now) c.args.self.now low c.args.from.now c.args.high.now c.args.most
-      (records_of c.in-Ok-add_at.ensures.adds.bytes) c.args.records.now.items c.add_at.new.records.items rs c.in-Ok.found.high (record {
+      (page_records c.in-Ok-add_at.ensures.adds.bytes) c.args.records.now.items c.add_at.new.records.items rs c.in-Ok.found.high (record {
         some = let h = c.requires.height in omega arith;
         leads = (c.in-Ok.ensures.arrives c.in-Ok-add_at.ensures.adds.bytes (told_before _ _ _ _ (sym c.in-Ok.ensures.left.told) c.in-Ok-add_at.ensures.adds.are)).leads;
         cut = (c.in-Ok.ensures.arrives c.in-Ok-add_at.ensures.adds.bytes (told_before _ _ _ _ (sym c.in-Ok.ensures.left.told) c.in-Ok-add_at.ensures.adds.are)).cut;
         seen = c.in-Ok-add_at.ensures.adds.some;
         added = c.in-Ok-add_at.ensures.adds.added;
         same = λ rs s. c.in-Ok-add_at.ensures.adds.same
-            (records_of c.in-Ok-add_at.ensures.adds.bytes) ((c.in-Ok.ensures.arrives c.in-Ok-add_at.ensures.adds.bytes (told_before _ _ _ _ (sym c.in-Ok.ensures.left.told) c.in-Ok-add_at.ensures.adds.are)).leaf rs s);
+            (page_records c.in-Ok-add_at.ensures.adds.bytes) ((c.in-Ok.ensures.arrives c.in-Ok-add_at.ensures.adds.bytes (told_before _ _ _ _ (sym c.in-Ok.ensures.left.told) c.in-Ok-add_at.ensures.adds.are)).leaf rs s);
       }) is b
       (let e = c.in-Ok-add_at.ensures.number in let t = c.if-now-most.true in omega arith);
   goes_on =
@@ -38,7 +38,7 @@ returns-then-now-most-clause-goes_on g c = record {
 
 pub returns-in-Ok-fault_at-clause-sound : goal.returns-in-Ok-fault_at-clause-sound
 returns-in-Ok-fault_at-clause-sound g c = λ low rs is b page e. rest_adds (g.S.PageStore.told c.args.store.now) c.args.self.now c.args.from.now
-    c.args.high.now c.in-Some.field-0 c.args.most (records_of c.in-Ok-add_at.ensures.adds.bytes) c.args.records.now.items c.add_at.new.records.items
+    c.args.high.now c.in-Some.field-0 c.args.most (page_records c.in-Ok-add_at.ensures.adds.bytes) c.args.records.now.items c.add_at.new.records.items
     rs
     c.in-Ok.found.high (record {
       some = let h = c.requires.height in omega arith;
@@ -47,7 +47,7 @@ returns-in-Ok-fault_at-clause-sound g c = λ low rs is b page e. rest_adds (g.S.
       seen = c.in-Ok-add_at.ensures.adds.some;
       added = c.in-Ok-add_at.ensures.adds.added;
       same = λ rs s. c.in-Ok-add_at.ensures.adds.same
-          (records_of c.in-Ok-add_at.ensures.adds.bytes) ((c.in-Ok.ensures.arrives c.in-Ok-add_at.ensures.adds.bytes (told_before _ _ _ _ (sym c.in-Ok.ensures.left.told) c.in-Ok-add_at.ensures.adds.are)).leaf rs s);
+          (page_records c.in-Ok-add_at.ensures.adds.bytes) ((c.in-Ok.ensures.arrives c.in-Ok-add_at.ensures.adds.bytes (told_before _ _ _ _ (sym c.in-Ok.ensures.left.told) c.in-Ok-add_at.ensures.adds.are)).leaf rs s);
     }) is
     b.0 b.1 b.2 c.in-Some.ensures.0 c.in-Some.ensures.1
     ((c.in-Ok.ensures.arrives c.in-Ok-add_at.ensures.adds.bytes (told_before _ _ _ _ (sym c.in-Ok.ensures.left.told) c.in-Ok-add_at.ensures.adds.are)).least rs (tree_spells (g.S.PageStore.told c.args.store.now) c.args.self.now rs (let h = c.requires.height in omega arith) is).0)
@@ -62,14 +62,14 @@ returns-in_default-clause-goes_on g c = record {
   goes_on =
       rw c.in-Some.is (λ low rs is b.
       rest_next low c.args.from.now c.args.high.now c.args.most
-      (records_of c.in-Ok-add_at.ensures.adds.bytes) c.args.records.now.items c.add_at.new.records.items (record {
+      (page_records c.in-Ok-add_at.ensures.adds.bytes) c.args.records.now.items c.add_at.new.records.items (record {
         some = let h = c.requires.height in omega arith;
         leads = (c.in-Ok.ensures.arrives c.in-Ok-add_at.ensures.adds.bytes (told_before _ _ _ _ (sym c.in-Ok.ensures.left.told) c.in-Ok-add_at.ensures.adds.are)).leads;
         cut = (c.in-Ok.ensures.arrives c.in-Ok-add_at.ensures.adds.bytes (told_before _ _ _ _ (sym c.in-Ok.ensures.left.told) c.in-Ok-add_at.ensures.adds.are)).cut;
         seen = c.in-Ok-add_at.ensures.adds.some;
         added = c.in-Ok-add_at.ensures.adds.added;
         same = λ rs s. c.in-Ok-add_at.ensures.adds.same
-            (records_of c.in-Ok-add_at.ensures.adds.bytes) ((c.in-Ok.ensures.arrives c.in-Ok-add_at.ensures.adds.bytes (told_before _ _ _ _ (sym c.in-Ok.ensures.left.told) c.in-Ok-add_at.ensures.adds.are)).leaf rs s);
+            (page_records c.in-Ok-add_at.ensures.adds.bytes) ((c.in-Ok.ensures.arrives c.in-Ok-add_at.ensures.adds.bytes (told_before _ _ _ _ (sym c.in-Ok.ensures.left.told) c.in-Ok-add_at.ensures.adds.are)).leaf rs s);
       }) is b c.in-Some.ensures.0);
   adds =
       let m = added_most c.args.most c.args.records.now.items _ _ c.in-Ok-add_at.ensures.adds.added
@@ -87,14 +87,14 @@ returns-in_default-2-clause-goes_on g c = record {
   ends =
       λ none low rs is b.
       rest_ends (g.S.PageStore.told c.args.store.now) c.args.self.now low c.args.from.now c.args.high.now c.args.most
-      (records_of c.in-Ok-add_at.ensures.adds.bytes) c.args.records.now.items c.add_at.new.records.items rs c.in-Ok.found.high (record {
+      (page_records c.in-Ok-add_at.ensures.adds.bytes) c.args.records.now.items c.add_at.new.records.items rs c.in-Ok.found.high (record {
         some = let h = c.requires.height in omega arith;
         leads = (c.in-Ok.ensures.arrives c.in-Ok-add_at.ensures.adds.bytes (told_before _ _ _ _ (sym c.in-Ok.ensures.left.told) c.in-Ok-add_at.ensures.adds.are)).leads;
         cut = (c.in-Ok.ensures.arrives c.in-Ok-add_at.ensures.adds.bytes (told_before _ _ _ _ (sym c.in-Ok.ensures.left.told) c.in-Ok-add_at.ensures.adds.are)).cut;
         seen = c.in-Ok-add_at.ensures.adds.some;
         added = c.in-Ok-add_at.ensures.adds.added;
         same = λ rs s. c.in-Ok-add_at.ensures.adds.same
-            (records_of c.in-Ok-add_at.ensures.adds.bytes) ((c.in-Ok.ensures.arrives c.in-Ok-add_at.ensures.adds.bytes (told_before _ _ _ _ (sym c.in-Ok.ensures.left.told) c.in-Ok-add_at.ensures.adds.are)).leaf rs s);
+            (page_records c.in-Ok-add_at.ensures.adds.bytes) ((c.in-Ok.ensures.arrives c.in-Ok-add_at.ensures.adds.bytes (told_before _ _ _ _ (sym c.in-Ok.ensures.left.told) c.in-Ok-add_at.ensures.adds.are)).leaf rs s);
       }) is b
       (none_over c.key_up_to.result c.in-Ok.found.high c.args.high.now c.key_up_to.ensures none);
   goes_on =

@@ -1,7 +1,7 @@
 use Rattle.std.proofs.Common.{rules, ◌≡◌, true, ◌∙◌, ◌+◌, ◌*◌, ◌≤◌, length, take, subst, sym, arith}
 use Rattle.quilt_types.specs.Facts.{quota}
 use Rattle.quilt_node.specs.Pages.{is_ascending}
-use Rattle.quilt_btree.specs.Batches.{edit_keys, more, looks, removed, added}
+use Rattle.quilt_btree.specs.Batches.{edit_keys, more, looks, removed, records_put}
 use Rattle.quilt_btree.specs.Stops.{NamesPage}
 use Rattle.quilt_btree.proofs.ways.Damage.{stops_behind, run_zero, run_names, run_cause}
 use Rattle.quilt_btree.proofs.batches.Whole.{rest, made_rest, made_all, rest_long, rest_ascends, rest_fails, rest_room, rest_cost, rest_cost_all, cost_take, cost_is, rest_looks, looks_take, looks_are}
@@ -86,7 +86,7 @@ returns-clause-left g c = record {
       (let m = c.loop-done.invariant.changed in let e = cost_take c.loop-done.done c.edits-run.result.now in let k = cost_is c.edits-run.result.now in omega arith);
   reads =
       rw (← c.edits-run.ensures.edits)
-      (reads_more (looks (take c.loop-done.done c.edits-run.result.now)) (10 * length (removed c.edits-run.result.now) + 6 * length (added c.edits-run.result.now)) _ _
+      (reads_more (looks (take c.loop-done.done c.edits-run.result.now)) (10 * length (removed c.edits-run.result.now) + 6 * length (records_put c.edits-run.result.now)) _ _
       (let e = looks_take c.loop-done.done c.edits-run.result.now in let k = looks_are c.edits-run.result.now in omega arith) c.loop-done.invariant.reads);
 }
 

@@ -1,6 +1,6 @@
 use Rattle.std.proofs.Common.{ℕ, List, Option, IfErr, subst}
 use Rattle.quilt_record.specs.declared.record.Record.{Record}
-use Rattle.quilt_store.specs.Stops.{IsSound}
+use Rattle.quilt_store.specs.Stops.{IsNotDamage}
 use Rattle.quilt_btree.specs.Trees.{IsTree}
 use Rattle.quilt_btree.proofs.subtrees.Whole.{no_floor}
 use Rattle.quilt_btree.proofs.tree.Tree.floor_near.Goals as goal
@@ -10,5 +10,5 @@ returns-then-self-eq0-clause-floor g c = λ rs is. no_floor (g.S.PageStore.told 
 
 pub returns-in-None-floor_at_finger-clause-sound : goal.returns-in-None-floor_at_finger-clause-sound
 returns-in-None-floor_at_finger-clause-sound g c =
-    subst (λ (o : Option (List (List ℕ))). IfErr c.floor.result (λ e. (rs : List Record) → IsTree o c.args.self.now rs → IsSound e))
+    subst (λ (o : Option (List (List ℕ))). IfErr c.floor.result (λ e. (rs : List Record) → IsTree o c.args.self.now rs → IsNotDamage e))
     c.in-Ok.ensures.left.told c.floor.ensures.sound

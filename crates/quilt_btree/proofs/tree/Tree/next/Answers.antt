@@ -1,5 +1,5 @@
 use Rattle.std.proofs.Common.{◌≤◌, ◌++◌, length, arith}
-use Rattle.quilt_node.specs.Nodes.{records_of}
+use Rattle.quilt_node.specs.Nodes.{page_records}
 use Rattle.quilt_btree.proofs.cursors.Stands.{stands_further}
 use Rattle.quilt_btree.proofs.tree.Tree.next.Goals as goal
 
@@ -8,7 +8,7 @@ returns-in-Err-clause-sound g c before after is s = c.in-Err.ensures.sound (befo
 
 pub returns-then-c-2-clause-next : goal.returns-then-c-2-clause-next
 returns-then-c-2-clause-next g c before after is s =
-    let le : length (records_of c.args.c.now.bytes) ≤ c.args.c.now.place =
+    let le : length (page_records c.args.c.now.bytes) ≤ c.args.c.now.place =
     let e = c.args.c.now.counted in let h = c.if-c.false in omega (arith, e, h) in
     c.over-then-c-2.ensures (g.S.PageStore.told c.args.store.now) c.args.self.now before after
     (c.in-Ok.ensures.stands before after is (stands_further (g.S.PageStore.told c.args.store.now) c.args.self.now c.args.c.now c.in-Some.k before after le

@@ -6,7 +6,7 @@ use Rattle.quilt_store.proofs.Reading.{only_reads_then, only_reads_ok, only_read
 use Rattle.quilt_btree.specs.Lists.{is_from_to}
 use Rattle.quilt_record.proofs.Orders.{lt_to_le}
 use Rattle.quilt_btree.proofs.ranges.Spans.{first_within, above_bound}
-use Rattle.quilt_node.specs.Nodes.{records_of}
+use Rattle.quilt_node.specs.Nodes.{page_records}
 use Rattle.quilt_btree.proofs.subtrees.Whole.{sound_whole}
 use Rattle.quilt_btree.proofs.ranges.Rests.{first_ends, first_fills, first_sound, first_result, no_range}
 use Rattle.quilt_btree.proofs.ways.Steps.{told_before}
@@ -21,7 +21,7 @@ returns-in-Err-clause-sound g c = sound_whole c.in-Err.e (g.S.PageStore.told c.a
 
 pub returns-then-now-most-clause-range : goal.returns-then-now-most-clause-range
 returns-then-now-most-clause-range g c = λ rs is. first_fills (g.S.PageStore.told c.args.store.now) c.args.self.now c.args.low.now c.args.high.now
-    c.args.most (records_of c.in-Ok-add_at.ensures.adds.bytes) c.add_at.new.records.items rs c.in-Ok.found.high (record {
+    c.args.most (page_records c.in-Ok-add_at.ensures.adds.bytes) c.add_at.new.records.items rs c.in-Ok.found.high (record {
       some = c.if-self-eq0.false;
       leads = (c.in-Ok.ensures.arrives c.in-Ok-add_at.ensures.adds.bytes (told_before _ _ _ _ (sym c.in-Ok.ensures.left.told) c.in-Ok-add_at.ensures.adds.are)).leads;
       cut = (c.in-Ok.ensures.arrives c.in-Ok-add_at.ensures.adds.bytes (told_before _ _ _ _ (sym c.in-Ok.ensures.left.told) c.in-Ok-add_at.ensures.adds.are)).cut;
@@ -31,13 +31,13 @@ returns-then-now-most-clause-range g c = λ rs is. first_fills (g.S.PageStore.to
           take c.args.most (l ++ filter (is_from_to c.args.low.now c.args.high.now)
           c.in-Ok-add_at.ensures.adds.some)) c.new-records.ensures.items;
       same = λ rs s. c.in-Ok-add_at.ensures.adds.same
-          (records_of c.in-Ok-add_at.ensures.adds.bytes) ((c.in-Ok.ensures.arrives c.in-Ok-add_at.ensures.adds.bytes (told_before _ _ _ _ (sym c.in-Ok.ensures.left.told) c.in-Ok-add_at.ensures.adds.are)).leaf rs s);
+          (page_records c.in-Ok-add_at.ensures.adds.bytes) ((c.in-Ok.ensures.arrives c.in-Ok-add_at.ensures.adds.bytes (told_before _ _ _ _ (sym c.in-Ok.ensures.left.told) c.in-Ok-add_at.ensures.adds.are)).leaf rs s);
     }) is
     (let e = c.in-Ok-add_at.ensures.number in let t = c.if-now-most.true in omega arith)
 
 pub returns-in-None-clause-range : goal.returns-in-None-clause-range
 returns-in-None-clause-range g c = λ rs is. first_ends (g.S.PageStore.told c.args.store.now) c.args.self.now c.args.low.now c.args.high.now
-    c.args.most (records_of c.in-Ok-add_at.ensures.adds.bytes) c.add_at.new.records.items rs c.in-Ok.found.high (record {
+    c.args.most (page_records c.in-Ok-add_at.ensures.adds.bytes) c.add_at.new.records.items rs c.in-Ok.found.high (record {
       some = c.if-self-eq0.false;
       leads = (c.in-Ok.ensures.arrives c.in-Ok-add_at.ensures.adds.bytes (told_before _ _ _ _ (sym c.in-Ok.ensures.left.told) c.in-Ok-add_at.ensures.adds.are)).leads;
       cut = (c.in-Ok.ensures.arrives c.in-Ok-add_at.ensures.adds.bytes (told_before _ _ _ _ (sym c.in-Ok.ensures.left.told) c.in-Ok-add_at.ensures.adds.are)).cut;
@@ -47,13 +47,13 @@ returns-in-None-clause-range g c = λ rs is. first_ends (g.S.PageStore.told c.ar
           take c.args.most (l ++ filter (is_from_to c.args.low.now c.args.high.now)
           c.in-Ok-add_at.ensures.adds.some)) c.new-records.ensures.items;
       same = λ rs s. c.in-Ok-add_at.ensures.adds.same
-          (records_of c.in-Ok-add_at.ensures.adds.bytes) ((c.in-Ok.ensures.arrives c.in-Ok-add_at.ensures.adds.bytes (told_before _ _ _ _ (sym c.in-Ok.ensures.left.told) c.in-Ok-add_at.ensures.adds.are)).leaf rs s);
+          (page_records c.in-Ok-add_at.ensures.adds.bytes) ((c.in-Ok.ensures.arrives c.in-Ok-add_at.ensures.adds.bytes (told_before _ _ _ _ (sym c.in-Ok.ensures.left.told) c.in-Ok-add_at.ensures.adds.are)).leaf rs s);
     }) is c.in-None.ensures
 
 pub returns-in-Err-add_rest-clause-sound : goal.returns-in-Err-add_rest-clause-sound
 returns-in-Err-add_rest-clause-sound g c =
     first_sound (g.S.PageStore.told c.args.store.now) (g.S.PageStore.told c.add_at.new.store) c.args.self.now c.args.low.now c.args.high.now
-    c.in-Some.next c.args.most (records_of c.in-Ok-add_at.ensures.adds.bytes) c.add_at.new.records.items c.in-Ok.found.high c.in-Err-add_rest.e
+    c.in-Some.next c.args.most (page_records c.in-Ok-add_at.ensures.adds.bytes) c.add_at.new.records.items c.in-Ok.found.high c.in-Err-add_rest.e
     (c.in-Ok-add_at.ensures.looks.left.told ∙ c.in-Ok.ensures.left.told) (record {
       some = c.if-self-eq0.false;
       leads = (c.in-Ok.ensures.arrives c.in-Ok-add_at.ensures.adds.bytes (told_before _ _ _ _ (sym c.in-Ok.ensures.left.told) c.in-Ok-add_at.ensures.adds.are)).leads;
@@ -64,13 +64,13 @@ returns-in-Err-add_rest-clause-sound g c =
           take c.args.most (l ++ filter (is_from_to c.args.low.now c.args.high.now)
           c.in-Ok-add_at.ensures.adds.some)) c.new-records.ensures.items;
       same = λ rs s. c.in-Ok-add_at.ensures.adds.same
-          (records_of c.in-Ok-add_at.ensures.adds.bytes) ((c.in-Ok.ensures.arrives c.in-Ok-add_at.ensures.adds.bytes (told_before _ _ _ _ (sym c.in-Ok.ensures.left.told) c.in-Ok-add_at.ensures.adds.are)).leaf rs s);
+          (page_records c.in-Ok-add_at.ensures.adds.bytes) ((c.in-Ok.ensures.arrives c.in-Ok-add_at.ensures.adds.bytes (told_before _ _ _ _ (sym c.in-Ok.ensures.left.told) c.in-Ok-add_at.ensures.adds.are)).leaf rs s);
     }) c.in-Some.ensures.0 c.in-Err-add_rest.ensures.sound
 
 pub returns-in-Ok-add_rest-clause-range : goal.returns-in-Ok-add_rest-clause-range
 returns-in-Ok-add_rest-clause-range g c =
     first_result (g.S.PageStore.told c.args.store.now) (g.S.PageStore.told c.add_at.new.store) c.args.self.now c.args.low.now c.args.high.now
-    c.in-Some.next c.args.most (records_of c.in-Ok-add_at.ensures.adds.bytes) c.add_at.new.records.items c.add_rest.new.records.items
+    c.in-Some.next c.args.most (page_records c.in-Ok-add_at.ensures.adds.bytes) c.add_at.new.records.items c.add_rest.new.records.items
     c.in-Ok.found.high
     (c.in-Ok-add_at.ensures.looks.left.told ∙ c.in-Ok.ensures.left.told) (record {
       some = c.if-self-eq0.false;
@@ -82,7 +82,7 @@ returns-in-Ok-add_rest-clause-range g c =
           take c.args.most (l ++ filter (is_from_to c.args.low.now c.args.high.now)
           c.in-Ok-add_at.ensures.adds.some)) c.new-records.ensures.items;
       same = λ rs s. c.in-Ok-add_at.ensures.adds.same
-          (records_of c.in-Ok-add_at.ensures.adds.bytes) ((c.in-Ok.ensures.arrives c.in-Ok-add_at.ensures.adds.bytes (told_before _ _ _ _ (sym c.in-Ok.ensures.left.told) c.in-Ok-add_at.ensures.adds.are)).leaf rs s);
+          (page_records c.in-Ok-add_at.ensures.adds.bytes) ((c.in-Ok.ensures.arrives c.in-Ok-add_at.ensures.adds.bytes (told_before _ _ _ _ (sym c.in-Ok.ensures.left.told) c.in-Ok-add_at.ensures.adds.are)).leaf rs s);
     }) c.in-Some.ensures.0 c.in-Ok-add_rest.ensures.rest
 
 pub returns-then-self-eq0-clause-within : goal.returns-then-self-eq0-clause-within

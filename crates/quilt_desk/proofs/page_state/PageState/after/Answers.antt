@@ -2,7 +2,7 @@ use Rattle.std.proofs.Common.{◌∙◌, ap}
 use Rattle.std.proofs.lemmas.List.{take_all}
 use Rattle.quilt_world.specs.Disk.{Log}
 use Rattle.quilt_desk.specs.declared.page_state.PageState.{PageState}
-use Rattle.quilt_desk.specs.PageStates.{state_after, state_of}
+use Rattle.quilt_desk.specs.PageStates.{page_state_after, state_of}
 use Rattle.quilt_desk.proofs.CrashLaws.{state_of-more, whole_at}
 use Rattle.quilt_desk.proofs.page_state.PageState.after.Goals as goal
 
@@ -13,7 +13,7 @@ loop-event-init c = c.new-state.ensures
 pub loop-event-preserved : goal.loop-event-preserved
 loop-event-preserved c =
     c.add.ensures
-    ∙ ap (λ (s : PageState). state_after c.args.page s c.event-item.result) c.loop-event.invariant
+    ∙ ap (λ (s : PageState). page_state_after c.args.page s c.event-item.result) c.loop-event.invariant
     ∙ state_of-more c.args.page c.args.bytes.now c.args.log.now c.loop-event.event-index c.event-item.result c.loop-event-test.true c.event-item.is
 
 pub returns : goal.returns

@@ -1,5 +1,5 @@
 use Rattle.std.proofs.Common.{ℕ, false, replicate, refl, sym, ◌∙◌, ap, subst}
-use Rattle.quilt_journal.specs.Beginning.{Gives, IsNew, NoneFree, Redoes}
+use Rattle.quilt_journal.specs.Beginning.{FitsFile, IsNewJournal, NoneFree, Redoes}
 use Rattle.quilt_journal.specs.Changed.{View}
 use Rattle.quilt_journal.proofs.Calls.{goes_here}
 use Rattle.quilt_pool.specs.declared.pool.Pool.{Pool}
@@ -28,7 +28,7 @@ over-requires-clause-numbers g c = (subst (λ n. IsHeader n c.read_page.new.into
 
 pub returns-clause-fresh : goal.returns-clause-fresh
 returns-clause-fresh g c =
-    let new : IsNew (g.W.Disk.size c.args.world) c.in-Journal.journal = subst (Gives (g.W.Disk.size c.args.world)) c.in-Journal.is c.in-Ok-begin.ensures.gives in
+    let new : IsNewJournal (g.W.Disk.size c.args.world) c.in-Journal.journal = subst (FitsFile (g.W.Disk.size c.args.world)) c.in-Journal.is c.in-Ok-begin.ensures.gives in
     let same = c.over.ensures.journal in (
       ap (λ (v : View). v.state) same ∙ new.state,
       c.over.ensures.heads.1 ∙ sym c.over.ensures.heads.0,

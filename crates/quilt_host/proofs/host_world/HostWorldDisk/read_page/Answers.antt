@@ -1,7 +1,7 @@
 use Rattle.std.specs.Option.{option_map}
 use Rattle.std.specs.Prelude.{IfSome}
 use Rattle.std.proofs.Common.{subst, sym, ◌∙◌}
-use Rattle.quilt_host.specs.Worlds.{IsSound}
+use Rattle.quilt_host.specs.Worlds.{IsSoundStory}
 use Rattle.quilt_host.proofs.Answered.{on_ok}
 use Rattle.quilt_host.proofs.ByteLaws.{get-pages_of}
 use Rattle.quilt_host.proofs.StoryLaws.{known_same, mapped_if}
@@ -12,7 +12,7 @@ invariant_of-self g c =
     let w = c.args.self.now in
     record {
       no_pages = w.no_pages;
-      sound = known_same (IsSound w.door w.pages) (IsSound w.door w.pages) _ _ w.sound c.read_page-outcome.ensures.nothing (λ s sound. sound);
+      sound = known_same (IsSoundStory w.door w.pages) (IsSoundStory w.door w.pages) _ _ w.sound c.read_page-outcome.ensures.nothing (λ s sound. sound);
     }
 
 pub returns-clause-bytes : goal.returns-clause-bytes

@@ -1,7 +1,7 @@
 use Rattle.std.proofs.Common.{◌≡◌, ap, arith, false, List, ℕ, [], ◌++◌, drop, subst}
 use Rattle.quilt_lang.specs.declared.progress.Progress.TheVariants as progresses
 use Rattle.quilt_lang.specs.Reading.{Gives, Unread}
-use Rattle.quilt_lang.specs.Progress.{IsKept, IsProgress}
+use Rattle.quilt_lang.specs.Progress.{KeepsUnfinished, IsProgress}
 use Rattle.quilt_lang.specs.Shortening.{KeepsShort}
 use Rattle.quilt_words.proofs.Slices.{behind}
 use Rattle.quilt_lang.proofs.Enough.{kept_loud}
@@ -12,7 +12,7 @@ use Rattle.quilt_lang.proofs.lines.Lines.feed.Goals as goal
 pub invariant_of-self-in-Waiting : goal.invariant_of-self-in-Waiting
 invariant_of-self-in-Waiting c =
     let old : List ℕ = drop c.self.inside.from c.self.inside.bytes.items in
-    let kept : IsKept c.self.inside.level old c.in_ok-progress.progress =
+    let kept : KeepsUnfinished c.self.inside.level old c.in_ok-progress.progress =
     rw (c.deref.ensures.value, behind c.self.inside.from c.self.inside.bytes.items) at c.in_ok-progress.ensures in
     let put = c.in_ok-put_piece.ensures.put in
     let joined : List ℕ = c.put_piece.new.bytes.items in
@@ -27,7 +27,7 @@ returns-in-Waiting-clause-fed c =
     let joined : List ℕ = c.put_piece.new.bytes.items in
     let rest : old ≡ c.args.self.now.rest = ap (λ (s : Unread). s.rest) c.self.view_is in
     let level : c.self.inside.level ≡ c.args.self.now.level = ap (λ (s : Unread). s.level) c.self.view_is in
-    let kept : IsKept c.args.self.now.level old c.in_ok-progress.progress = subst (λ (n : ℕ). IsKept n old c.in_ok-progress.progress) level
+    let kept : KeepsUnfinished c.args.self.now.level old c.in_ok-progress.progress = subst (λ (n : ℕ). KeepsUnfinished n old c.in_ok-progress.progress) level
     (rw (c.deref.ensures.value, behind from bytes) at c.in_ok-progress.ensures) in
     let put = c.in_ok-put_piece.ensures.put in
     subst (λ (l : List ℕ). Gives false c.args.self.now.level [] (l ++ c.args.piece.now) joined) rest
@@ -41,7 +41,7 @@ returns-in-Waiting-clause-lines c =
     let joined : List ℕ = c.put_piece.new.bytes.items in
     let rest : old ≡ c.args.self.now.rest = ap (λ (s : Unread). s.rest) c.self.view_is in
     let level : c.self.inside.level ≡ c.args.self.now.level = ap (λ (s : Unread). s.level) c.self.view_is in
-    let kept : IsKept c.args.self.now.level old c.in_ok-progress.progress = subst (λ (n : ℕ). IsKept n old c.in_ok-progress.progress) level
+    let kept : KeepsUnfinished c.args.self.now.level old c.in_ok-progress.progress = subst (λ (n : ℕ). KeepsUnfinished n old c.in_ok-progress.progress) level
     (rw (c.deref.ensures.value, behind from bytes) at c.in_ok-progress.ensures) in
     let put = c.in_ok-put_piece.ensures.put in
     subst (λ (l : List ℕ). KeepsShort c.args.self.now.level l joined) rest
@@ -54,9 +54,9 @@ returns-in-Begun-clause-lines c =
     let old : List ℕ = drop from bytes in
     let rest : old ≡ c.args.self.now.rest = ap (λ (s : Unread). s.rest) c.self.view_is in
     let level : c.self.inside.level ≡ c.args.self.now.level = ap (λ (s : Unread). s.level) c.self.view_is in
-    let kept : IsKept c.args.self.now.level old c.in_ok-progress.progress = subst (λ (n : ℕ). IsKept n old c.in_ok-progress.progress) level
+    let kept : KeepsUnfinished c.args.self.now.level old c.in_ok-progress.progress = subst (λ (n : ℕ). KeepsUnfinished n old c.in_ok-progress.progress) level
     (rw (c.deref.ensures.value, behind from bytes) at c.in_ok-progress.ensures) in
-    let begun : IsKept c.args.self.now.level old (progresses.Begun c.in-Begun.scanned) = rw c.in-Begun.is at kept in
+    let begun : KeepsUnfinished c.args.self.now.level old (progresses.Begun c.in-Begun.scanned) = rw c.in-Begun.is at kept in
     let new : List ℕ = drop c.silent_front-from.result.0 c.put_piece.new.bytes.items in
     subst (λ (l : List ℕ). KeepsShort c.args.self.now.level l new) rest (begun_short c.args.self.now.level c.in-Begun.scanned old new begun)
 
@@ -68,7 +68,7 @@ returns-in-Begun-clause-fed c =
     let joined : List ℕ = c.put_piece.new.bytes.items in
     let rest : old ≡ c.args.self.now.rest = ap (λ (s : Unread). s.rest) c.self.view_is in
     let level : c.self.inside.level ≡ c.args.self.now.level = ap (λ (s : Unread). s.level) c.self.view_is in
-    let kept : IsKept c.args.self.now.level old c.in_ok-progress.progress = subst (λ (n : ℕ). IsKept n old c.in_ok-progress.progress) level
+    let kept : KeepsUnfinished c.args.self.now.level old c.in_ok-progress.progress = subst (λ (n : ℕ). KeepsUnfinished n old c.in_ok-progress.progress) level
     (rw (c.deref.ensures.value, behind from bytes) at c.in_ok-progress.ensures) in
     let put = c.in_ok-put_piece.ensures.put in
     fed_on c.args.self.now old joined c.args.piece.now _ rest

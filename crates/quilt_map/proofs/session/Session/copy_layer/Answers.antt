@@ -5,7 +5,7 @@ use Rattle.quilt_record.specs.declared.entry.Entry.{Entry}
 use Rattle.quilt_spell.specs.Catalogued.{IsCatalogOf}
 use Rattle.quilt_words.specs.declared.command.Command.TheVariants as commands
 use Rattle.quilt_replies.specs.Answers.{Refused}
-use Rattle.quilt_map.specs.Making.{AnsweredBy, placed}
+use Rattle.quilt_map.specs.Making.{AnsweredBy, layer_placed}
 use Rattle.quilt_replies.specs.declared.reply.Reply.TheVariants as given
 use Rattle.quilt_map.proofs.answers.Asked.{if_ok, if_err}
 use Rattle.quilt_map.proofs.states.ChangeSteps.{goes_here}
@@ -111,5 +111,5 @@ returns-in-Ok-copied_records-clause-answer g c =
     let passes = c.in-None.ensures.passes refl s now.work.numbers
     (subst (λ (es : List Entry). IsCatalogOf s.work now.work.numbers es) (sym c.entries-2.ensures.entries) now.work.catalog) in
     let by =
-    subst (λ (n : List ℕ). AnsweredBy {D = g.W.Disk} s (placed s n found.layer) mid c.place.new.self reply) made.name (p s now found.layer kind plan) in
+    subst (λ (n : List ℕ). AnsweredBy {D = g.W.Disk} s (layer_placed s n found.layer) mid c.place.new.self reply) made.name (p s now found.layer kind plan) in
     copy_answer {D = g.W.Disk} old mid c.place.new.self s name other found.layer reply found.got passes.0 passes.1 refl by) c.place.ensures.placed

@@ -6,7 +6,7 @@ use Rattle.quilt_types.specs.declared.code.Code.TheVariants as no
 use Rattle.quilt_replies.specs.Answers.{Refused, layer, grid_in}
 use Rattle.quilt_map.specs.Asking.{reads_in}
 use Rattle.quilt_map.specs.Costs.{cut_pages}
-use Rattle.quilt_map.specs.Derivation.{is_inside}
+use Rattle.quilt_map.specs.Derivation.{window_is_inside}
 use Rattle.quilt_replies.specs.declared.reply.Reply.TheVariants as given
 use Rattle.quilt_map.proofs.answers.Answered.{catalog_as, level_is, test_at}
 use Rattle.quilt_map.proofs.answers.Asked.{if_ok, if_err}
@@ -54,7 +54,7 @@ returns-then-not-has_its_window-clause-answer g c = λ s at fits.
     let region = c.in-Ok.ensures.found s.work at.work.numbers (catalog_as {D = g.W.Disk} old s at c.entries.result.now c.entries.ensures.entries) in
     let passes =
     c.in_default.ensures.passes refl s at.work.numbers (catalog_as {D = g.W.Disk} old s at c.entries-in-Ok.result.now c.entries-in-Ok.ensures.entries) in
-    let out = test_at (λ n. is_inside n command) c.head.result.level s.last.level c.has_its_window.result false
+    let out = test_at (λ n. window_is_inside n command) c.head.result.level s.last.level c.has_its_window.result false
     (ap (λ (h : Head). h.level) c.head.ensures.work ∙ level_is {D = g.W.Disk} old s at) c.has_its_window.ensures c.if-not-has_its_window.true in
     answered_same {D = g.W.Disk} s command old old (Refused no.Outside) (given.No no.Outside)
     (derive_outside s command name into c.requires region.grid region.got passes out) (derive_forward command name into c.requires) refl refl at at
@@ -73,7 +73,7 @@ returns-else-not-has_its_window-clause-answer g c =
     region_in s.work at.work.numbers c.entries.result.now old.catalog name c.in-Ok.number c.entries.ensures.entries at.work.catalog c.in-Ok.ensures.found in
     let passes =
     c.in_default.ensures.passes refl s at.work.numbers (catalog_as {D = g.W.Disk} old s at c.entries-in-Ok.result.now c.entries-in-Ok.ensures.entries) in
-    let inside = test_at (λ n. is_inside n command) c.head.result.level s.last.level c.has_its_window.result true
+    let inside = test_at (λ n. window_is_inside n command) c.head.result.level s.last.level c.has_its_window.result true
     (ap (λ (h : Head). h.level) c.head.ensures.work ∙ level_is {D = g.W.Disk} old s at) c.has_its_window.ensures c.if-not-has_its_window.false in
     derive_answered s command name into c.requires region.0 region.1.got passes {D = g.W.Disk} old c.make_derived.new.self reply inside
     (p s at name region.0 region.1 fits)) c.make_derived.ensures.made

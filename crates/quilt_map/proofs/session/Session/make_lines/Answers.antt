@@ -3,7 +3,7 @@ use Rattle.quilt_node.specs.declared.head.Head.{Head}
 use Rattle.quilt_words.specs.declared.command.Command.TheVariants as commands
 use Rattle.quilt_replies.specs.Answers.{Refused}
 use Rattle.quilt_replies.specs.declared.reply.Reply.TheVariants as given
-use Rattle.quilt_map.specs.Making.{AnsweredBy, placed}
+use Rattle.quilt_map.specs.Making.{AnsweredBy, layer_placed}
 use Rattle.quilt_map.proofs.answers.Answered.{catalog_as, level_is}
 use Rattle.quilt_map.proofs.answers.Asked.{if_ok, if_err}
 use Rattle.quilt_map.proofs.states.ChangeSteps.{goes_here}
@@ -47,9 +47,9 @@ returns-clause-answer g c =
     c.entries.result.now c.entries.ensures.entries (c.in_default.ensures.few refl) (c.in_default.ensures.new refl) e.name e.named e.kind e.number.0 e.number.1
     (e.unused s.work at.work.numbers again at.work.spelled.numbering) listed.0 c.first_record-first.result
     (c.records-2.ensures ∙ listed.1) listed.2 c.first_record-first.ensures in
-    answered_by {D = g.W.Disk} s (commands.Lines name t) (placed s name lines) old c.place.new.self reply
+    answered_by {D = g.W.Disk} s (commands.Lines name t) (layer_placed s name lines) old c.place.new.self reply
     (lines_given s name t (c.in_default.ensures.passes refl s at.work.numbers catalog)) (placed_none s name lines) refl
-    (subst (λ (b : List ℕ). AnsweredBy {D = g.W.Disk} s (placed s b lines) old c.place.new.self reply) e.name (p s at lines e.kind plan)))
+    (subst (λ (b : List ℕ). AnsweredBy {D = g.W.Disk} s (layer_placed s b lines) old c.place.new.self reply) e.name (p s at lines e.kind plan)))
     c.place.ensures.placed
 
 pub returns-clause-sound : goal.returns-clause-sound

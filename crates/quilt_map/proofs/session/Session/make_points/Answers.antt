@@ -5,12 +5,12 @@ use Rattle.quilt_types.specs.Layers.{Points}
 use Rattle.quilt_node.specs.declared.head.Head.{Head}
 use Rattle.quilt_record.specs.declared.entry.Entry.{Entry}
 use Rattle.quilt_record.specs.Records.{record_of}
-use Rattle.quilt_record.specs.Listing.{kind_fact}
+use Rattle.quilt_record.specs.Listing.{fact_of_kind}
 use Rattle.quilt_words.specs.declared.command.Command.TheVariants as commands
 use Rattle.quilt_replies.specs.Answers.{Refused}
 use Rattle.quilt_replies.specs.declared.reply.Reply.TheVariants as given
-use Rattle.quilt_map.specs.Making.{AnsweredBy, placed}
-use Rattle.quilt_map.specs.Planning.{IsPlan}
+use Rattle.quilt_map.specs.Making.{AnsweredBy, layer_placed}
+use Rattle.quilt_map.specs.Planning.{IsLayerPlan}
 use Rattle.quilt_map.proofs.answers.Answered.{catalog_as, format_is, level_is, test_at}
 use Rattle.quilt_map.proofs.answers.Asked.{if_ok, if_err}
 use Rattle.quilt_map.proofs.states.ChangeSteps.{goes_here}
@@ -67,17 +67,17 @@ returns-clause-answer g c =
     (ap (λ (h : Head). h.format) c.head-head.ensures.work ∙ format_is {D = g.W.Disk} old s at) c.is_unwritten.ensures c.if-is_unwritten.false in
     let few = subst (λ (es : List Entry). length es < 255) c.entries.ensures.entries (c.in_default.ensures.few refl) in
     let others = subst (λ (es : List Entry). All (λ f. f.name ≢ name) es) c.entries.ensures.entries (c.in_default.ensures.new refl) in
-    let first_is = λ (n k : ℕ). listed.2 n k ∙ ap (λ (b : List ℕ). record_of n k b entry.number (kind_fact entry.kind)) e.name
-    ∙ ap (λ (x : Kind). record_of n k name entry.number (kind_fact x)) e.kind in
+    let first_is = λ (n k : ℕ). listed.2 n k ∙ ap (λ (b : List ℕ). record_of n k b entry.number (fact_of_kind entry.kind)) e.name
+    ∙ ap (λ (x : Kind). record_of n k name entry.number (fact_of_kind x)) e.kind in
     let plan = points_plan {D = g.W.Disk} old s at name entry.number bucket c.head-head.result.level c.records-2.result.now level least most written
     e.named few others e.number.0 e.number.1
     (e.unused s.work at.work.numbers again at.work.spelled.numbering) listed.0 c.first_record-first.result
     (c.records-2.ensures ∙ listed.1) first_is c.first_record-first.ensures in
-    let planned = subst (λ (b : List ℕ). IsPlan s at.work.numbers b entry.number (Some (Points bucket bare)) [] c.records-2.result.now) (sym e.name) plan in
+    let planned = subst (λ (b : List ℕ). IsLayerPlan s at.work.numbers b entry.number (Some (Points bucket bare)) [] c.records-2.result.now) (sym e.name) plan in
     let passes = c.in_default.ensures.passes refl s at.work.numbers catalog in
-    answered_by {D = g.W.Disk} s (commands.Points name bucket) (placed s name (Points bucket bare)) old c.place.new.self reply
+    answered_by {D = g.W.Disk} s (commands.Points name bucket) (layer_placed s name (Points bucket bare)) old c.place.new.self reply
     (points_given s name bucket passes written) (placed_none s name (Points bucket bare)) refl
-    (subst (λ (b : List ℕ). AnsweredBy {D = g.W.Disk} s (placed s b (Points bucket bare)) old c.place.new.self reply) e.name
+    (subst (λ (b : List ℕ). AnsweredBy {D = g.W.Disk} s (layer_placed s b (Points bucket bare)) old c.place.new.self reply) e.name
     (p s at (Points bucket bare) e.kind planned))) c.place.ensures.placed
 
 pub returns-clause-sound : goal.returns-clause-sound
@@ -95,11 +95,11 @@ returns-clause-sound g c =
     (ap (λ (h : Head). h.format) c.head-head.ensures.work ∙ format_is {D = g.W.Disk} old s at) c.is_unwritten.ensures c.if-is_unwritten.false in
     let few = subst (λ (es : List Entry). length es < 255) c.entries.ensures.entries (c.in_default.ensures.few refl) in
     let others = subst (λ (es : List Entry). All (λ f. f.name ≢ name) es) c.entries.ensures.entries (c.in_default.ensures.new refl) in
-    let first_is = λ (n k : ℕ). listed.2 n k ∙ ap (λ (b : List ℕ). record_of n k b entry.number (kind_fact entry.kind)) e.name
-    ∙ ap (λ (x : Kind). record_of n k name entry.number (kind_fact x)) e.kind in
+    let first_is = λ (n k : ℕ). listed.2 n k ∙ ap (λ (b : List ℕ). record_of n k b entry.number (fact_of_kind entry.kind)) e.name
+    ∙ ap (λ (x : Kind). record_of n k name entry.number (fact_of_kind x)) e.kind in
     let plan = points_plan {D = g.W.Disk} old s at name entry.number bucket c.head-head.result.level c.records-2.result.now level least most written
     e.named few others e.number.0 e.number.1
     (e.unused s.work at.work.numbers again at.work.spelled.numbering) listed.0 c.first_record-first.result
     (c.records-2.ensures ∙ listed.1) first_is c.first_record-first.ensures in
-    let planned = subst (λ (b : List ℕ). IsPlan s at.work.numbers b entry.number (Some (Points bucket bare)) [] c.records-2.result.now) (sym e.name) plan in
+    let planned = subst (λ (b : List ℕ). IsLayerPlan s at.work.numbers b entry.number (Some (Points bucket bare)) [] c.records-2.result.now) (sym e.name) plan in
     p s at (Points bucket bare) planned) c.place.ensures.sound

@@ -4,14 +4,14 @@ use Rattle.quilt_types.specs.Layers.{Region}
 use Rattle.quilt_types.specs.declared.plane.Kind.{Kind}
 use Rattle.quilt_record.specs.declared.entry.Entry.{Entry}
 use Rattle.quilt_record.specs.Records.{record_of}
-use Rattle.quilt_record.specs.Listing.{kind_fact}
+use Rattle.quilt_record.specs.Listing.{fact_of_kind}
 use Rattle.quilt_blocks.specs.Cutting.{leaves_by_code}
 use Rattle.quilt_world.proofs.ReadCounts.{reads_none}
 use Rattle.quilt_region.proofs.Records.{region_length}
 use Rattle.quilt_spell.specs.Catalogued.{IsCatalogOf}
 use Rattle.quilt_map.specs.Asking.{reads_in}
-use Rattle.quilt_map.specs.Making.{AnsweredBy, placed}
-use Rattle.quilt_map.specs.Planning.{IsPlan}
+use Rattle.quilt_map.specs.Making.{AnsweredBy, layer_placed}
+use Rattle.quilt_map.specs.Planning.{IsLayerPlan}
 use Rattle.quilt_map.proofs.states.ChangeSteps.{goes_here}
 use Rattle.quilt_map.proofs.answers.Asked.{if_ok, if_err}
 use Rattle.quilt_map.proofs.answers.PastQuota.{past_refused}
@@ -46,15 +46,15 @@ returns-clause-made g c =
     let name = c.args.name.now in
     let listed = c.in-Ok-listed.ensures in
     let catalog = subst (λ (es : List Entry). IsCatalogOf s.work at.work.numbers es) (sym c.entries.ensures.entries) at.work.catalog in
-    let first_is = λ (n k : ℕ). listed.2 n k ∙ ap (λ (b : List ℕ). record_of n k b entry.number (kind_fact entry.kind)) e.name
-    ∙ ap (λ (x : Kind). record_of n k name entry.number (kind_fact x)) e.kind in
+    let first_is = λ (n k : ℕ). listed.2 n k ∙ ap (λ (b : List ℕ). record_of n k b entry.number (fact_of_kind entry.kind)) e.name
+    ∙ ap (λ (x : Kind). record_of n k name entry.number (fact_of_kind x)) e.kind in
     let plan = region_plan {D = g.W.Disk} old s at name entry.number c.args.list.now c.records-3.result.now c.records.result.now level grid e.named
     c.requires.few c.requires.new e.number.0 e.number.1
     (e.unused s.work at.work.numbers catalog at.work.spelled.numbering) listed.0 (c.records-3.ensures ∙ listed.1) first_is
     (c.records.ensures ∙ c.in-Ok-plan_new.ensures.add) in
     let planned =
-    subst (λ (b : List ℕ). IsPlan s at.work.numbers b entry.number (Some (Region c.args.list.now.grid)) [] c.records-3.result.now) (sym e.name) plan in
-    subst (λ (b : List ℕ). AnsweredBy {D = g.W.Disk} s (placed s b (Region c.args.list.now.grid)) old c.place.new.self reply) e.name
+    subst (λ (b : List ℕ). IsLayerPlan s at.work.numbers b entry.number (Some (Region c.args.list.now.grid)) [] c.records-3.result.now) (sym e.name) plan in
+    subst (λ (b : List ℕ). AnsweredBy {D = g.W.Disk} s (layer_placed s b (Region c.args.list.now.grid)) old c.place.new.self reply) e.name
     (p s at (Region c.args.list.now.grid) e.kind planned)) c.place.ensures.placed
 
 pub returns-clause-sound : goal.returns-clause-sound
@@ -66,14 +66,14 @@ returns-clause-sound g c =
     let name = c.args.name.now in
     let listed = c.in-Ok-listed.ensures in
     let catalog = subst (λ (es : List Entry). IsCatalogOf s.work at.work.numbers es) (sym c.entries.ensures.entries) at.work.catalog in
-    let first_is = λ (n k : ℕ). listed.2 n k ∙ ap (λ (b : List ℕ). record_of n k b entry.number (kind_fact entry.kind)) e.name
-    ∙ ap (λ (x : Kind). record_of n k name entry.number (kind_fact x)) e.kind in
+    let first_is = λ (n k : ℕ). listed.2 n k ∙ ap (λ (b : List ℕ). record_of n k b entry.number (fact_of_kind entry.kind)) e.name
+    ∙ ap (λ (x : Kind). record_of n k name entry.number (fact_of_kind x)) e.kind in
     let plan = region_plan {D = g.W.Disk} old s at name entry.number c.args.list.now c.records-3.result.now c.records.result.now level grid e.named
     c.requires.few c.requires.new e.number.0 e.number.1
     (e.unused s.work at.work.numbers catalog at.work.spelled.numbering) listed.0 (c.records-3.ensures ∙ listed.1) first_is
     (c.records.ensures ∙ c.in-Ok-plan_new.ensures.add) in
     let planned =
-    subst (λ (b : List ℕ). IsPlan s at.work.numbers b entry.number (Some (Region c.args.list.now.grid)) [] c.records-3.result.now) (sym e.name) plan in
+    subst (λ (b : List ℕ). IsLayerPlan s at.work.numbers b entry.number (Some (Region c.args.list.now.grid)) [] c.records-3.result.now) (sym e.name) plan in
     p s at (Region c.args.list.now.grid) planned) c.place.ensures.sound
 
 pub returns-then-is_past_quota-clause-reads : goal.returns-then-is_past_quota-clause-reads

@@ -3,7 +3,7 @@ use Rattle.quilt_types.specs.declared.code.Code.TheVariants as no
 use Rattle.quilt_words.specs.declared.command.Command.TheVariants as commands
 use Rattle.quilt_replies.specs.Answers.{Refused}
 use Rattle.quilt_node.specs.declared.head.Head.{Head}
-use Rattle.quilt_raster.specs.Bytes.{colours_of_bytes}
+use Rattle.quilt_raster.specs.Bytes.{cell_colours}
 use Rattle.quilt_map.proofs.answers.Answered.{catalog_as, level_is}
 use Rattle.quilt_map.proofs.answers.Asked.{if_ok, if_err}
 use Rattle.quilt_map.proofs.answers.PastQuota.{past_refused}
@@ -47,8 +47,8 @@ returns-then-has_past-clause-answer g c = λ s at.
     let bytes = c.bytes-colours.result.now in
     let there = c.in-Some.is ∙ ap Some (sym c.bytes-colours.ensures) in
     let level = ap (λ (h : Head). h.level) c.head-level.ensures.work ∙ level_is {D = g.W.Disk} old s at in
-    raster_answered {D = g.W.Disk} old old s name bytes c.args.rows.now region.0 (colours_of_bytes bytes) _ region.1.got there (same_colours bytes)
-    (past_refused {D = g.W.Disk} old s at name (colours_of_bytes bytes) c.head-level.result.level c.quota_of.result c.quota_of.ensures level
+    raster_answered {D = g.W.Disk} old old s name bytes c.args.rows.now region.0 (cell_colours bytes) _ region.1.got there (same_colours bytes)
+    (past_refused {D = g.W.Disk} old s at name (cell_colours bytes) c.head-level.result.level c.quota_of.result c.quota_of.ensures level
     (c.has_past.ensures c.if-has_past.true))
 
 pub returns-in-Err-leaves_of_par-clause-goes_on : goal.returns-in-Err-leaves_of_par-clause-goes_on

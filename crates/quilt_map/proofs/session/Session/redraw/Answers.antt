@@ -1,6 +1,6 @@
 use Rattle.std.proofs.Common.{refl, sym, ◌∙◌}
 use Rattle.quilt_types.specs.Layers.{Region}
-use Rattle.quilt_map.specs.Making.{placed}
+use Rattle.quilt_map.specs.Making.{layer_placed}
 use Rattle.quilt_map.proofs.plans.Amends.{mid_at}
 use Rattle.quilt_map.proofs.answers.Answered.{has_number}
 use Rattle.quilt_map.proofs.answers.Asked.{if_ok, if_err}
@@ -40,7 +40,7 @@ returns-in-Ok-plan_redraw-clause-redrawn g c =
     let still = c.plan_redraw.ensures.still in
     let law = g.met.W.Disk.is_consistent book.world in
     let next = c.args.list.now.grid in
-    answered_from {D = g.W.Disk} old (with_book {D = g.W.Disk} old book) c.amend.new.self s (placed s name (Region next)) reply refl
+    answered_from {D = g.W.Disk} old (with_book {D = g.W.Disk} old book) c.amend.new.self s (layer_placed s name (Region next)) reply refl
     (p s (mid_at {D = g.W.Disk} old s at book still law) name c.args.number (Region next)
     (mid_amendment {D = g.W.Disk} old s at book still law name c.args.number grid is
     (λ n k. next) fits c.in-Ok-plan_redraw.edits c.in-Ok-plan_redraw.ensures.plan))) c.amend.ensures.amended

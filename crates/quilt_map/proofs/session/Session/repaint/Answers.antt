@@ -1,7 +1,7 @@
 use Rattle.std.proofs.Common.{refl}
 use Rattle.quilt_types.specs.Algebra.{painted}
 use Rattle.quilt_types.specs.Layers.{Region}
-use Rattle.quilt_map.specs.Making.{placed}
+use Rattle.quilt_map.specs.Making.{layer_placed}
 use Rattle.quilt_map.proofs.plans.Amends.{mid_at}
 use Rattle.quilt_map.proofs.answers.Answered.{has_number}
 use Rattle.quilt_map.proofs.answers.Asked.{if_ok, if_err}
@@ -30,7 +30,7 @@ returns-in-Ok-plan_paint-clause-painted g c =
     let still = c.plan_paint.ensures.still in
     let law = g.met.W.Disk.is_consistent book.world in
     let next = Region (painted s.last.level grid c.args.w c.args.c.0) in
-    answered_from {D = g.W.Disk} old (with_book {D = g.W.Disk} old book) c.amend.new.self s (placed s name next) reply refl
+    answered_from {D = g.W.Disk} old (with_book {D = g.W.Disk} old book) c.amend.new.self s (layer_placed s name next) reply refl
     (p s (mid_at {D = g.W.Disk} old s at book still law) name c.args.number next
     (mid_amendment {D = g.W.Disk} old s at book still law name c.args.number grid is (λ n k. painted n k c.args.w c.args.c.0)
     (painted_grid {D = g.W.Disk} old s at name c.args.number grid is c.args.w c.args.c.0 low)

@@ -5,7 +5,7 @@ use Rattle.quilt_words.specs.declared.command.Command.TheVariants as commands
 use Rattle.quilt_node.specs.declared.head.Head.{Head}
 use Rattle.quilt_journal.specs.Writing.{Writing}
 use Rattle.quilt_replies.specs.Answers.{Outcome, Refused, upgraded}
-use Rattle.quilt_map.specs.Steps.{Leaves}
+use Rattle.quilt_map.specs.Steps.{LeavesEdition}
 use Rattle.quilt_map.proofs.answers.Outcomes.{answered_same, leaves_last, can_upgrade, leaves_given, answered_given, upgrade_again, upgrade_full, upgrade_gives}
 use Rattle.quilt_map.proofs.answers.Outcomes.{not_equal, tells_edition}
 use Rattle.quilt_map.proofs.session.Session.upgrade.Goals as goal
@@ -43,8 +43,8 @@ returns-in-Err-clause-crash g c = λ s at.
     not_equal s.last.number 4294967295 (λ e. c.if-head.false (c.head-head.ensures.edition.0 ∙ sym at.last.head.number ∙ e)) in
     let can = can_upgrade {D = g.W.Disk} old c.raise.new.self s at one r.work r.last r.used r.free r.changed r.world r.goes_on r.told in
     let told : g.W.Disk.told c.raise.new.self.world ≡ g.W.Disk.told old.book.world = ap (λ w. g.W.Disk.told w) r.world in
-    subst (λ (o : Option Tale). Goes (Leaves s commands.Upgrade) o (g.W.Disk.told c.renew.new.self.book.world)) told
-    (leaves_given s commands.Upgrade (upgraded s) _ _ (ap (λ (o : Outcome). o.published) (upgrade_gives s one room)) (c.renew.ensures.crash s (upgraded s) can))
+    subst (λ (o : Option Tale). Goes (LeavesEdition s commands.Upgrade) o (g.W.Disk.told c.commit.new.self.book.world)) told
+    (leaves_given s commands.Upgrade (upgraded s) _ _ (ap (λ (o : Outcome). o.published) (upgrade_gives s one room)) (c.commit.ensures.crash s (upgraded s) can))
 
 pub returns-in-Err-clause-writes : goal.returns-in-Err-clause-writes
 returns-in-Err-clause-writes g c = λ s at.
@@ -56,11 +56,11 @@ returns-in-Err-clause-writes g c = λ s at.
     not_equal s.last.number 4294967295 (λ e. c.if-head.false (c.head-head.ensures.edition.0 ∙ sym at.last.head.number ∙ e)) in
     let can = can_upgrade {D = g.W.Disk} old c.raise.new.self s at one r.work r.last r.used r.free r.changed r.world r.goes_on r.told in
     let told : g.W.Disk.told c.raise.new.self.world ≡ g.W.Disk.told old.book.world = ap (λ w. g.W.Disk.told w) r.world in
-    subst (λ (o : Option Tale). Goes (Writing (18 * old.changes + 8)) o (g.W.Disk.told c.renew.new.self.book.world)) told
-    (c.renew.ensures.writes s (upgraded s) can)
+    subst (λ (o : Option Tale). Goes (Writing (18 * old.changes + 8)) o (g.W.Disk.told c.commit.new.self.book.world)) told
+    (c.commit.ensures.writes s (upgraded s) can)
 
-pub returns-in-Ok-renew-clause-crash : goal.returns-in-Ok-renew-clause-crash
-returns-in-Ok-renew-clause-crash g c = λ s at.
+pub returns-in-Ok-commit-clause-crash : goal.returns-in-Ok-commit-clause-crash
+returns-in-Ok-commit-clause-crash g c = λ s at.
     let old = c.args.self.now in
     let r = c.raise.ensures in
     let one : (s.last.format == 2) ≡ false =
@@ -69,11 +69,11 @@ returns-in-Ok-renew-clause-crash g c = λ s at.
     not_equal s.last.number 4294967295 (λ e. c.if-head.false (c.head-head.ensures.edition.0 ∙ sym at.last.head.number ∙ e)) in
     let can = can_upgrade {D = g.W.Disk} old c.raise.new.self s at one r.work r.last r.used r.free r.changed r.world r.goes_on r.told in
     let told : g.W.Disk.told c.raise.new.self.world ≡ g.W.Disk.told old.book.world = ap (λ w. g.W.Disk.told w) r.world in
-    subst (λ (o : Option Tale). Goes (Leaves s commands.Upgrade) o (g.W.Disk.told c.renew.new.self.book.world)) told
-    (leaves_given s commands.Upgrade (upgraded s) _ _ (ap (λ (o : Outcome). o.published) (upgrade_gives s one room)) (c.renew.ensures.crash s (upgraded s) can))
+    subst (λ (o : Option Tale). Goes (LeavesEdition s commands.Upgrade) o (g.W.Disk.told c.commit.new.self.book.world)) told
+    (leaves_given s commands.Upgrade (upgraded s) _ _ (ap (λ (o : Outcome). o.published) (upgrade_gives s one room)) (c.commit.ensures.crash s (upgraded s) can))
 
-pub returns-in-Ok-renew-clause-writes : goal.returns-in-Ok-renew-clause-writes
-returns-in-Ok-renew-clause-writes g c = λ s at.
+pub returns-in-Ok-commit-clause-writes : goal.returns-in-Ok-commit-clause-writes
+returns-in-Ok-commit-clause-writes g c = λ s at.
     let old = c.args.self.now in
     let r = c.raise.ensures in
     let one : (s.last.format == 2) ≡ false =
@@ -82,11 +82,11 @@ returns-in-Ok-renew-clause-writes g c = λ s at.
     not_equal s.last.number 4294967295 (λ e. c.if-head.false (c.head-head.ensures.edition.0 ∙ sym at.last.head.number ∙ e)) in
     let can = can_upgrade {D = g.W.Disk} old c.raise.new.self s at one r.work r.last r.used r.free r.changed r.world r.goes_on r.told in
     let told : g.W.Disk.told c.raise.new.self.world ≡ g.W.Disk.told old.book.world = ap (λ w. g.W.Disk.told w) r.world in
-    subst (λ (o : Option Tale). Goes (Writing (18 * old.changes + 8)) o (g.W.Disk.told c.renew.new.self.book.world)) told
-    (c.renew.ensures.writes s (upgraded s) can)
+    subst (λ (o : Option Tale). Goes (Writing (18 * old.changes + 8)) o (g.W.Disk.told c.commit.new.self.book.world)) told
+    (c.commit.ensures.writes s (upgraded s) can)
 
-pub returns-in-Ok-renew-clause-answer : goal.returns-in-Ok-renew-clause-answer
-returns-in-Ok-renew-clause-answer g c = λ s at.
+pub returns-in-Ok-commit-clause-answer : goal.returns-in-Ok-commit-clause-answer
+returns-in-Ok-commit-clause-answer g c = λ s at.
     let old = c.args.self.now in
     let r = c.raise.ensures in
     let one : (s.last.format == 2) ≡ false =
@@ -95,7 +95,7 @@ returns-in-Ok-renew-clause-answer g c = λ s at.
     not_equal s.last.number 4294967295 (λ e. c.if-head.false (c.head-head.ensures.edition.0 ∙ sym at.last.head.number ∙ e)) in
     let can = can_upgrade {D = g.W.Disk} old c.raise.new.self s at one r.work r.last r.used r.free r.changed r.world r.goes_on r.told in
     let told : g.W.Disk.told c.raise.new.self.world ≡ g.W.Disk.told old.book.world = ap (λ w. g.W.Disk.told w) r.world in
-    answered_given {D = g.W.Disk} s commands.Upgrade (upgraded s) old c.renew.new.self _ (upgrade_gives s one room)
+    answered_given {D = g.W.Disk} s commands.Upgrade (upgraded s) old c.commit.new.self _ (upgrade_gives s one room)
     (tells_edition s (upgraded s) c.in-Ok.text (c.head-head.result.edition + 1)
     (ap (λ k. k + 1) (c.head-head.ensures.edition.0 ∙ sym at.last.head.number)) c.in-Ok.ensures)
-    (c.in-Ok-renew.ensures.renewed s (upgraded s) can)
+    (c.in-Ok-commit.ensures.renewed s (upgraded s) can)

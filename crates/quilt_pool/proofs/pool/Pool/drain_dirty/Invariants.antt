@@ -5,7 +5,7 @@ use Rattle.quilt_world.specs.Doors.{KeepsDevice}
 use Rattle.quilt_world.specs.Tale.{Goes}
 use Rattle.quilt_journal.specs.Writing.{Writing}
 use Rattle.quilt_pool.specs.Entries.{frame_at, bytes_or, is_dirty, is_marked, AreBelow}
-use Rattle.quilt_pool.specs.Keeping.{Keeps}
+use Rattle.quilt_pool.specs.Keeping.{KeepsWork}
 use Rattle.quilt_pool.proofs.pool.Pool.drain_dirty.Given as goal
 
 abbrev pub invariant-bits : goal.invariant-bits
@@ -24,7 +24,7 @@ invariant-bits g l = record {
   marked : (i : ℕ) → is_marked l.self.table.entries l.journal.changed i ≡ is_marked l.initial.self.table.entries l.initial.journal.changed i;
   drained : (i : ℕ) → i < l.from → is_dirty l.self.table.entries i ≡ false;
   others : (i : ℕ) → l.from ≤ i → is_dirty l.self.table.entries i ≡ is_dirty l.initial.self.table.entries i;
-  kept : Goes (Keeps l.initial.journal.pages l.initial.self.table.entries l.self.table.entries l.initial.journal.changed l.journal.changed)
+  kept : Goes (KeepsWork l.initial.journal.pages l.initial.self.table.entries l.self.table.entries l.initial.journal.changed l.journal.changed)
       (g.D.Disk.told l.initial.disk) (g.D.Disk.told l.disk);
   writes : Goes (Writing (length (filter (is_dirty l.initial.self.table.entries) (range_with_len 1 (l.from - 1)))))
       (g.D.Disk.told l.initial.disk) (g.D.Disk.told l.disk);

@@ -1,9 +1,9 @@
 use Rattle.std.proofs.Common.{◌+◌, ◌*◌, ◌<◌, ◌≤◌, cond, nat_eq, true, Ok, Err, List, ℕ, ap, subst, arith, refl, sym, ◌∙◌}
 use Rattle.quilt_world.proofs.Told.{goes_weaker}
-use Rattle.quilt_pool.specs.Entries.{AreBelow, edited}
+use Rattle.quilt_pool.specs.Entries.{AreBelow, entry_edited}
 use Rattle.quilt_pool.proofs.Lent.{kept_bytes, there_marked, below_marked, goes_marked, bytes_marked, below_edited, goes_edited, marked_edited, keys_edited}
 use Rattle.quilt_store.specs.Store.{HasStoreCause, Touches, first_eight}
-use Rattle.quilt_edition.specs.Keeping.{marked_count, Moves, is_free}
+use Rattle.quilt_edition.specs.Keeping.{marked_count, KeepsPublished, is_free}
 use Rattle.quilt_edition.specs.Laws.{later_same}
 use Rattle.quilt_edition.proofs.Counts.{marked_kept, marked_more}
 use Rattle.quilt_edition.proofs.Lent.{memory_cause, cause_err, cause_ok, reads_same, reads_same_more, reads_more}
@@ -30,7 +30,7 @@ invariant_of-self g c =
       below = subst (λ n. AreBelow n c.bring.new.self.table.entries) (sym pages) c.bring.ensures.below;
       kept = kept_moves s.journal j s.pool.table.entries c.bring.new.self.table.entries s.last (sym c.state.ensures ∙ c.in-Idle.is)
           pages c.bring.ensures.journal.1 _ _ s.kept
-          (goes_weaker _ (Moves s.journal.pages c.bring.new.self.table.entries c.bring.new.journal.changed) _ _ c.bring.ensures.kept
+          (goes_weaker _ (KeepsPublished s.journal.pages c.bring.new.self.table.entries c.bring.new.journal.changed) _ _ c.bring.ensures.kept
           (of_keeps s.journal.pages s.pool.table.entries c.bring.new.self.table.entries s.journal.changed c.bring.new.journal.changed));
       published = subst (λ n. IsHead n s.last) (sym pages) s.published;
       next = subst (λ n. IsHead n s.work) (sym pages) s.next;
@@ -59,7 +59,7 @@ invariant_of-self-2 g c =
           (subst (λ n. AreBelow n t.entries) (sym pages) c.bring.ensures.below);
       kept = kept_moves s.journal j s.pool.table.entries u.entries s.last (sym c.state.ensures ∙ c.in-Idle.is)
           pages c.bring.ensures.journal.1 _ _ s.kept
-          (goes_weaker _ (Moves s.journal.pages u.entries j.changed) _ _
+          (goes_weaker _ (KeepsPublished s.journal.pages u.entries j.changed) _ _
           (goes_marked t u c.args.page there marked s.journal.pages s.pool.table.entries s.journal.changed j.changed _ _ c.bring.ensures.kept)
           (of_changes s.journal.pages c.args.page bytes s.pool.table.entries u.entries s.journal.changed j.changed));
       published = subst (λ n. IsHead n s.last) (sym pages) s.published;
@@ -110,7 +110,7 @@ returns-in-Err g c =
             c.bring.ensures.device.door,
             later_moves s.journal j s.pool.table.entries c.bring.new.self.table.entries s.last idle c.bring.ensures.journal.0
                 c.bring.ensures.journal.1 _ _ _ _ (g.met.W.Disk.is_consistent s.world) (g.met.W.Disk.is_consistent c.bring.new.disk) s.kept
-                (goes_weaker _ (Moves s.journal.pages c.bring.new.self.table.entries j.changed) _ _ c.bring.ensures.kept
+                (goes_weaker _ (KeepsPublished s.journal.pages c.bring.new.self.table.entries j.changed) _ _ c.bring.ensures.kept
                 (of_keeps s.journal.pages s.pool.table.entries c.bring.new.self.table.entries s.journal.changed j.changed)),
           ),
           c.bring.ensures.journal.0,
@@ -143,19 +143,19 @@ returns g c =
             c.bring.ensures.device.door,
             later_moves s.journal j s.pool.table.entries c.bring.new.self.table.entries s.last idle c.bring.ensures.journal.0
                 c.bring.ensures.journal.1 _ _ _ _ (g.met.W.Disk.is_consistent s.world) (g.met.W.Disk.is_consistent c.bring.new.disk) s.kept
-                (goes_weaker _ (Moves s.journal.pages c.bring.new.self.table.entries j.changed) _ _ c.bring.ensures.kept
+                (goes_weaker _ (KeepsPublished s.journal.pages c.bring.new.self.table.entries j.changed) _ _ c.bring.ensures.kept
                 (of_keeps s.journal.pages s.pool.table.entries c.bring.new.self.table.entries s.journal.changed j.changed)),
           ),
           c.bring.ensures.journal.0,
           ap (λ n. is_free n s.free) c.bring.ensures.journal.0,
-          told_set s.journal j s.pool.table.entries (edited ms c.args.page w) s.last idle c.bring.ensures.journal.0 c.bring.ensures.journal.1
+          told_set s.journal j s.pool.table.entries (entry_edited ms c.args.page w) s.last idle c.bring.ensures.journal.0 c.bring.ensures.journal.1
               c.args.page w _ _ c.requires.page.1
               (goes_edited c.bring.new.self.table c.mark.new.self.table c.args.page c.in-Ok.ensures.there c.mark.ensures.marked w s.journal.pages s.pool.table.entries s.journal.changed j.changed _ _ c.bring.ensures.kept),
           ap first_eight (keys_edited c.bring.new.self.table c.mark.new.self.table c.args.page c.in-Ok.ensures.there c.mark.ensures.marked w) ∙ c.in-Ok.ensures.touched,
           reads_more _ _ c.bring.ensures.reads,
-          subst (λ n. marked_count n (edited ms c.args.page w) j.changed ≤ marked_count s.journal.pages s.pool.table.entries s.journal.changed + 1)
+          subst (λ n. marked_count n (entry_edited ms c.args.page w) j.changed ≤ marked_count s.journal.pages s.pool.table.entries s.journal.changed + 1)
               (sym c.bring.ensures.journal.0)
-              (marked_more s.journal.pages s.pool.table.entries (edited ms c.args.page w) s.journal.changed j.changed c.args.page
+              (marked_more s.journal.pages s.pool.table.entries (entry_edited ms c.args.page w) s.journal.changed j.changed c.args.page
               (λ i. marked_edited c.bring.new.self.table c.mark.new.self.table c.args.page c.in-Ok.ensures.there c.mark.ensures.marked w j.changed i
               ∙ ap (λ b. cond (nat_eq i c.args.page) true b) (c.bring.ensures.marked i))),
         )),
@@ -190,10 +190,10 @@ invariant_of-self-lent g c = λ w.
                   (c.requires.page.0, subst (λ n. c.args.page < n) (sym pages) c.requires.page.1)
                   (subst (λ n. AreBelow n es) (sym pages) c.bring.ensures.below),
               (
-                kept_moves s.journal j s.pool.table.entries (edited ms c.args.page w) s.last idle pages c.bring.ensures.journal.1 _ _ s.kept
-                    (goes_weaker _ (Moves s.journal.pages (edited ms c.args.page w) j.changed) _ _
+                kept_moves s.journal j s.pool.table.entries (entry_edited ms c.args.page w) s.last idle pages c.bring.ensures.journal.1 _ _ s.kept
+                    (goes_weaker _ (KeepsPublished s.journal.pages (entry_edited ms c.args.page w) j.changed) _ _
                     (goes_edited c.bring.new.self.table c.mark.new.self.table c.args.page c.in-Ok.ensures.there c.mark.ensures.marked w s.journal.pages s.pool.table.entries s.journal.changed j.changed _ _ c.bring.ensures.kept)
-                    (of_changes s.journal.pages c.args.page w s.pool.table.entries (edited ms c.args.page w) s.journal.changed j.changed)),
+                    (of_changes s.journal.pages c.args.page w s.pool.table.entries (entry_edited ms c.args.page w) s.journal.changed j.changed)),
                 (
                   subst (λ n. IsHead n s.last) (sym pages) s.published,
                   (

@@ -1,9 +1,9 @@
 use Rattle.std.proofs.Common.{◌+◌, ◌*◌, ◌≤◌, Ok, Err, List, ℕ, ap, subst, arith, refl, sym, ◌∙◌}
 use Rattle.quilt_world.proofs.Told.{goes_weaker}
-use Rattle.quilt_pool.specs.Entries.{AreBelow, edited}
+use Rattle.quilt_pool.specs.Entries.{AreBelow, entry_edited}
 use Rattle.quilt_pool.proofs.Lent.{below_edited, goes_edited, marked_edited, keys_edited}
 use Rattle.quilt_store.specs.Store.{HasStoreCause, Touches, first_eight}
-use Rattle.quilt_edition.specs.Keeping.{marked_count, Moves, is_free}
+use Rattle.quilt_edition.specs.Keeping.{marked_count, KeepsPublished, is_free}
 use Rattle.quilt_edition.specs.Laws.{later_same}
 use Rattle.quilt_edition.proofs.Counts.{marked_kept, marked_more}
 use Rattle.quilt_edition.proofs.Lent.{memory_cause, cause_err, cause_ok, reads_same, reads_same_more, reads_more}
@@ -30,7 +30,7 @@ invariant_of-self g c =
       below = subst (λ n. AreBelow n c.bring.new.self.table.entries) (sym pages) c.bring.ensures.below;
       kept = kept_moves s.journal j s.pool.table.entries c.bring.new.self.table.entries s.last (sym c.state.ensures ∙ c.in-Idle.is)
           pages c.bring.ensures.journal.1 _ _ s.kept
-          (goes_weaker _ (Moves s.journal.pages c.bring.new.self.table.entries c.bring.new.journal.changed) _ _ c.bring.ensures.kept
+          (goes_weaker _ (KeepsPublished s.journal.pages c.bring.new.self.table.entries c.bring.new.journal.changed) _ _ c.bring.ensures.kept
           (of_keeps s.journal.pages s.pool.table.entries c.bring.new.self.table.entries s.journal.changed c.bring.new.journal.changed));
       published = subst (λ n. IsHead n s.last) (sym pages) s.published;
       next = subst (λ n. IsHead n s.work) (sym pages) s.next;
@@ -78,7 +78,7 @@ returns-in-Err g c =
             c.bring.ensures.device.door,
             later_moves s.journal j s.pool.table.entries c.bring.new.self.table.entries s.last idle c.bring.ensures.journal.0
                 c.bring.ensures.journal.1 _ _ _ _ (g.met.W.Disk.is_consistent s.world) (g.met.W.Disk.is_consistent c.bring.new.disk) s.kept
-                (goes_weaker _ (Moves s.journal.pages c.bring.new.self.table.entries j.changed) _ _ c.bring.ensures.kept
+                (goes_weaker _ (KeepsPublished s.journal.pages c.bring.new.self.table.entries j.changed) _ _ c.bring.ensures.kept
                 (of_keeps s.journal.pages s.pool.table.entries c.bring.new.self.table.entries s.journal.changed j.changed)),
           ),
           c.bring.ensures.journal.0,
@@ -113,7 +113,7 @@ returns g c =
             c.bring.ensures.device.door,
             later_moves s.journal j s.pool.table.entries c.bring.new.self.table.entries s.last idle c.bring.ensures.journal.0
                 c.bring.ensures.journal.1 _ _ _ _ (g.met.W.Disk.is_consistent s.world) (g.met.W.Disk.is_consistent c.bring.new.disk) s.kept
-                (goes_weaker _ (Moves s.journal.pages c.bring.new.self.table.entries j.changed) _ _ c.bring.ensures.kept
+                (goes_weaker _ (KeepsPublished s.journal.pages c.bring.new.self.table.entries j.changed) _ _ c.bring.ensures.kept
                 (of_keeps s.journal.pages s.pool.table.entries c.bring.new.self.table.entries s.journal.changed j.changed)),
           ),
           c.bring.ensures.journal.0,

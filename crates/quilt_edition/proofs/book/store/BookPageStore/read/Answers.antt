@@ -1,7 +1,7 @@
 use Rattle.std.proofs.Common.{◌+◌, ◌*◌, ◌≤◌, ap, subst, refl, sym, ◌∙◌}
 use Rattle.quilt_world.proofs.Told.{goes_weaker}
 use Rattle.quilt_pool.specs.Entries.{AreBelow}
-use Rattle.quilt_edition.specs.Keeping.{marked_count, Moves}
+use Rattle.quilt_edition.specs.Keeping.{marked_count, KeepsPublished}
 use Rattle.quilt_edition.specs.Laws.{later_same}
 use Rattle.quilt_edition.proofs.Counts.{marked_kept}
 use Rattle.quilt_edition.proofs.Steps.{work_idle, of_keeps, later_moves, kept_moves, told_same, told_bytes, key_found, tells_reads}
@@ -30,7 +30,7 @@ invariant_of-self g c =
       below = subst (λ n. AreBelow n c.read.new.self.table.entries) (sym pages) c.read.ensures.below;
       kept = kept_moves s.journal j s.pool.table.entries c.read.new.self.table.entries s.last (sym c.state.ensures ∙ c.in-Idle.is)
           pages c.read.ensures.journal.1 _ _ s.kept
-          (goes_weaker _ (Moves s.journal.pages c.read.new.self.table.entries c.read.new.journal.changed) _ _ c.read.ensures.kept
+          (goes_weaker _ (KeepsPublished s.journal.pages c.read.new.self.table.entries c.read.new.journal.changed) _ _ c.read.ensures.kept
           (of_keeps s.journal.pages s.pool.table.entries c.read.new.self.table.entries s.journal.changed c.read.new.journal.changed));
       published = subst (λ n. IsHead n s.last) (sym pages) s.published;
       next = subst (λ n. IsHead n s.work) (sym pages) s.next;
@@ -49,7 +49,7 @@ returns-in_err-read-clause-later g c =
       c.read.ensures.device.door,
       later_moves s.journal c.read.new.journal s.pool.table.entries c.read.new.self.table.entries s.last (sym c.state.ensures ∙ c.in-Idle.is)
           c.read.ensures.journal.0 c.read.ensures.journal.1 _ _ _ _ (g.met.W.Disk.is_consistent s.world) (g.met.W.Disk.is_consistent c.read.new.disk)
-          s.kept (goes_weaker _ (Moves s.journal.pages c.read.new.self.table.entries c.read.new.journal.changed) _ _ c.read.ensures.kept
+          s.kept (goes_weaker _ (KeepsPublished s.journal.pages c.read.new.self.table.entries c.read.new.journal.changed) _ _ c.read.ensures.kept
           (of_keeps s.journal.pages s.pool.table.entries c.read.new.self.table.entries s.journal.changed c.read.new.journal.changed)),
     )
 
@@ -62,7 +62,7 @@ returns-clause-later g c =
       c.read.ensures.device.door,
       later_moves s.journal c.read.new.journal s.pool.table.entries c.read.new.self.table.entries s.last (sym c.state.ensures ∙ c.in-Idle.is)
           c.read.ensures.journal.0 c.read.ensures.journal.1 _ _ _ _ (g.met.W.Disk.is_consistent s.world) (g.met.W.Disk.is_consistent c.read.new.disk)
-          s.kept (goes_weaker _ (Moves s.journal.pages c.read.new.self.table.entries c.read.new.journal.changed) _ _ c.read.ensures.kept
+          s.kept (goes_weaker _ (KeepsPublished s.journal.pages c.read.new.self.table.entries c.read.new.journal.changed) _ _ c.read.ensures.kept
           (of_keeps s.journal.pages s.pool.table.entries c.read.new.self.table.entries s.journal.changed c.read.new.journal.changed)),
     )
 

@@ -1,7 +1,7 @@
 use Rattle.std.proofs.Common.{◌+◌, ◌*◌, ◌≤◌, ap, subst, arith, refl, sym, ◌∙◌}
 use Rattle.quilt_world.proofs.Told.{goes_weaker}
 use Rattle.quilt_pool.specs.Entries.{AreBelow}
-use Rattle.quilt_edition.specs.Keeping.{marked_count, Moves}
+use Rattle.quilt_edition.specs.Keeping.{marked_count, KeepsPublished}
 use Rattle.quilt_edition.specs.Laws.{later_same}
 use Rattle.quilt_edition.proofs.Counts.{marked_kept, marked_more}
 use Rattle.quilt_edition.proofs.Steps.{work_idle, of_keeps, of_changes, either, later_moves, kept_moves, told_set}
@@ -30,10 +30,10 @@ invariant_of-self g c =
       below = subst (λ n. AreBelow n c.write.new.self.table.entries) (sym pages) c.write.ensures.below;
       kept = kept_moves s.journal j s.pool.table.entries c.write.new.self.table.entries s.last (sym c.state.ensures ∙ c.in-Idle.is)
           pages c.write.ensures.journal.1 _ _ s.kept (either c.write.result _ _ _ c.write.ensures.changes c.write.ensures.kept
-          (λ changes. goes_weaker _ (Moves s.journal.pages c.write.new.self.table.entries c.write.new.journal.changed) _ _ changes
+          (λ changes. goes_weaker _ (KeepsPublished s.journal.pages c.write.new.self.table.entries c.write.new.journal.changed) _ _ changes
           (of_changes s.journal.pages c.args.page c.args.bytes.now s.pool.table.entries c.write.new.self.table.entries s.journal.changed
           c.write.new.journal.changed))
-          (λ keeps. goes_weaker _ (Moves s.journal.pages c.write.new.self.table.entries c.write.new.journal.changed) _ _ keeps
+          (λ keeps. goes_weaker _ (KeepsPublished s.journal.pages c.write.new.self.table.entries c.write.new.journal.changed) _ _ keeps
           (of_keeps s.journal.pages s.pool.table.entries c.write.new.self.table.entries s.journal.changed c.write.new.journal.changed)));
       published = subst (λ n. IsHead n s.last) (sym pages) s.published;
       next = subst (λ n. IsHead n s.work) (sym pages) s.next;
@@ -53,7 +53,7 @@ returns-in_err-write-clause-later g c =
       later_moves s.journal c.write.new.journal s.pool.table.entries c.write.new.self.table.entries s.last (sym c.state.ensures ∙ c.in-Idle.is)
           c.write.ensures.journal.0 c.write.ensures.journal.1 _ _ _ _ (g.met.W.Disk.is_consistent s.world)
           (g.met.W.Disk.is_consistent c.write.new.disk) s.kept
-          (goes_weaker _ (Moves s.journal.pages c.write.new.self.table.entries c.write.new.journal.changed) _ _ c.in_err-write.ensures.kept
+          (goes_weaker _ (KeepsPublished s.journal.pages c.write.new.self.table.entries c.write.new.journal.changed) _ _ c.in_err-write.ensures.kept
           (of_keeps s.journal.pages s.pool.table.entries c.write.new.self.table.entries s.journal.changed c.write.new.journal.changed)),
     )
 
@@ -67,7 +67,7 @@ returns-clause-later g c =
       later_moves s.journal c.write.new.journal s.pool.table.entries c.write.new.self.table.entries s.last (sym c.state.ensures ∙ c.in-Idle.is)
           c.write.ensures.journal.0 c.write.ensures.journal.1 _ _ _ _ (g.met.W.Disk.is_consistent s.world)
           (g.met.W.Disk.is_consistent c.write.new.disk) s.kept
-          (goes_weaker _ (Moves s.journal.pages c.write.new.self.table.entries c.write.new.journal.changed) _ _ c.in_ok-write.ensures.changes
+          (goes_weaker _ (KeepsPublished s.journal.pages c.write.new.self.table.entries c.write.new.journal.changed) _ _ c.in_ok-write.ensures.changes
           (of_changes s.journal.pages c.args.page c.args.bytes.now s.pool.table.entries c.write.new.self.table.entries s.journal.changed
           c.write.new.journal.changed)),
     )

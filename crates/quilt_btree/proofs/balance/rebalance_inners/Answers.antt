@@ -1,0 +1,93 @@
+use Rattle.std.proofs.Common.{◌∙◌}
+use Rattle.std.proofs.lemmas.Result.{err_from_is_err_and}
+use Rattle.quilt_btree.proofs.subtrees.Descending.{along_told}
+use Rattle.quilt_btree.proofs.removals.LeafRebalances.{left_spells, right_spells}
+use Rattle.quilt_btree.proofs.removals.InnerRebalances.{inners_joined, inners_separated, inners_taken, not_inners}
+use Rattle.quilt_btree.proofs.balance.rebalance_inners.Goals as goal
+
+pub returns-in_err-first-clause-sound : goal.returns-in_err-first-clause-sound
+returns-in_err-first-clause-sound g c =
+    let p = err_from_is_err_and c.from_residual.result c.from_residual.ensures.1 in
+    rw (p.1, p.2) (λ b rs used m. c.in_err-first.ensures.sound m.first
+    (left_spells (g.S.PageStore.told c.args.store.now) (g.S.PageStore.free c.args.store.now) c.args.height c.args.left c.args.key.now c.args.right b rs used m))
+
+pub returns-in_err-rest-clause-sound : goal.returns-in_err-rest-clause-sound
+returns-in_err-rest-clause-sound g c =
+    let p = err_from_is_err_and c.from_residual-in_err-rest.result c.from_residual-in_err-rest.ensures.1 in
+    rw (p.1, p.2) (λ b rs used m. c.in_err-rest.ensures.sound m.rest
+    (along_told (g.S.PageStore.told c.args.store.now) (g.S.PageStore.told c.read_inner.new.store) c.args.right c.args.height m.rest
+    c.in_ok-first.ensures.looks.left.told
+    (right_spells (g.S.PageStore.told c.args.store.now) (g.S.PageStore.free c.args.store.now) c.args.height c.args.left c.args.key.now
+    c.args.right b rs used m)))
+
+pub returns-then-not-inners_ascend-clause-sound : goal.returns-then-not-inners_ascend-clause-sound
+returns-then-not-inners_ascend-clause-sound g c = λ b rs used m page e.
+    not_inners (g.S.PageStore.told c.args.store.now) (g.S.PageStore.free c.args.store.now) c.args.height c.args.left c.args.key.now c.args.right b rs
+    used
+    c.in_ok-first.first c.in_ok-rest.rest c.inners_ascend.result c.requires.height c.in_ok-first.ensures.inner
+    (λ pages t. c.in_ok-rest.ensures.inner pages (c.in_ok-first.ensures.looks.left.told ∙ t)) c.inners_ascend.ensures c.if-not-inners_ascend.true m
+
+pub returns-in-Ok-clause-rebalanced : goal.returns-in-Ok-clause-rebalanced
+returns-in-Ok-clause-rebalanced g c = λ b rs used m.
+    inners_joined (g.S.PageStore.told c.args.store.now) (g.S.PageStore.told c.read_inner-2.new.store) (g.S.PageStore.told c.write_and_give.new.store)
+    (g.S.PageStore.free c.args.store.now) (g.S.PageStore.free c.write_and_give.new.store) (g.S.PageStore.size c.args.store.now) c.args.height
+    c.args.left c.args.key.now c.args.right b rs used c.in_ok-first.first c.in_ok-rest.rest c.bytes.result.now
+    (g.S.PageStore.free c.read_inner-2.new.store) c.join.new.self (record {
+      above = c.requires.height;
+      reads = c.in_ok-first.ensures.inner;
+      also = λ pages t. c.in_ok-rest.ensures.inner pages (c.in_ok-first.ensures.looks.left.told ∙ t);
+      is_height = c.in_ok-first.ensures.height;
+      inside = c.requires.left.1;
+      many = g.met.S.PageStore.as_many c.args.store.now;
+      children = c.in_ok-first.ensures.children;
+      children_too = rw c.in_ok-first.ensures.looks.left.size at c.in_ok-rest.ensures.children;
+      all_is = c.join.ensures;
+      written = c.bytes.ensures.inner;
+      is_mid = c.in_ok-rest.ensures.looks.left.told ∙ c.in_ok-first.ensures.looks.left.told;
+      tells = c.in-Ok.ensures.told;
+      is_free = c.in_ok-rest.ensures.looks.left.free ∙ c.in_ok-first.ensures.looks.left.free;
+      frees = c.in-Ok.ensures.free;
+    }) m
+
+pub returns-in-Err-clause-sound : goal.returns-in-Err-clause-sound
+returns-in-Err-clause-sound g c = λ b rs used m.
+    let t = inners_taken (g.S.PageStore.told c.args.store.now) (g.S.PageStore.free c.args.store.now) c.args.height c.args.left c.args.key.now
+    c.args.right b rs used c.in_ok-first.first c.in_ok-rest.rest (g.S.PageStore.free c.read_inner-2.new.store) c.requires.height
+    c.in_ok-first.ensures.inner (λ pages t. c.in_ok-rest.ensures.inner pages (c.in_ok-first.ensures.looks.left.told ∙ t))
+    (c.in_ok-rest.ensures.looks.left.free ∙ c.in_ok-first.ensures.looks.left.free) m in
+    c.in-Err.ensures.sound t.0 t.1
+
+pub returns-in-Err-write_both-clause-sound : goal.returns-in-Err-write_both-clause-sound
+returns-in-Err-write_both-clause-sound g c = λ b rs used m.
+    let t = inners_taken (g.S.PageStore.told c.args.store.now) (g.S.PageStore.free c.args.store.now) c.args.height c.args.left c.args.key.now
+    c.args.right b rs used c.in_ok-first.first c.in_ok-rest.rest (g.S.PageStore.free c.read_inner-2.new.store) c.requires.height
+    c.in_ok-first.ensures.inner (λ pages t. c.in_ok-rest.ensures.inner pages (c.in_ok-first.ensures.looks.left.told ∙ t))
+    (c.in_ok-rest.ensures.looks.left.free ∙ c.in_ok-first.ensures.looks.left.free) m in
+    c.in-Err-write_both.ensures.sound t.0 t.1
+
+pub returns-in-Ok-write_both-clause-rebalanced : goal.returns-in-Ok-write_both-clause-rebalanced
+returns-in-Ok-write_both-clause-rebalanced g c = λ b rs used m.
+    inners_separated (g.S.PageStore.told c.args.store.now) (g.S.PageStore.told c.read_inner-2.new.store) (g.S.PageStore.told c.write_both.new.store)
+    (g.S.PageStore.free c.args.store.now) (g.S.PageStore.free c.write_both.new.store) (g.S.PageStore.size c.args.store.now) c.args.height c.args.left
+    c.args.key.now c.args.right b rs used c.in_ok-first.first c.in_ok-rest.rest c.bytes-2.result.now c.share_children-separator.new.left
+    c.share_children-separator.new.right c.share_children-separator.result c.bytes-3.result.now (record {
+      above = c.requires.height;
+      reads = c.in_ok-first.ensures.inner;
+      also = λ pages t. c.in_ok-rest.ensures.inner pages (c.in_ok-first.ensures.looks.left.told ∙ t);
+      is_height = c.in_ok-first.ensures.height;
+      inside = c.requires.left.1;
+      inside_too = c.requires.right.1;
+      many = g.met.S.PageStore.as_many c.args.store.now;
+      children_are = c.in_ok-first.ensures.children;
+      children_are_too = rw c.in_ok-first.ensures.looks.left.size at c.in_ok-rest.ensures.children;
+      children = c.share_children-separator.ensures.children;
+      keys = c.share_children-separator.ensures.keys;
+      heights = c.share_children-separator.ensures.heights;
+      enough = c.share_children-separator.ensures.enough;
+      between = c.bytes-2.ensures.is.between;
+      written = c.bytes-2.ensures.inner;
+      written_too = c.bytes-3.ensures.inner;
+      is_mid = c.in_ok-rest.ensures.looks.left.told ∙ c.in_ok-first.ensures.looks.left.told;
+      tells = c.in-Ok-write_both.ensures.told;
+      frees = c.in-Ok-write_both.ensures.free ∙ c.in_ok-rest.ensures.looks.left.free ∙ c.in_ok-first.ensures.looks.left.free;
+    }) m

@@ -1,4 +1,0 @@
-use Rattle.quilt_btree.proofs.inserting.+insert_under.Given as goal
-
-abbrev pub decreases-insert_under : goal.decreases-insert_under
-decreases-insert_under g l = l.height

@@ -1,0 +1,50 @@
+use Rattle.std.specs.Prelude.{slice_get}
+use Rattle.std.proofs.Common.{◌≡◌, List, length, refl, Some, take, drop, ◌∙◌, ap, subst, arith}
+use Rattle.std.specs.List.{insert}
+use Rattle.quilt_record.specs.declared.record.Record.{Record}
+use Rattle.quilt_node.specs.Nodes.{IsGap}
+use Rattle.quilt_btree.proofs.growth.LeafGrowth.{gap_ascends, leaf_done, leaf_split}
+use Rattle.quilt_btree.proofs.insertion.put_record.Goals as goal
+
+pub insert-requires-clause-order : goal.insert-requires-clause-order
+insert-requires-clause-order g c = gap_ascends c.args.r.now c.args.leaf.now c.args.i c.len.ensures.is.ascends c.requires.place
+
+pub returns-in-Ok-clause-put : goal.returns-in-Ok-clause-put
+returns-in-Ok-clause-put g c is_root b rs used same can =
+    leaf_done (g.S.PageStore.told c.args.store.now) (g.S.PageStore.told c.write_page.new.store) (g.S.PageStore.free c.args.store.now)
+    (g.S.PageStore.free c.write_page.new.store) (g.S.PageStore.size c.args.store.now) c.args.page c.args.i c.args.r.now is_root b rs used
+    c.bytes.result.now
+    (record {
+      inside = c.requires.page.1;
+      many = g.met.S.PageStore.as_many c.args.store.now;
+      gap = subst (λ (l : List Record). IsGap c.args.r.now.key l c.args.i) same c.requires.place;
+    })
+    (c.bytes.ensures.leaf ∙ ap Some (c.insert.ensures ∙ ap (λ (l : List Record). insert l c.args.i c.args.r.now) same))
+    c.in-Ok.ensures.told c.in-Ok.ensures.free can
+
+pub insert_split-right-requires-clause-order : goal.insert_split-right-requires-clause-order
+insert_split-right-requires-clause-order g c = gap_ascends c.args.r.now c.args.leaf.now c.args.i c.len.ensures.is.ascends c.requires.place
+
+pub returns-in-Ok-write_split-clause-put : goal.returns-in-Ok-write_split-clause-put
+returns-in-Ok-write_split-clause-put g c is_root b rs used same can =
+    let e = c.len.ensures.length in
+    let r = c.len.ensures.range in
+    let f = c.if-len-lt-MOST_RECORDS.false in
+    leaf_split (g.S.PageStore.told c.write_split.new.store)
+    c.args.i c.args.r.now c.bytes-2.result.now c.bytes-3.result.now c.rec.result.key c.rec.result
+    (record {
+      inside = c.requires.page.1;
+      many = g.met.S.PageStore.as_many c.args.store.now;
+      gap = subst (λ (l : List Record). IsGap c.args.r.now.key l c.args.i) same c.requires.place;
+    })
+    (record {
+      full = subst (λ (l : List Record). length l ≡ 144) same (omega arith);
+      is_left = c.bytes-2.ensures.leaf ∙ ap Some
+          (c.insert_split-right.ensures.left ∙ ap (λ (l : List Record). take 72 (insert l c.args.i c.args.r.now)) same);
+      is_right =
+          c.bytes-3.ensures.leaf ∙ ap Some (c.insert_split-right.ensures.right ∙ ap (λ (l : List Record). drop 72 (insert l c.args.i c.args.r.now)) same);
+      begins = subst (λ (l : List Record). slice_get l 0 ≡ Some c.rec.result)
+          (c.insert_split-right.ensures.right ∙ ap (λ (l : List Record). drop 72 (insert l c.args.i c.args.r.now)) same) c.rec.ensures;
+      is_key = refl;
+    })
+    c.in-Ok-write_split.ensures.page.1 c.in-Ok-write_split.ensures.free c.in-Ok-write_split.ensures.taken c.in-Ok-write_split.ensures.told can

@@ -1,0 +1,23 @@
+use Rattle.std.proofs.Common.{arith}
+use Rattle.quilt_btree.proofs.removals.Drops.{dropped_written, dropped_many}
+use Rattle.quilt_btree.proofs.removal.drop_child.Goals as goal
+
+pub returns-then-left-lt-LEAST_CHILDREN-clause-dropped : goal.returns-then-left-lt-LEAST_CHILDREN-clause-dropped
+returns-then-left-lt-LEAST_CHILDREN-clause-dropped g c =
+    let m = dropped_many c.args.inner.now c.args.j c.remove.ensures c.requires.place
+    c.len.ensures.length c.len.ensures.keys c.len-left.ensures.length in (
+      let h = c.if-left-lt-LEAST_CHILDREN.true in omega arith,
+      dropped_written (g.S.PageStore.told c.args.store.now) (g.S.PageStore.told c.write_page.new.store) (g.S.PageStore.size c.args.store.now)
+          c.args.page c.args.j c.args.inner.now c.remove.new.self c.bytes.result.now
+          (g.met.S.PageStore.as_many c.args.store.now) c.in-Ok.ensures.told c.requires.children c.remove.ensures c.bytes.ensures.inner,
+    )
+
+pub returns-else-left-lt-LEAST_CHILDREN-clause-dropped : goal.returns-else-left-lt-LEAST_CHILDREN-clause-dropped
+returns-else-left-lt-LEAST_CHILDREN-clause-dropped g c =
+    let m = dropped_many c.args.inner.now c.args.j c.remove.ensures c.requires.place
+    c.len.ensures.length c.len.ensures.keys c.len-left.ensures.length in (
+      let h = c.if-left-lt-LEAST_CHILDREN.false in omega arith,
+      dropped_written (g.S.PageStore.told c.args.store.now) (g.S.PageStore.told c.write_page.new.store) (g.S.PageStore.size c.args.store.now)
+          c.args.page c.args.j c.args.inner.now c.remove.new.self c.bytes.result.now
+          (g.met.S.PageStore.as_many c.args.store.now) c.in-Ok.ensures.told c.requires.children c.remove.ensures c.bytes.ensures.inner,
+    )

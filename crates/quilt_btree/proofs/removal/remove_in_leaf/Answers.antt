@@ -1,0 +1,113 @@
+use Rattle.std.proofs.Common.{◌+◌, ◌∙◌, refl, sym, arith}
+use Rattle.std.proofs.lemmas.Result.{err_from_is_err_and}
+use Rattle.quilt_btree.proofs.ways.Damage.{zero_names, names_more, same_others, wrote_others}
+use Rattle.quilt_btree.proofs.growth.Finding.{finds_here, finds_none}
+use Rattle.quilt_btree.proofs.removals.LeafRemovals.{leaf_missing, leaf_emptied, leaf_underfull, leaf_done, leaf_reads}
+use Rattle.quilt_btree.proofs.removal.remove_in_leaf.Goals as goal
+
+pub returns-in_err-leaf-clause-sound : goal.returns-in_err-leaf-clause-sound
+returns-in_err-leaf-clause-sound g c =
+    let p = err_from_is_err_and c.from_residual.result c.from_residual.ensures.1 in
+    rw (p.1, p.2) (λ height is_root b rs used one can. c.in_err-leaf.ensures.sound height rs one
+    (leaf_reads (g.S.PageStore.told c.args.store.now) (g.S.PageStore.free c.args.store.now) c.args.page height is_root b rs used can))
+
+pub returns-in-Err-clause-removed : goal.returns-in-Err-clause-removed
+returns-in-Err-clause-removed g c = λ height is_root b rs used one can.
+    leaf_missing c.args.k.now (g.S.PageStore.told c.args.store.now) (g.S.PageStore.told c.read_leaf.new.store) (g.S.PageStore.free c.args.store.now)
+    (g.S.PageStore.free c.read_leaf.new.store)
+    c.args.page height c.in-Err.field-0 is_root b rs c.in_ok-leaf.leaf used one c.in_ok-leaf.ensures.leaf c.in-Err.ensures.place can
+
+pub returns-in-Ok-clause-removed : goal.returns-in-Ok-clause-removed
+returns-in-Ok-clause-removed g c = λ height is_root b rs used one can.
+    leaf_emptied c.args.k.now (g.S.PageStore.told c.args.store.now) (g.S.PageStore.told c.read_leaf.new.store) (g.S.PageStore.free c.args.store.now)
+    (g.S.PageStore.free c.read_leaf.new.store)
+    c.args.page height c.in-Ok.field-0 is_root b rs c.in_ok-leaf.leaf used one c.in_ok-leaf.ensures.leaf c.in-Ok.ensures.place
+    (sym c.len.ensures.length ∙ c.if-len-eq1.true) c.in_ok-leaf.ensures.left.told c.in_ok-leaf.ensures.left.free can
+
+pub returns-then-left-lt-LEAST_RECORDS-clause-removed : goal.returns-then-left-lt-LEAST_RECORDS-clause-removed
+returns-then-left-lt-LEAST_RECORDS-clause-removed g c = λ height is_root b rs used one can.
+    leaf_underfull c.args.k.now (g.S.PageStore.told c.args.store.now) (g.S.PageStore.told c.read_leaf.new.store)
+    (g.S.PageStore.told c.write_page.new.store) (g.S.PageStore.free c.args.store.now) (g.S.PageStore.free c.write_page.new.store)
+    c.args.page height (g.S.PageStore.size c.args.store.now) c.in-Ok.field-0 is_root b rs c.in_ok-leaf.leaf c.remove.new.self used
+    c.bytes.result.now one (record {
+      reads = c.in_ok-leaf.ensures.leaf;
+      inside = c.requires.1;
+      many = g.met.S.PageStore.as_many c.args.store.now;
+      found = c.in-Ok.ensures.place;
+      all_is = c.remove.ensures;
+      written = c.bytes.ensures.leaf;
+      is_mid = c.in_ok-leaf.ensures.left.told;
+      tells = c.in-Ok-write_page.ensures.told;
+      frees = c.in-Ok-write_page.ensures.free ∙ c.in_ok-leaf.ensures.left.free;
+    }) can
+
+pub returns-else-left-lt-LEAST_RECORDS-clause-removed : goal.returns-else-left-lt-LEAST_RECORDS-clause-removed
+returns-else-left-lt-LEAST_RECORDS-clause-removed g c = λ height is_root b rs used one can.
+    leaf_done c.args.k.now (g.S.PageStore.told c.args.store.now) (g.S.PageStore.told c.read_leaf.new.store)
+    (g.S.PageStore.told c.write_page.new.store) (g.S.PageStore.free c.args.store.now) (g.S.PageStore.free c.write_page.new.store)
+    c.args.page height (g.S.PageStore.size c.args.store.now) c.in-Ok.field-0 is_root b rs c.in_ok-leaf.leaf c.remove.new.self used
+    c.bytes.result.now one (record {
+      reads = c.in_ok-leaf.ensures.leaf;
+      inside = c.requires.1;
+      many = g.met.S.PageStore.as_many c.args.store.now;
+      found = c.in-Ok.ensures.place;
+      all_is = c.remove.ensures;
+      written = c.bytes.ensures.leaf;
+      is_mid = c.in_ok-leaf.ensures.left.told;
+      tells = c.in-Ok-write_page.ensures.told;
+      frees = c.in-Ok-write_page.ensures.free ∙ c.in_ok-leaf.ensures.left.free;
+    })
+    (let n = c.len-left.ensures.length in let h = c.if-left-lt-LEAST_RECORDS.false in omega arith) can
+
+pub returns-in-Err-clause-finds : goal.returns-in-Err-clause-finds
+returns-in-Err-clause-finds g c = λ height rs one s.
+    finds_none (g.S.PageStore.told c.args.store.now) c.args.page height c.in-Err.field-0 c.args.k.now c.in_ok-leaf.leaf c.in_ok-leaf.ensures.leaf
+    c.in-Err.ensures.place one rs s
+
+pub returns-in-Ok-clause-finds : goal.returns-in-Ok-clause-finds
+returns-in-Ok-clause-finds g c = λ height rs one s.
+    finds_here (g.S.PageStore.told c.args.store.now) c.args.page height c.in-Ok.field-0 c.args.k.now c.in_ok-leaf.leaf c.in_ok-leaf.ensures.leaf
+    c.in-Ok.ensures.place one rs s
+
+pub returns-then-left-lt-LEAST_RECORDS-clause-finds : goal.returns-then-left-lt-LEAST_RECORDS-clause-finds
+returns-then-left-lt-LEAST_RECORDS-clause-finds g c = λ height rs one s.
+    finds_here (g.S.PageStore.told c.args.store.now) c.args.page height c.in-Ok.field-0 c.args.k.now c.in_ok-leaf.leaf c.in_ok-leaf.ensures.leaf
+    c.in-Ok.ensures.place one rs s
+
+pub returns-else-left-lt-LEAST_RECORDS-clause-finds : goal.returns-else-left-lt-LEAST_RECORDS-clause-finds
+returns-else-left-lt-LEAST_RECORDS-clause-finds g c = λ height rs one s.
+    finds_here (g.S.PageStore.told c.args.store.now) c.args.page height c.in-Ok.field-0 c.args.k.now c.in_ok-leaf.leaf c.in_ok-leaf.ensures.leaf
+    c.in-Ok.ensures.place one rs s
+
+pub returns-in_err-leaf-clause-names : goal.returns-in_err-leaf-clause-names
+returns-in_err-leaf-clause-names g c =
+    let p = err_from_is_err_and c.from_residual.result c.from_residual.ensures.1 in
+    rw (p.1, p.2)
+    (names_more (c.args.page + 1) (g.S.PageStore.size c.args.store.now) _ (let q = c.requires.1 in omega arith) c.in_err-leaf.ensures.names)
+
+pub returns-in_err-leaf-clause-bad : goal.returns-in_err-leaf-clause-bad
+returns-in_err-leaf-clause-bad g c =
+    let p = err_from_is_err_and c.from_residual.result c.from_residual.ensures.1 in
+    rw (p.1, p.2) (λ ne. c.in_err-leaf.ensures.bad refl)
+
+pub returns-in-Err-write_page-clause-names : goal.returns-in-Err-write_page-clause-names
+returns-in-Err-write_page-clause-names g c =
+    names_more 1 (g.S.PageStore.size c.args.store.now) c.in-Err-write_page.e (let q = c.requires.1 in omega arith) c.in-Err-write_page.ensures.names
+
+pub returns-in-Err-write_page-clause-bad : goal.returns-in-Err-write_page-clause-bad
+returns-in-Err-write_page-clause-bad g c =
+    zero_names (g.S.PageStore.told c.args.store.now) 1 c.args.page c.in-Err-write_page.e c.in-Err-write_page.ensures.names
+
+pub returns-in-Err-clause-others : goal.returns-in-Err-clause-others
+returns-in-Err-clause-others g c = same_others c.args.page _ _ c.in_ok-leaf.ensures.left.told
+
+pub returns-in-Ok-clause-others : goal.returns-in-Ok-clause-others
+returns-in-Ok-clause-others g c = same_others c.args.page _ _ c.in_ok-leaf.ensures.left.told
+
+pub returns-then-left-lt-LEAST_RECORDS-clause-others : goal.returns-then-left-lt-LEAST_RECORDS-clause-others
+returns-then-left-lt-LEAST_RECORDS-clause-others g c =
+    wrote_others c.args.page c.bytes.result.now _ _ _ c.in_ok-leaf.ensures.left.told c.in-Ok-write_page.ensures.told
+
+pub returns-else-left-lt-LEAST_RECORDS-clause-others : goal.returns-else-left-lt-LEAST_RECORDS-clause-others
+returns-else-left-lt-LEAST_RECORDS-clause-others g c =
+    wrote_others c.args.page c.bytes.result.now _ _ _ c.in_ok-leaf.ensures.left.told c.in-Ok-write_page.ensures.told

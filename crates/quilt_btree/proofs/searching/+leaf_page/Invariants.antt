@@ -1,4 +1,0 @@
-use Rattle.quilt_btree.proofs.searching.+leaf_page.Given as goal
-
-abbrev pub decreases-leaf_page : goal.decreases-leaf_page
-decreases-leaf_page g l = l.height

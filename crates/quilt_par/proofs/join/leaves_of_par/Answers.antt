@@ -1,0 +1,21 @@
+use Rattle.std.proofs.Common.{◌*◌}
+use Rattle.quilt_types.specs.Plane.{side}
+use Rattle.quilt_raster.specs.Bytes.{cell_colours}
+use Rattle.quilt_raster.proofs.Bytes.{length-colours_of_bytes}
+use Rattle.quilt_par.proofs.Quadrants.{ShowAll-four, ShowAll-wide}
+use Rattle.quilt_par.proofs.join.leaves_of_par.Goals as goal
+
+pub merged-requires-clause-wide : goal.merged-requires-clause-wide
+merged-requires-clause-wide g c =
+    let n = c.args.level in
+    let grid = cell_colours c.args.colours.now in
+    let e = c.in_ok-first.ensures in
+    ShowAll-wide n grid _ c.requires.least (ShowAll-four n grid _ _ _ _ e.first e.second e.third e.fourth)
+
+pub returns : goal.returns
+returns g c =
+    let n = c.args.level in
+    let grid = cell_colours c.args.colours.now in
+    let e = c.in_ok-first.ensures in
+    c.merged.ensures grid (length-colours_of_bytes (side n * side n) c.args.colours.now c.requires.all)
+    (ShowAll-four n grid _ _ _ _ e.first e.second e.third e.fourth)

@@ -1,0 +1,41 @@
+use Rattle.std.proofs.Common.{ℕ, List, Option, ◌∙◌, sym, subst, arith}
+use Rattle.std.proofs.lemmas.Result.{IfOk-weaker, IfErr-weaker}
+use Rattle.quilt_btree.specs.Trees.{IsTree}
+use Rattle.quilt_store.proofs.Reading.{only_reads_then}
+use Rattle.quilt_points.proofs.Finds.{one_found_at, has_along}
+use Rattle.quilt_points.proofs.lookup.find.Goals as goal
+
+pub returns-then-bucket-eq1-clause-label : goal.returns-then-bucket-eq1-clause-label
+returns-then-bucket-eq1-clause-label g c points h =
+    c.label_of.ensures ∙ one_found_at c.args.level points c.in-Ok.b c.args.at c.in-Ok.ensures.holds c.args.bucket c.in-Ok.held c.if-bucket-eq1.true
+    (c.in-Ok.ensures.read points h)
+
+pub returns-else-bucket-eq1-clause-sound : goal.returns-else-bucket-eq1-clause-sound
+returns-else-bucket-eq1-clause-sound g c =
+    IfErr-weaker c.label_in.result _ _
+    (λ e f points h. f points (has_along _ _ c.args.tree.now c.args.layer c.args.level c.args.bucket points c.in-Ok.ensures.left.told h)
+    (c.in-Ok.ensures.read points h).block c.in-Ok.ensures.holds) c.label_in.ensures.sound
+
+pub returns-else-bucket-eq1-clause-left : goal.returns-else-bucket-eq1-clause-left
+returns-else-bucket-eq1-clause-left g c = only_reads_then _ g.met.S.PageStore.goes_on _ _ _ c.in-Ok.ensures.left c.label_in.ensures.left
+
+pub returns-then-bucket-eq1-clause-answered : goal.returns-then-bucket-eq1-clause-answered
+returns-then-bucket-eq1-clause-answered g c rs is = record {
+  block = c.in-Ok.b;
+  held = c.in-Ok.held;
+  there = c.in-Ok.ensures.row rs is;
+  holds = c.in-Ok.ensures.holds;
+  one = λ e. c.label_of.ensures;
+  more = λ lt. let one = c.if-bucket-eq1.true in absurd (omega arith);
+}
+
+pub returns-else-bucket-eq1-clause-answered : goal.returns-else-bucket-eq1-clause-answered
+returns-else-bucket-eq1-clause-answered g c =
+    IfOk-weaker c.label_in.result _ _ (λ label f rs is. record {
+      block = c.in-Ok.b;
+      held = c.in-Ok.held;
+      there = c.in-Ok.ensures.row rs is;
+      holds = c.in-Ok.ensures.holds;
+      one = λ e. absurd (c.if-bucket-eq1.false e);
+      more = λ lt. f rs (subst (λ (o : Option (List (List ℕ))). IsTree o c.args.tree.now rs) (sym c.in-Ok.ensures.left.told) is);
+    }) c.label_in.ensures.answered

@@ -1,0 +1,121 @@
+ghost use Rattle.std.specs.Prelude.{◌≡◌, ◌++◌, ◌<◌, ◌^◌, ℕ, true, All, map, filter, IfOk, OnOk};
+ghost use Rattle.quilt_types.specs.Plane.{is_pixel, in_block, IsBlock};
+ghost use Rattle.quilt_types.specs.Facts.{HoldsPoint};
+ghost use Rattle.quilt_point_laws.specs.Spreading.{held_facts, spread as spread_facts};
+ghost use Rattle.quilt_points.specs.Layers.{point_entries, block_record};
+ghost use Rattle.quilt_point_laws.specs.Growing.{gone_of, come_of};
+
+use crate::layer::PointLayer;
+use quilt_loc::{covers, quarters};
+use quilt_record::{Record, point_record};
+use quilt_types::{Block, Point};
+use std::alloc::{AllocError, Global};
+
+/// The records that a layer has only without some points, and those that it has only with them.
+#[derive(Drop)]
+pub(crate) struct Delta {
+    pub without: Vec<Record>,
+    pub with: Vec<Record>,
+}
+
+/// Adds the records of a block that change when points come into it: `held` are the points that it has without them.
+pub(crate) fn add_delta(
+    alloc: Global,
+    delta: &mut Delta,
+    layer: PointLayer,
+    b: Block,
+    held: &[Point],
+    news: &[Point],
+) -> Result<(), AllocError>
+    requires block { IsBlock layer.level b }
+    requires held { All (λ p. is_pixel layer.level p.at ≡ true) held.now }
+    requires news { All (λ p. is_pixel layer.level p.at ≡ true) news.now }
+    ensures without { OnOk result (delta.new.without.items ≡ delta.old.without.items
+        ++ map (block_record layer.level layer.bucket layer.number) (gone_of layer.bucket b (point_entries held.now) (point_entries news.now))) }
+    ensures with { OnOk result ((k : ℕ) → b.side ≡ 2 ^ k → delta.new.with.items ≡ delta.old.with.items
+        ++ map (block_record layer.level layer.bucket layer.number) (come_of layer.bucket k b (point_entries held.now) (point_entries news.now))) }
+{
+    let bucket = usize::from(layer.bucket);
+    if held.len() <= bucket && news.len() <= bucket - held.len() {
+        if held.is_empty() {
+            add_held(&mut delta.without, layer, b, held)?;
+        }
+        return add_points(&mut delta.with, layer, b, news);
+    }
+    add_held(&mut delta.without, layer, b, held)?;
+    let mut all = Vec::from_slice(alloc, news)?;
+    all.extend_from_slice(held)?;
+    spread(alloc, &mut delta.with, layer, b, &all)
+}
+
+/// Adds the records of a block with these points, or of the blocks into which they are spread where they are too many.
+fn spread(
+    alloc: Global,
+    records: &mut Vec<Record>,
+    layer: PointLayer,
+    b: Block,
+    points: &[Point],
+) -> Result<(), AllocError>
+    requires block { IsBlock layer.level b }
+    requires points { All (λ p. is_pixel layer.level p.at ≡ true) points.now }
+    ensures { OnOk result ((k : ℕ) → b.side ≡ 2 ^ k → records.new.items ≡ records.old.items
+        ++ map (block_record layer.level layer.bucket layer.number) (spread_facts layer.bucket k b (point_entries points.now))) }
+{
+    if points.len() <= usize::from(layer.bucket) || b.side <= 1 {
+        return add_held(records, layer, b, points);
+    }
+    for q in quarters(b) {
+        let here = covered(alloc, points, q)?;
+        spread(alloc, records, layer, q, &here)?;
+    }
+    Ok(())
+}
+
+/// The points in a block.
+fn covered(alloc: Global, points: &[Point], b: Block) -> Result<Vec<Point>, AllocError>
+    requires { IsBlock 12 b }
+    ensures { IfOk result (λ v. v.items ≡ filter (λ p. in_block b p.at) points.now) }
+{
+    points
+        .iter()
+        .filter(|p| covers(b, p.at))
+        .copied()
+        .collect(alloc)
+}
+
+/// Adds the records of a block with these points: one that says that there is none, where there is none.
+fn add_held(
+    records: &mut Vec<Record>,
+    layer: PointLayer,
+    b: Block,
+    points: &[Point],
+) -> Result<(), AllocError>
+    requires block { IsBlock layer.level b }
+    requires points { All (λ p. is_pixel layer.level p.at ≡ true) points.now }
+    ensures { OnOk result (records.new.items ≡ records.old.items
+        ++ map (block_record layer.level layer.bucket layer.number) (held_facts b (point_entries points.now))) }
+{
+    if points.is_empty() {
+        records.push(point_record(layer.number, b, layer.level, layer.bucket, None))?;
+        return Ok(());
+    }
+    add_points(records, layer, b, points)
+}
+
+/// Adds a record of the block for each point.
+fn add_points(
+    records: &mut Vec<Record>,
+    layer: PointLayer,
+    b: Block,
+    points: &[Point],
+) -> Result<(), AllocError>
+    requires block { IsBlock layer.level b }
+    requires points { All (λ p. is_pixel layer.level p.at ≡ true) points.now }
+    ensures { OnOk result (records.new.items ≡ records.old.items
+        ++ map (block_record layer.level layer.bucket layer.number) (map (λ e. HoldsPoint b e.0 e.1) (point_entries points.now))) }
+{
+    for p in points {
+        records.push(point_record(layer.number, b, layer.level, layer.bucket, Some(*p)))?;
+    }
+    Ok(())
+}

@@ -1,0 +1,122 @@
+use Rattle.std.proofs.Common.{◌≡◌, ◌+◌, ◌≤◌, List, length, inl, inr, refl, sym, ◌∙◌, subst, arith}
+use Rattle.quilt_store.proofs.Reading.{only_reads_then, only_reads_same, read_on, only_reads_err}
+use Rattle.quilt_types.specs.Quadtrees.{reach}
+use Rattle.quilt_world.specs.Tale.{Goes}
+use Rattle.quilt_near.specs.Budgets.{is_close}
+use Rattle.quilt_rank.specs.Ranks.{last_far}
+use Rattle.quilt_rank.proofs.Orders.{Rank}
+use Rattle.quilt_types.specs.Ranking.{ranked}
+use Rattle.quilt_near.specs.Lines.{Lines}
+use Rattle.quilt_near.proofs.Knowing.{knows_nothing, knows_where}
+use Rattle.quilt_rank.proofs.Answered.{first_are, first_is}
+use Rattle.quilt_rank.proofs.Goings.{Going, going_start, going_on, going_end, going_stop, going_reads, first_valid, first_reached, less_left}
+use Rattle.quilt_rank.proofs.search.ranked.Goals as goal
+use Rattle.quilt_rank.proofs.search.ranked.Goals.{in-Some+then-is_past, in_default}
+
+pub loop-distance-init : goal.loop-distance-init
+loop-distance-init g c =
+    let first = going_start _ c.args.p c.args.k c.requires.some (g.B.SegBlocks.shows c.args.blocks.now c.args.store.now)
+    (g.met.B.SegBlocks.lines c.args.blocks.now c.args.store.now) (g.S.PageStore.reads c.args.store.now) _ c.in-Ok.ensures.first in
+    record {
+      going = subst (Going _ c.args.p c.args.k _ _ _ _) (sym c.new-ranks.ensures) first;
+      left = only_reads_same _ tt _ (g.met.S.PageStore.same_time c.args.store.now);
+      known = knows_nothing _ _ _ c.new-known.result c.new-known.ensures.block c.new-known.ensures.pairs c.new-known.ensures.ids
+          c.new-known.ensures.segs;
+      ended = inr (refl, refl);
+    }
+
+pub open-requires-clause-known : goal.open-requires-clause-known
+open-requires-clause-known g c =
+    knows_where _ (g.B.SegBlocks.shows c.args.blocks.now c.args.store.now) _ (g.B.SegBlocks.marked c.args.blocks.now c.args.store.now) _ c.loop-distance.known
+    (λ l s. g.met.B.SegBlocks.same c.args.blocks.now c.loop-distance.store c.args.store.now l (sym c.loop-distance.invariant.left.told) s)
+    (λ m s. g.met.B.SegBlocks.same_marks c.args.blocks.now c.args.store.now c.loop-distance.store m c.loop-distance.invariant.left.told s)
+    c.loop-distance.invariant.known
+
+pub open-requires-clause-block : goal.open-requires-clause-block
+open-requires-clause-block g c =
+    first_valid _ c.args.p c.args.k c.requires.some (g.B.SegBlocks.shows c.args.blocks.now c.args.store.now)
+    (g.met.B.SegBlocks.lines c.args.blocks.now c.args.store.now) (g.S.PageStore.reads c.args.store.now)
+    (g.S.PageStore.reads c.loop-distance.store) c.loop-distance.queue c.pop.new.self c.loop-distance.ranks (c.in-Some.distance, c.in-Some.block)
+    c.loop-distance.invariant.going c.in-Some.ensures.taken
+
+pub open-requires-clause-reached : goal.open-requires-clause-reached
+open-requires-clause-reached g c l s =
+    first_reached _ c.args.p c.args.k c.requires.some (g.B.SegBlocks.shows c.args.blocks.now c.args.store.now)
+    (g.met.B.SegBlocks.lines c.args.blocks.now c.args.store.now) (g.S.PageStore.reads c.args.store.now)
+    (g.S.PageStore.reads c.loop-distance.store) c.loop-distance.queue c.pop.new.self c.loop-distance.ranks (c.in-Some.distance, c.in-Some.block)
+    c.loop-distance.invariant.going c.in-Some.ensures.taken l
+    (g.met.B.SegBlocks.same c.args.blocks.now c.loop-distance.store c.args.store.now l (sym c.loop-distance.invariant.left.told) s)
+
+pub returns-in-Err-open-clause-sound : goal.returns-in-Err-open-clause-sound
+returns-in-Err-open-clause-sound g c l s =
+    c.in-Err-open.ensures.sound l (g.met.B.SegBlocks.same c.args.blocks.now c.args.store.now c.loop-distance.store l c.loop-distance.invariant.left.told s)
+
+pub loop-distance-smaller : goal.loop-distance-smaller
+loop-distance-smaller g c =
+    less_left _ c.args.p c.args.k c.requires.some (g.B.SegBlocks.shows c.args.blocks.now c.args.store.now)
+    (g.met.B.SegBlocks.lines c.args.blocks.now c.args.store.now) (g.S.PageStore.reads c.args.store.now)
+    (g.S.PageStore.reads c.loop-distance.store) c.loop-distance.queue c.pop.new.self c.loop-distance.ranks (c.in-Some.distance, c.in-Some.block)
+    c.loop-distance.invariant.going c.in-Some.ensures.taken
+    (g.S.PageStore.reads c.open.new.store) c.open.new.queue c.open.new.ranks (g.B.SegBlocks.shows c.args.blocks.now c.loop-distance.store)
+    c.in-Ok-open.ensures.opened
+
+pub loop-distance-preserved : goal.loop-distance-preserved
+loop-distance-preserved g c =
+    let i = c.loop-distance.invariant in
+    record {
+      going = going_on _ c.args.p c.args.k c.requires.some (g.B.SegBlocks.shows c.args.blocks.now c.args.store.now)
+          (g.met.B.SegBlocks.lines c.args.blocks.now c.args.store.now) (g.S.PageStore.reads c.args.store.now)
+          (g.S.PageStore.reads c.loop-distance.store) c.loop-distance.queue c.pop.new.self c.loop-distance.ranks
+          (c.in-Some.distance, c.in-Some.block) c.loop-distance.invariant.going c.in-Some.ensures.taken
+          (g.S.PageStore.reads c.open.new.store) c.open.new.queue c.open.new.ranks (g.B.SegBlocks.shows c.args.blocks.now c.loop-distance.store)
+          (λ l s. g.met.B.SegBlocks.same c.args.blocks.now c.args.store.now c.loop-distance.store l i.left.told s)
+          c.in-Some.ensures.least (sym c.is_past.ensures ∙ c.if-is_past.false) c.in-Ok-open.ensures.opened;
+      left = read_on _ g.met.S.PageStore.goes_on c.args.store.now c.loop-distance.store c.open.new.store i.left c.open.ensures.left;
+      known = knows_where _ (g.B.SegBlocks.shows c.args.blocks.now c.loop-distance.store) _ (g.B.SegBlocks.marked c.args.blocks.now c.loop-distance.store) _ c.open.new.known
+          (λ l s. g.met.B.SegBlocks.same c.args.blocks.now c.args.store.now c.loop-distance.store l i.left.told s)
+          (λ m s. g.met.B.SegBlocks.same_marks c.args.blocks.now c.loop-distance.store c.args.store.now m (sym i.left.told) s) c.in-Ok-open.ensures.known;
+      ended = inl (c.in-Some.block, c.loop-distance.store, inr (refl, c.in-Ok-open.ensures.looked));
+    }
+
+-- at either end those so far are the answer
+found : (g : _) (c : goal.After-drop-queue-inside-2 g) (l : Lines) → g.B.SegBlocks.shows c.args.blocks.now c.args.store.now l
+    → c.loop-distance.ranks ≡ ranked l.segs c.args.p c.args.k
+found g c l s =
+    let now = g.S.PageStore.reads c.loop-distance.store in
+    let i = c.loop-distance.invariant.going in
+    elim c.match-pop.branch [
+      | in-Some+then-is_past w ↦ going_stop _ c.args.p c.args.k c.requires.some (g.B.SegBlocks.shows c.args.blocks.now c.args.store.now)
+          (g.met.B.SegBlocks.lines c.args.blocks.now c.args.store.now) (g.S.PageStore.reads c.args.store.now) now c.loop-distance.queue
+          c.pop.new.self c.loop-distance.ranks (w.in-Some.distance, w.in-Some.block) i w.in-Some.ensures.taken w.in-Some.ensures.least
+          (sym w.is_past.ensures ∙ w.if-is_past.true) l s
+      | in_default w ↦ going_end _ c.args.p c.args.k c.requires.some (g.B.SegBlocks.shows c.args.blocks.now c.args.store.now)
+          (g.met.B.SegBlocks.lines c.args.blocks.now c.args.store.now) (g.S.PageStore.reads c.args.store.now)
+          now c.loop-distance.queue c.loop-distance.ranks i w.in_default.ensures.none l s
+    ]
+
+pub returns-in-Err-listed-clause-ended : goal.returns-in-Err-listed-clause-ended
+returns-in-Err-listed-clause-ended g c = c.loop-distance.invariant.ended
+
+pub returns-clause-ranked : goal.returns-clause-ranked
+returns-clause-ranked g c l s = c.in-Ok-listed.ensures ∙ found g c l s
+
+pub returns-clause-reads : goal.returns-clause-reads
+returns-clause-reads g c l s long =
+    subst
+    (λ (t : List Rank). length t ≡ c.args.k
+    → Goes (λ old new. new ≤ old + reach (g.B.SegBlocks.level_of c.args.blocks.now) l.segs l.cover (is_close c.args.p (last_far t)))
+    (g.S.PageStore.reads c.args.store.now) (g.S.PageStore.reads c.loop-distance.store))
+    (sym c.in-Ok-listed.ensures)
+    (going_reads _ c.args.p c.args.k c.requires.some (g.B.SegBlocks.shows c.args.blocks.now c.args.store.now)
+    (g.met.B.SegBlocks.lines c.args.blocks.now c.args.store.now) (g.S.PageStore.reads c.args.store.now)
+    (g.S.PageStore.reads c.loop-distance.store) c.loop-distance.queue c.loop-distance.ranks c.loop-distance.invariant.going l s (found g c l s))
+    long
+
+pub returns-in-Err-open-clause-left : goal.returns-in-Err-open-clause-left
+returns-in-Err-open-clause-left g c = only_reads_err _ (only_reads_then _ g.met.S.PageStore.goes_on _ _ _ c.loop-distance.invariant.left c.in-Err-open.ensures.left)
+
+pub returns-clause-firsts : goal.returns-clause-firsts
+returns-clause-firsts g c l s = first_are l.segs c.args.p c.args.k _ (c.in-Ok-listed.ensures ∙ found g c l s)
+
+pub returns-clause-nearest : goal.returns-clause-nearest
+returns-clause-nearest g c l s = first_is l.segs c.args.p c.args.k _ c.requires.some (returns-clause-firsts g c l s)

@@ -1,0 +1,6 @@
+use Rattle.std.proofs.Common.{◌≡◌, ℕ, ◌<◌, ◌≤◌, slice_index}
+use Rattle.quilt_raster.specs.Bytes.{cell_colours}
+use Rattle.quilt_raster.proofs.leaves.is_run.Given as goal
+
+abbrev pub invariant-loop-place : goal.invariant-loop-place
+invariant-loop-place l = (k : ℕ) → l.from ≤ k → k < l.place → slice_index (cell_colours l.colours) k ≡ l.colour.0

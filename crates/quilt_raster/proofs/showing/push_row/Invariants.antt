@@ -1,8 +1,0 @@
-use Rattle.std.proofs.Common.{◌≡◌, ◌+◌, ◌*◌, ◌++◌, flat_map, slice_index}
-use Rattle.quilt_types.specs.Plane.{below}
-use Rattle.quilt_raster.specs.Showing.{digits_of, written_in}
-use Rattle.quilt_raster.proofs.showing.push_row.Given as goal
-
-abbrev pub invariant-loop-dx : goal.invariant-loop-dx
-invariant-loop-dx l =
-    l.text ≡ l.initial.text ++ flat_map (λ dx. digits_of l.format (written_in l.format (slice_index l.cells (l.dy * l.fn.w.w + dx)))) (below l.dx)

@@ -1,0 +1,61 @@
+use Rattle.std.proofs.Common.{ℕ, ◌+◌, ◌*◌, ◌≤◌, length, refl, ◌∙◌, ap, subst, arith}
+use Rattle.quilt_loc.proofs.Blocks.{IsBlock-up, side_most}
+use Rattle.quilt_world.specs.Tale.{Goes}
+use Rattle.quilt_blocks.proofs.Chains.{member_pos}
+use Rattle.quilt_region.proofs.WithinKeys.{length_within, read_within}
+use Rattle.quilt_region.proofs.lookup.records_in.Goals as goal
+
+pub code_of-requires-clause-in_x : goal.code_of-requires-clause-in_x
+code_of-requires-clause-in_x g c = let m = side_most c.args.level c.requires.level.1 in let x = c.requires.block.in_x in omega arith
+
+pub code_of-requires-clause-in_y : goal.code_of-requires-clause-in_y
+code_of-requires-clause-in_y g c = let m = side_most c.args.level c.requires.level.1 in let y = c.requires.block.in_y in omega arith
+
+pub end_of-requires : goal.end_of-requires
+end_of-requires g c = IsBlock-up c.args.level 12 c.args.b c.requires.level.1 c.requires.block
+
+pub returns-in-Err-clause-sound : goal.returns-in-Err-clause-sound
+returns-in-Err-clause-sound g c grid h = c.in-Err.ensures.sound h.records h.tree
+
+pub returns-in-Ok-clause-records : goal.returns-in-Ok-clause-records
+returns-in-Ok-clause-records g c grid h =
+    let pos = member_pos c.args.level c.args.b c.requires.block in
+    let end = c.end_of.ensures.value in
+    read_within (g.S.PageStore.told c.args.store.now) c.args.tree.now c.args.layer c.args.level grid c.args.b _ _ c.in-Ok.records.items 4294967295
+    c.requires.level.1 c.requires.block
+    (record {
+      low_layer = c.from.ensures;
+      low_part = refl;
+      low_code = c.code_of.ensures.value;
+      low_depth = refl;
+      low_item = refl;
+      high_layer = c.from-2.ensures;
+      high_part = refl;
+      high_code = omega arith;
+      high_depth = refl;
+    })
+    (omega arith) c.in-Ok.ensures.range h
+
+pub returns-in-Ok-clause-reads : goal.returns-in-Ok-clause-reads
+returns-in-Ok-clause-reads g c grid h =
+    let n = c.args.level in
+    let pos = member_pos n c.args.b c.requires.block in
+    let end = c.end_of.ensures.value in
+    let all =
+    read_within (g.S.PageStore.told c.args.store.now) c.args.tree.now c.args.layer n grid c.args.b _ _ c.in-Ok.records.items 4294967295
+    c.requires.level.1 c.requires.block
+    (record {
+      low_layer = c.from.ensures;
+      low_part = refl;
+      low_code = c.code_of.ensures.value;
+      low_depth = refl;
+      low_item = refl;
+      high_layer = c.from-2.ensures;
+      high_part = refl;
+      high_code = omega arith;
+      high_depth = refl;
+    })
+    (omega arith) c.in-Ok.ensures.range h in
+    let many = c.in-Ok.records.ok.0 ∙ ap length all ∙ length_within n c.args.layer grid c.args.b in
+    subst (λ (k : ℕ). Goes {A = ℕ} (λ old new. new ≤ old + 6 + 3 * k) (g.S.PageStore.reads c.args.store.now)
+    (g.S.PageStore.reads c.range.new.store)) many c.in-Ok.ensures.reads

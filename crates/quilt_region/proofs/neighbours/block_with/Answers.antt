@@ -1,0 +1,55 @@
+use Rattle.std.proofs.Common.{◌≤◌, length, sym, arith}
+use Rattle.quilt_blocks.specs.Cutting.{leaf_pair}
+use Rattle.quilt_blocks.proofs.Cuts.{leaf_is}
+use Rattle.quilt_region.specs.Windows.{leaves_within}
+use Rattle.quilt_region.proofs.Parts.{block_room, window_room}
+use Rattle.quilt_region.proofs.Nearby.{window_in, leaf_cut, around_cut, one_within, more_within}
+use Rattle.quilt_region.proofs.neighbours.block_with.Goals as goal
+
+pub leaf_with-requires-clause-in_x : goal.leaf_with-requires-clause-in_x
+leaf_with-requires-clause-in_x g c = let i = window_in c.args.level c.args.w c.requires.window in let a = i.wide in let b = i.right in omega arith
+
+pub leaf_with-requires-clause-in_y : goal.leaf_with-requires-clause-in_y
+leaf_with-requires-clause-in_y g c = let i = window_in c.args.level c.args.w c.requires.window in let a = i.high in let b = i.bottom in omega arith
+
+pub holds_window-requires-clause-width : goal.holds_window-requires-clause-width
+holds_window-requires-clause-width g c = (block_room c.args.level c.in-Ok.leaf.block c.requires.level.1 c.in-Ok.ensures.block).0
+
+pub holds_window-requires-clause-height : goal.holds_window-requires-clause-height
+holds_window-requires-clause-height g c = (block_room c.args.level c.in-Ok.leaf.block c.requires.level.1 c.in-Ok.ensures.block).1
+
+pub holds_window-requires-clause-window_width : goal.holds_window-requires-clause-window_width
+holds_window-requires-clause-window_width g c = (window_room c.args.level c.args.w c.requires.level.1 c.requires.window).0
+
+pub holds_window-requires-clause-window_height : goal.holds_window-requires-clause-window_height
+holds_window-requires-clause-window_height g c = (window_room c.args.level c.args.w c.requires.level.1 c.requires.window).1
+
+pub returns-in-Ok-clause-cut_out : goal.returns-in-Ok-clause-cut_out
+returns-in-Ok-clause-cut_out g c grid h = leaf_cut c.args.level grid (leaf_pair c.in-Ok.leaf) (c.in-Ok.ensures.leaf grid h).member
+
+pub returns-in-Ok-clause-few : goal.returns-in-Ok-clause-few
+returns-in-Ok-clause-few g c grid a h ha holds =
+    let one = one_within c.args.level grid c.requires.level.1 (leaf_pair c.in-Ok.leaf) (c.in-Ok.ensures.leaf grid h).member in
+    let one' : length (leaves_within c.args.level grid c.in-Ok.leaf.block) ≤ 1 = one in
+    omega arith
+
+pub returns-in-Ok-2-clause-cut_out : goal.returns-in-Ok-2-clause-cut_out
+returns-in-Ok-2-clause-cut_out g c grid h =
+    around_cut c.args.level grid (leaf_pair c.in-Ok.leaf) c.block_around.result c.args.w c.requires.window (c.in-Ok.ensures.leaf grid h)
+    (c.holds_window.ensures.no c.if-holds_window.false) c.block_around.ensures.valid c.block_around.ensures.holds
+
+pub returns-in-Ok-2-clause-few : goal.returns-in-Ok-2-clause-few
+returns-in-Ok-2-clause-few g c grid a h ha holds =
+    let more =
+    more_within c.args.level grid c.requires.level.1 c.block_around.result a c.block_around.ensures.valid ha (c.block_around.ensures.least a ha holds) in
+    omega arith
+
+pub returns-in-Ok-clause-first : goal.returns-in-Ok-clause-first
+returns-in-Ok-clause-first g c grid h =
+    let l = c.in-Ok.ensures.leaf grid h in
+    sym ((leaf_is c.args.level grid (leaf_pair c.in-Ok.leaf) l.member).colour.each _ l.holds)
+
+pub returns-in-Ok-2-clause-first : goal.returns-in-Ok-2-clause-first
+returns-in-Ok-2-clause-first g c grid h =
+    let l = c.in-Ok.ensures.leaf grid h in
+    sym ((leaf_is c.args.level grid (leaf_pair c.in-Ok.leaf) l.member).colour.each _ l.holds)

@@ -1,0 +1,17 @@
+use Rattle.std.proofs.Common.{sym, ◌∙◌, subst}
+use Rattle.quilt_types.specs.Algebra.{painted}
+use Rattle.quilt_blocks.specs.Raster.{Raster}
+use Rattle.quilt_region.specs.Plans.{ReplacesGrid}
+use Rattle.quilt_region.proofs.plans.KnownPlans.{removes_same, adds_same}
+use Rattle.quilt_region.proofs.plan.plan_known.Goals as goal
+
+pub returns-in-Ok-repaint-clause-plan : goal.returns-in-Ok-repaint-clause-plan
+returns-in-Ok-repaint-clause-plan c g is knows =
+    let n = c.args.level in
+    let k = c.args.known.now in
+    let leads = subst (λ (m : Raster). ReplacesGrid m.level c.args.layer m.grid (painted m.level m.grid c.args.w k.around.0) c.in-Ok-repaint.edits)
+    (c.in-Ok.ensures.list g is) c.in-Ok-repaint.ensures in
+    record {
+      remove = leads.remove ∙ sym (removes_same n g c.args.w k c.requires.level.1 c.requires.window knows c.args.layer);
+      add = leads.add ∙ sym (adds_same n g c.args.w k c.requires.level.1 c.requires.window knows c.args.layer);
+    }

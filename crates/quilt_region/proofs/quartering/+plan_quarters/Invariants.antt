@@ -1,4 +1,0 @@
-use Rattle.quilt_region.proofs.quartering.+plan_quarters.Given as goal
-
-abbrev pub decreases-plan_quarters : goal.decreases-plan_quarters
-decreases-plan_quarters g l = l.count

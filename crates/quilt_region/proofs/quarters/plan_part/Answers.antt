@@ -1,0 +1,18 @@
+use Rattle.std.proofs.Common.{◌*◌, length, ◌∙◌}
+use Rattle.std.proofs.lemmas.Result.{err_from_is_err_and}
+use Rattle.quilt_region.specs.Windows.{leaves_within}
+use Rattle.quilt_region.proofs.Counting.{reads_plain}
+use Rattle.quilt_region.proofs.quarters.plan_part.Goals as goal
+
+pub returns-in_err-records-clause-sound : goal.returns-in_err-records-clause-sound
+returns-in_err-records-clause-sound g c =
+    let p = err_from_is_err_and c.from_residual.result c.from_residual.ensures.1 in
+    rw (p.1, p.2) (λ grid h knows. c.in_err-records.ensures.sound grid h)
+
+pub returns-in_err-edits-clause-sound : goal.returns-in_err-edits-clause-sound
+returns-in_err-edits-clause-sound g c =
+    let p = err_from_is_err_and c.from_residual-in_err-edits.result c.from_residual-in_err-edits.ensures.1 in
+    rw (p.1, p.2) (λ grid h knows. c.in_err-edits.ensures.sound grid (c.deref.ensures.value ∙ c.in_ok-records.ensures.records grid h) knows)
+
+pub returns-clause-reads : goal.returns-clause-reads
+returns-clause-reads g c grid h = reads_plain 6 (3 * length (leaves_within c.args.level grid c.args.known.now.read)) _ _ (c.in_ok-records.ensures.reads grid h)

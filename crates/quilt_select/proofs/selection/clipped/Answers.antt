@@ -1,0 +1,10 @@
+use Rattle.std.proofs.Common.{◌∙◌, ap}
+use Rattle.std.specs.FinMap as finmap
+use Rattle.quilt_select.specs.Clips.{clips_of as clips_of_list}
+use Rattle.quilt_select.proofs.Clipping.{clipped_all}
+use Rattle.quilt_select.proofs.selection.clipped.Goals as goal
+
+pub returns-clause-clipped : goal.returns-clause-clipped
+returns-clause-clipped g c l s =
+    clipped_all c.args.w (finmap.entries l.segs) c.in-Ok.list c.in-Ok-clips_of.clips
+    (c.in-Ok-clips_of.ensures ∙ ap (clips_of_list c.args.w) c.items.ensures) (c.in-Ok.ensures.cross l s)
