@@ -221,10 +221,14 @@ below_last() {
         !($1 in is_last)'
 }
 
-# Those of them that need not wait for the first crate.
-beside_first() {
+# A crate that a long chain of others stands on, none of which waits for the first one or is waited for by what stands on it.
+aside=quilt_words
+
+# Those of the crates below the last ones that come before the first: all but what stands on it, and but a long chain, which keeps the processors busy
+# beside what stands on it.
+before_first() {
     for name in $(below_last); do
-        stands_on "$name" | grep -q -x "$first" || echo "$name"
+        stands_on "$name" | grep -q -x -e "$first" -e "$aside" || echo "$name"
     done
 }
 
@@ -249,7 +253,7 @@ side_by_side() {
     (cd "$out/below" && begin rt all check --jobs "$(lanes 2)")
 }
 
-# Proves and builds the program: what need not wait for the first crate, side by side; the first crate, with as many processes as there are lanes; then all
+# Proves and builds the program: what comes before the first crate, side by side; the first crate, with as many processes as there are lanes; then all
 # else that the program stands on, side by side again; and the last crates, each with as many processes as the first. Where memory does not last for that,
 # each after the other. The program runs at the end: it ends in status 6 for a map that is not there, in which rt itself never ends.
 prove() {
@@ -260,7 +264,7 @@ prove() {
         trap 'exit 130' INT HUP TERM
         # shellcheck disable=SC2046 # the names of crates are plain words
         if [ -d "$here/crates/$first" ]; then
-            side_by_side $(beside_first) || exit
+            side_by_side $(before_first) || exit
             (cd "$here/crates/$first" && begin rt lib --jobs "$jobs") || exit
         fi
         # shellcheck disable=SC2046 # the names of crates are plain words
