@@ -1,7 +1,7 @@
 -- Hexadecimal digits, and the bytes that two of them spell.
 use Rattle.std.proofs.Common.{◌≡◌, ℕ, ◌+◌, ◌*◌, ◌<◌, ◌≤◌, max, List, ◌∷◌, Option, Some, None, unwrap_or, IfSome, refl, ◌∙◌, ap, arith}
 use Rattle.std.proofs.Common.{◌⊎◌, inl, inr, nat_le}
-use Rattle.std.proofs.lemmas.Bool.{leb-true, leb-false}
+use Rattle.std.proofs.lemmas.Bool.{leb-true, leb-false, cases_Bool}
 use Rattle.quilt_words.specs.Spelling.{hex_digit, row, cons_both}
 use Rattle.quilt_words.proofs.Holding.{digit_low}
 use Rattle.quilt_lang.specs.Spelled.{with_byte}
