@@ -172,7 +172,7 @@ module _ (told now : Option (List (List ℕ))) (t : Tree) (page : ℕ) (from : K
         is.is_told,
         next_divides is.pages t.height t.root up next e ((f rs is).bound is.pages is.is_told),
         lt_to_le (key_cmp low next) (on.0.key_under refl),
-        range_next low low high next most rs s.0 new None on.0 refl on.1,
+        range_next low low high most rs s.0 new None next on.0 refl on.1,
       )
 
   -- where it ends there, where there are as many as wanted, and where it goes on

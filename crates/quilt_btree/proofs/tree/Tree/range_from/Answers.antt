@@ -73,7 +73,7 @@ returns-in-None-clause-within g c =
 
 pub returns-in-Ok-add_rest-clause-within : goal.returns-in-Ok-add_rest-clause-within
 returns-in-Ok-add_rest-clause-within g c =
-    c.in-Ok-add_rest.ensures.within c.args.low.now
+    c.in-Ok-add_rest.ensures.grows.within c.args.low.now
     (lt_to_le (key_cmp c.args.low.now c.in-Some.next)
     (under_next c.args.low.now c.in-Some.next c.in-Ok.found.high c.in-Ok.ensures.keys.1 c.in-Some.ensures.0))
     (first_within c.args.low.now c.args.high.now c.args.most c.in-Ok-add_in.ensures.adds.some c.add_in.new.records.items
