@@ -1,17 +1,18 @@
 -- What is kept of a rest that waits for more.
-use Rattle.std.proofs.Common.{◌≡◌, ℕ, ◌+◌, ◌-◌, length-take, ◌<◌, ◌≤◌, ◌==◌, min, false, List, [], ◌∷◌, ◌++◌, length, take, drop, map, Option, Some, None}
+use Rattle.std.proofs.Common.{◌≡◌, ℕ, ◌+◌, ◌-◌, length-take, ◌<◌, ◌≤◌, ◌==◌, min, false, List, [], ◌∷◌, ◌++◌, length, take, drop, map, Option, Some, None, option_map}
 use Rattle.std.proofs.Common.{codes, refl, sym, ◌∙◌, ap, subst, arith, append-nil, length-drop, inl, inr}
 use Rattle.std.proofs.lemmas.List.{take_all, take-append-drop, drop-drop, length-take-le}
 use Rattle.std.proofs.lemmas.List.Elements.{All-nil}
 use Rattle.std.proofs.lemmas.Bool.{eqb-true, eqb-false, eq-eqb, cases_Bool}
 use Rattle.std.proofs.Math.Seq.{take-add}
+use Rattle.quilt_types.specs.Plane.{side}
 use Rattle.quilt_words.specs.Items.{asked, held, line_limit, whole_items, whole_lines, words_of}
 use Rattle.quilt_lang.specs.declared.asked.Asked.{Asked}
 use Rattle.quilt_lang.specs.declared.asked.Asked.TheVariants as kinds
 use Rattle.quilt_lang.specs.declared.progress.CutLines.{CutLines}
 use Rattle.quilt_lang.specs.declared.progress.Waiting.{Waiting}
 use Rattle.quilt_lang.specs.declared.progress.Progress.TheVariants as progresses
-use Rattle.quilt_lang.specs.Reading.{Gives, IsLine, begins_silent, first_is_silent, enough_of, limit_behind, point_limit, unfinished}
+use Rattle.quilt_lang.specs.Reading.{Gives, IsLine, begins_silent, first_is_silent, enough_of, limit_behind, point_limit, row_limit, unfinished}
 use Rattle.quilt_lang.specs.Shortening.{bounds}
 use Rattle.quilt_lang.specs.Cutting.{Cuts, CutsUpTo, IsAsked, grouped, limit_of, further_count}
 use Rattle.quilt_lang.specs.Progress.{IsCount, IsFrontLine, KeepsUnfinished, IsWaiting}
@@ -28,8 +29,8 @@ use Rattle.quilt_lang.proofs.Unfinished.{unfinished_all, unfinished_none, unfini
 pub kept_begun : (n m : ℕ) (text : List ℕ) → IsLine text → m ≡ min (length text) (line_limit + 1) → KeepsUnfinished n text (progresses.Begun m)
 kept_begun n m text none is =
     let all : length (unfinished text) ≡ length text = ap length (unfinished_all text none) in
-    let limit : limit_behind (whole_lines text) ≡ Some line_limit = ap limit_behind (whole_none text none) in
-    let enough : enough_of (limit_behind (whole_lines text)) (length (unfinished text)) ≡ min (length (unfinished text)) (line_limit + 1) =
+    let limit : limit_behind n (whole_lines text) ≡ Some line_limit = ap (limit_behind n) (whole_none text none) in
+    let enough : enough_of (limit_behind n (whole_lines text)) (length (unfinished text)) ≡ min (length (unfinished text)) (line_limit + 1) =
     ap (λ (o : Option ℕ). enough_of o (length (unfinished text))) limit in
     record {
       within = omega (arith, is);
@@ -44,34 +45,42 @@ kept_begun n m text none is =
 
 -- what the first line asks for says how long the lines behind it may be
 limit_is : (n count : ℕ) (line : List ℕ) (ls : List (List ℕ)) (what : Asked) → IsAsked n count (words_of line) what → 0 < further_count n what
-    → limit_behind (line ∷ ls) ≡ limit_of what
+    → limit_behind n (line ∷ ls) ≡ limit_of n what
 limit_is n count line ls kinds.Nothing so some = absurd (omega (arith, some))
-limit_is n count line ls kinds.Rows so some =
+limit_is n count line ls kinds.Rows so some = rw so.kind refl
+limit_is n count line ls (kinds.Points k) so some = rw (other_word (words_of line) (codes "scatter") (codes "raster") so.kind.1 refl, so.kind.1) refl
+limit_is n count line ls (kinds.Rings k) so some =
     let ws : List (List ℕ) = words_of line in
-    rw (other_word ws (codes "raster") (codes "scatter") so.kind refl, other_word ws (codes "raster") (codes "polygon") so.kind refl) refl
-limit_is n count line ls (kinds.Points k) so some = rw so.kind.1 refl
-limit_is n count line ls (kinds.Rings k) so some = rw (other_word (words_of line) (codes "polygon") (codes "scatter") so.kind.1 refl, so.kind.1) refl
+    rw (other_word ws (codes "polygon") (codes "raster") so.kind.1 refl, other_word ws (codes "polygon") (codes "scatter") so.kind.1 refl, so.kind.1) refl
 
 -- the bound of further lines, and how many are missing
-bounds_limit : (what : Asked) (count : ℕ) (b : ℕ × ℕ) → bounds what count ≡ Some b → limit_of what ≡ Some b.0
-bounds_limit kinds.Nothing count b is = absurd (let bad : None ≡ Some b = is in cc)
-bounds_limit kinds.Rows count b is = absurd (let bad : None ≡ Some b = is in cc)
-bounds_limit (kinds.Points k) count b is = let same : Some (point_limit, k - count) ≡ Some b = is in let pair : (point_limit, k - count) ≡ b = cc in
+row_bounds_limit : (o : Option ℕ) (k : ℕ) (b : ℕ × ℕ) → option_map (λ (m : ℕ). (m, k)) o ≡ Some b → o ≡ Some b.0
+row_bounds_limit None k b is = absurd (let bad : None ≡ Some b = is in cc)
+row_bounds_limit (Some m) k b is = let same : Some (m, k) ≡ Some b = is in let pair : (m, k) ≡ b = cc in ap (λ (p : ℕ × ℕ). Some p.0) pair
+
+row_bounds_missing : (o : Option ℕ) (k : ℕ) (b : ℕ × ℕ) → option_map (λ (m : ℕ). (m, k)) o ≡ Some b → k ≡ b.1
+row_bounds_missing None k b is = absurd (let bad : None ≡ Some b = is in cc)
+row_bounds_missing (Some m) k b is = let same : Some (m, k) ≡ Some b = is in let pair : (m, k) ≡ b = cc in ap (λ (p : ℕ × ℕ). p.1) pair
+
+bounds_limit : (n : ℕ) (what : Asked) (count : ℕ) (b : ℕ × ℕ) → bounds n what count ≡ Some b → limit_of n what ≡ Some b.0
+bounds_limit n kinds.Nothing count b is = absurd (let bad : None ≡ Some b = is in cc)
+bounds_limit n kinds.Rows count b is = row_bounds_limit (row_limit n) (side n - count) b is
+bounds_limit n (kinds.Points k) count b is = let same : Some (point_limit, k - count) ≡ Some b = is in let pair : (point_limit, k - count) ≡ b = cc in
     ap (λ (p : ℕ × ℕ). Some p.0) pair
-bounds_limit (kinds.Rings k) count b is = let same : Some (line_limit, k - count) ≡ Some b = is in let pair : (line_limit, k - count) ≡ b = cc in
+bounds_limit n (kinds.Rings k) count b is = let same : Some (line_limit, k - count) ≡ Some b = is in let pair : (line_limit, k - count) ≡ b = cc in
     ap (λ (p : ℕ × ℕ). Some p.0) pair
 
-bounds_missing : (n : ℕ) (what : Asked) (count : ℕ) (b : ℕ × ℕ) → bounds what count ≡ Some b → further_count n what - count ≡ b.1
+bounds_missing : (n : ℕ) (what : Asked) (count : ℕ) (b : ℕ × ℕ) → bounds n what count ≡ Some b → further_count n what - count ≡ b.1
 bounds_missing n kinds.Nothing count b is = absurd (let bad : None ≡ Some b = is in cc)
-bounds_missing n kinds.Rows count b is = absurd (let bad : None ≡ Some b = is in cc)
+bounds_missing n kinds.Rows count b is = row_bounds_missing (row_limit n) (side n - count) b is
 bounds_missing n (kinds.Points k) count b is = let same : Some (point_limit, k - count) ≡ Some b = is in let pair : (point_limit, k - count) ≡ b = cc in
     ap (λ (p : ℕ × ℕ). p.1) pair
 bounds_missing n (kinds.Rings k) count b is = let same : Some (line_limit, k - count) ≡ Some b = is in let pair : (line_limit, k - count) ≡ b = cc in
     ap (λ (p : ℕ × ℕ). p.1) pair
 
-limit_bounds : (n : ℕ) (what : Asked) (count most : ℕ) → limit_of what ≡ Some most → bounds what count ≡ Some (most, further_count n what - count)
+limit_bounds : (n : ℕ) (what : Asked) (count most : ℕ) → limit_of n what ≡ Some most → bounds n what count ≡ Some (most, further_count n what - count)
 limit_bounds n kinds.Nothing count most is = absurd (let bad : None ≡ Some most = is in cc)
-limit_bounds n kinds.Rows count most is = absurd (let bad : None ≡ Some most = is in cc)
+limit_bounds n kinds.Rows count most is = ap (option_map (λ (m : ℕ). (m, side n - count))) is
 limit_bounds n (kinds.Points k) count most is = let same : Some point_limit ≡ Some most = is in let equal : point_limit ≡ most = cc in
     ap (λ (m : ℕ). Some (m, k - count)) equal
 limit_bounds n (kinds.Rings k) count most is = let same : Some line_limit ≡ Some most = is in let equal : line_limit ≡ most = cc in
@@ -115,7 +124,7 @@ module _ (n line : ℕ) (what : Asked) (cut : CutLines) (text : List ℕ) (first
         front_gives false n what (take line text) text behind (drop cut.len behind) lines first.loud first.cuts first.asks more
         (eq-eqb (length lines) (further_count n what) all) in
         let whole : map (held 1 n) (whole_items n (text ++ [])) ≡ held 1 n (grouped (take line text) lines)
-        ∷ map (held 1 n) (whole_items n (drop cut.len behind ++ [])) = gives.whole refl [] 1 in
+        ∷ map (held 1 n) (whole_items n (drop cut.len behind ++ [])) = gives.whole refl [] 1 (omega arith) in
         let none : map (held 1 n) (whole_items n (text ++ [])) ≡ [] = ap (λ (t : List ℕ). map (held 1 n) (whole_items n t)) (append-nil text)
         ∙ ap (map (held 1 n)) given in
         absurd (let bad : [] ≡ held 1 n (grouped (take line text) lines) ∷ map (held 1 n) (whole_items n (drop cut.len behind ++ [])) = sym none ∙ whole in cc)
@@ -128,7 +137,7 @@ module _ (n line : ℕ) (what : Asked) (cut : CutLines) (text : List ℕ) (first
   lines_front : whole_lines front ≡ take line text ∷ so.lines
   lines_front = rw (append-nil front, whole_none [] (All-nil (λ (c : ℕ). (c == 10) ≡ false)), append-nil so.lines) at (fronts.whole refl [])
 
-  wants : (lim : ℕ) → limit_of what ≡ Some lim → Wants n lim front
+  wants : (lim : ℕ) → limit_of n what ≡ Some lim → Wants n lim front
   wants lim limit = record {
     line = take line text;
     more = so.lines;
@@ -152,7 +161,7 @@ module _ (n line : ℕ) (what : Asked) (cut : CutLines) (text : List ℕ) (first
         subst IsLine (take_all cut.scanned last (omega (arith, last_size))) uncut
 
     -- of a last line that is too long so much may be kept
-    gives_enough : (o : Option ℕ) (known : ℕ) → limit_of what ≡ o → known ≡ enough_of o cut.scanned → Gives false n [] text (take (from + known) text)
+    gives_enough : (o : Option ℕ) (known : ℕ) → limit_of n what ≡ o → known ≡ enough_of o cut.scanned → Gives false n [] text (take (from + known) text)
     gives_enough None known limit is = rw (take_all (from + known) text (omega (arith, is, size))) (gives_none false n text)
     gives_enough (Some lim) known limit is = elim (cases_Bool (known == cut.scanned)) [
       | inl same ↦
@@ -169,19 +178,19 @@ module _ (n line : ℕ) (what : Asked) (cut : CutLines) (text : List ℕ) (first
           (subst (λ (t : List ℕ). Gives false n [] (front ++ last) t) (sym (take-add from known text)) gives)
     ]
 
-    pub kept_waits : (known : ℕ) → known ≡ enough_of (limit_of what) cut.scanned →
+    pub kept_waits : (known : ℕ) → known ≡ enough_of (limit_of n what) cut.scanned →
         KeepsUnfinished n text (progresses.Waiting (record { line = line; what = what; cut = record { count = cut.count; len = cut.len; scanned = known } }))
     kept_waits known is =
-        let few_known : known ≤ cut.scanned = enough_few (limit_of what) cut.scanned known is in
+        let few_known : known ≤ cut.scanned = enough_few (limit_of n what) cut.scanned known is in
         let open_ : unfinished text ≡ last =
         ap unfinished (sym (take-append-drop from text)) ∙ unfinished_part front last last_line
         ∙ ap (λ (l : List ℕ). l ++ last) (unfinished_none (take line text ∷ so.lines) front fronts) in
         let open_size : length (unfinished text) ≡ cut.scanned = ap length open_ ∙ last_size in
-        let limit : limit_behind (whole_lines text) ≡ limit_of what =
-        ap limit_behind (first_whole n line what text first)
+        let limit : limit_behind n (whole_lines text) ≡ limit_of n what =
+        ap (limit_behind n) (first_whole n line what text first)
         ∙ limit_is n (asked n (take line text)) (take line text) (whole_lines behind) what first.asks (omega (arith, few)) in
-        let most : enough_of (limit_behind (whole_lines text)) (length (unfinished text)) ≡ known =
-        ap (λ (o : Option ℕ). enough_of o (length (unfinished text))) limit ∙ ap (enough_of (limit_of what)) open_size ∙ sym is in
+        let most : enough_of (limit_behind n (whole_lines text)) (length (unfinished text)) ≡ known =
+        ap (λ (o : Option ℕ). enough_of o (length (unfinished text))) limit ∙ ap (enough_of (limit_of n what)) open_size ∙ sym is in
         let short : List ℕ = take known last in
         let short_line : IsLine short = line_front known last last_line in
         let kept : take (from + known) text ≡ front ++ short = take-add from known text in
@@ -194,7 +203,7 @@ module _ (n line : ℕ) (what : Asked) (cut : CutLines) (text : List ℕ) (first
         ∙ ap (λ (l : List ℕ). l ++ short) (unfinished_none (take line text ∷ so.lines) front fronts) in
         record {
           within = omega (arith, few_known, size);
-          gives = gives_enough (limit_of what) known refl is;
+          gives = gives_enough (limit_of n what) known refl is;
           lines = lines_kept ∙ sym lines_all;
           misses = λ b bound. record {
             line = take line text;
@@ -204,17 +213,17 @@ module _ (n line : ℕ) (what : Asked) (cut : CutLines) (text : List ℕ) (first
             loud = first.loud;
             asks = first.asks;
             number = omega (arith, so.number, few, bounds_missing n what cut.count b bound);
-            limit = bounds_limit what cut.count b bound;
+            limit = bounds_limit n what cut.count b bound;
           };
           part = λ b bound.
-              let known_is : known ≡ min cut.scanned (b.0 + 1) = is ∙ ap (λ (o : Option ℕ). enough_of o cut.scanned) (bounds_limit what cut.count b bound) in
+              let known_is : known ≡ min cut.scanned (b.0 + 1) = is ∙ ap (λ (o : Option ℕ). enough_of o cut.scanned) (bounds_limit n what cut.count b bound) in
               omega (arith, ap length part_is, length-take known last, known_is);
           bounds = λ other more most lines limited.
               let same : take line text ∷ so.lines ≡ other ∷ more = sym lines_all ∙ lines in
               let first_is : take line text ≡ other = ap (first_line []) same in
               let asked_is : asked n other ≡ further_count n what = ap (asked n) (sym first_is) ∙ first.asks.number in
               let count_is : cut.count ≡ length more = omega (arith, ap length same, so.number) in
-              let to : bounds what cut.count ≡ Some (most, further_count n what - cut.count) = limit_bounds n what cut.count most (sym limit ∙ limited) in
+              let to : bounds n what cut.count ≡ Some (most, further_count n what - cut.count) = limit_bounds n what cut.count most (sym limit ∙ limited) in
               to ∙ ap (λ (k : ℕ). Some (most, k)) (omega (arith, asked_is, count_is));
           short = omega (arith, size, open_size, most);
           behind = λ piece. waiting_kept n line known (from + known) what cut text piece first so few_known refl;

@@ -15,12 +15,12 @@ part_gives (Some b) n text piece new misses is = is.gives n text (misses b refl)
 
 -- whatever follows, the items are those of the old rest and the piece
 pub fed_part : (n : ℕ) (progress : Progress) (rest piece new joined : List ℕ) → KeepsUnfinished n rest progress → joined ≡ take (told_len progress) rest ++ new
-    → IsTextPart (bounds_of progress) piece new → Gives false n [] (rest ++ piece) joined
+    → IsTextPart (bounds_of n progress) piece new → Gives false n [] (rest ++ piece) joined
 fed_part n progress rest piece new joined kept put is =
     let text : List ℕ = take (told_len progress) rest in
     subst (λ (l : List ℕ). Gives false n [] (rest ++ piece) l) (sym put)
     (gives_then false n [] [] (rest ++ piece) (text ++ piece) (text ++ new) (gives_fed n [] rest text piece kept.gives)
-    (part_gives (bounds_of progress) n text piece new kept.misses is))
+    (part_gives (bounds_of n progress) n text piece new kept.misses is))
 
 -- it has no more bytes than the piece
 pub part_few : (o : Option (ℕ × ℕ)) (piece new : List ℕ) → IsTextPart o piece new → length new ≤ length piece
@@ -29,11 +29,11 @@ part_few (Some b) piece new is = is.few
 
 -- and of further lines no more than shows that they are too long
 pub part_short : (n : ℕ) (progress : Progress) (rest piece new joined : List ℕ) → KeepsUnfinished n rest progress → joined ≡ take (told_len progress) rest ++ new
-    → IsTextPart (bounds_of progress) piece new → KeepsShort n rest joined
+    → IsTextPart (bounds_of n progress) piece new → KeepsShort n rest joined
 part_short n progress rest piece new joined kept put is = λ line more most lines limited.
     let text : List ℕ = take (told_len progress) rest in
     let b : ℕ × ℕ = (most, asked n line - length more) in
-    let bound : bounds_of progress ≡ Some b = kept.bounds line more most lines limited in
+    let bound : bounds_of n progress ≡ Some b = kept.bounds line more most lines limited in
     let part : IsTextPart (Some b) piece new = subst (λ o. IsTextPart o piece new) bound is in
     let short = part.lines text (kept.part b bound) in
     record {

@@ -76,9 +76,9 @@ short_item f n group short = ap (λ (b : Bool). cond b Long (held_as f n (asked 
 
 -- two lines that are too long hold the same
 same_long : (n : ℕ) (a b : List ℕ) (gs hs : List Group) → is_long a ≡ true → is_long b ≡ true → Same n gs hs → Same n (alone a ∷ gs) (alone b ∷ hs)
-same_long n a b gs hs long_a long_b so = λ f.
+same_long n a b gs hs long_a long_b so = λ f low.
     ap (λ (i : Item). i ∷ map (held f n) gs) (long_item f n (alone a) long_a ∙ sym (long_item f n (alone b) long_b))
-    ∙ ap (λ (is : List Item). held f n (alone b) ∷ is) (so f)
+    ∙ ap (λ (is : List Item). held f n (alone b) ∷ is) (so f low)
 
 groups_long : (n : ℕ) (line : List ℕ) (ls : List (List ℕ)) → is_long line ≡ true → groups_from n 0 (line ∷ ls) ≡ alone line ∷ groups_from n 0 ls
 groups_long n line ls long = groups_alone n line ls (long_loud line long) (asked_long n line long)
@@ -95,7 +95,7 @@ items_same n a b v is_a is_b long_a long_b =
     let later : List Group = groups_from n 0 (later_of (pieces v)) in
     same_by n _ _ _ _ (items_onto n a v is_a long_a) (items_onto n b v is_b long_b)
     (same_long n (a ++ first_of (pieces v)) (b ++ first_of (pieces v)) later later (long_onto a (first_of (pieces v)) long_a)
-    (long_onto b (first_of (pieces v)) long_b) (λ f. refl))
+    (long_onto b (first_of (pieces v)) long_b) (λ f low. refl))
 
 -- the whole lines, where a front goes onto the first
 lasts_onto : (front : List ℕ) (ps : List (List ℕ)) → without_last (onto front ps) ≡ onto front (without_last ps)
@@ -115,10 +115,10 @@ whole_long n line ls long = ap (filter (is_complete n)) (groups_long n line ls l
 
 whole_swap : (n : ℕ) (a b : List ℕ) (ls : List (List ℕ)) → line_limit < length a → line_limit < length b
     → Same n (whole_from n (onto a ls)) (whole_from n (onto b ls))
-whole_swap n a b [] long_a long_b = λ f. refl
+whole_swap n a b [] long_a long_b = λ f low. refl
 whole_swap n a b (l ∷ ls) long_a long_b =
     same_by n _ _ _ _ (whole_long n (a ++ l) ls (long_onto a l long_a)) (whole_long n (b ++ l) ls (long_onto b l long_b))
-    (same_long n (a ++ l) (b ++ l) (whole_from n ls) (whole_from n ls) (long_onto a l long_a) (long_onto b l long_b) (λ f. refl))
+    (same_long n (a ++ l) (b ++ l) (whole_from n ls) (whole_from n ls) (long_onto a l long_a) (long_onto b l long_b) (λ f low. refl))
 
 whole_same : (n : ℕ) (a b v : List ℕ) → IsLine a → IsLine b → line_limit < length a → line_limit < length b
     → Same n (whole_items n (a ++ v)) (whole_items n (b ++ v))

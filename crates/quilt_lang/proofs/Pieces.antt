@@ -10,21 +10,21 @@ use Rattle.quilt_lang.proofs.LineLaws.{silent_next, whole_silent_next, whole_par
 
 -- lists that hold the same
 pub same_is : (n : ℕ) (xs ys : List Group) → xs ≡ ys → Same n xs ys
-same_is n xs ys is = λ f. ap (map (held f n)) is
+same_is n xs ys is = λ f low. ap (map (held f n)) is
 
 pub same_then : (n : ℕ) (xs ys zs : List Group) → Same n xs ys → Same n ys zs → Same n xs zs
-same_then n xs ys zs first second = λ f. first f ∙ second f
+same_then n xs ys zs first second = λ f low. first f low ∙ second f low
 
 pub same_onto : (n : ℕ) (gs xs ys : List Group) → Same n xs ys → Same n (gs ++ xs) (gs ++ ys)
 same_onto n [] xs ys so = so
-same_onto n (g ∷ gs) xs ys so = λ f. ap (λ (l : List Item). held f n g ∷ l) (same_onto n gs xs ys so f)
+same_onto n (g ∷ gs) xs ys so = λ f low. ap (λ (l : List Item). held f n g ∷ l) (same_onto n gs xs ys so f low)
 
 -- what equations carry
 pub same_by : (n : ℕ) (a xs b ys : List Group) → a ≡ xs → b ≡ ys → Same n xs ys → Same n a b
-same_by n a xs b ys first second so = λ f. ap (map (held f n)) first ∙ so f ∙ sym (ap (map (held f n)) second)
+same_by n a xs b ys first second so = λ f low. ap (map (held f n)) first ∙ so f low ∙ sym (ap (map (held f n)) second)
 
 pub gives_none : (e : Bool) (n : ℕ) (a : List ℕ) → Gives e n [] a a
-gives_none e n a = record { all = λ v may f. refl; whole = λ open_ v f. refl }
+gives_none e n a = record { all = λ v may f low. refl; whole = λ open_ v f low. refl }
 
 pub gives_then : (e : Bool) (n : ℕ) (g h : List Group) (a b c : List ℕ) → Gives e n g a b → Gives e n h b c → Gives e n (g ++ h) a c
 gives_then e n g h a b c first second = record {
@@ -64,8 +64,8 @@ begins_cut text k at = ap begins_silent at.is ∙ begins_line (take k text) (dro
 -- a piece more
 pub gives_fed : (n : ℕ) (g : List Group) (a b p : List ℕ) → Gives false n g a b → Gives false n g (a ++ p) (b ++ p)
 gives_fed n g a b p so = record {
-  all = λ v may f. rw (append_assoc a p v, append_assoc b p v) (so.all (p ++ v) tt f);
-  whole = λ open_ v f. rw (append_assoc a p v, append_assoc b p v) (so.whole refl (p ++ v) f);
+  all = λ v may f low. rw (append_assoc a p v, append_assoc b p v) (so.all (p ++ v) tt f low);
+  whole = λ open_ v f low. rw (append_assoc a p v, append_assoc b p v) (so.whole refl (p ++ v) f low);
 }
 
 pub none_open : (n : ℕ) (text : List ℕ) → IsLine text → HasNone false n text

@@ -1,14 +1,17 @@
 -- A further line that is too long may be cut short, since of it only that it is too long is held.
-use Rattle.std.proofs.Common.{◌≡◌, ℕ, zero, suc, ◌+◌, ◌-◌, ◌<◌, ◌==◌, nat_le, Bool, true, false, List, [], ◌∷◌, ◌++◌, length, take, map}
+use Rattle.std.proofs.Common.{◌≡◌, ℕ, zero, suc, ◌+◌, ◌-◌, ◌*◌, ◌<◌, ◌≤◌, ◌==◌, nat_le, Bool, true, false, List, [], ◌∷◌, ◌++◌, length, take, map}
 use Rattle.std.proofs.Common.{filter, Option, Some, None, option_map, option_and_then, cond, refl, sym, ◌∙◌, ap, arith, length-append, inl, inr}
-use Rattle.std.proofs.lemmas.Bool.{lt-ltb, lt-leb, cases_Bool}
+use Rattle.std.proofs.lemmas.Bool.{lt-ltb, lt-leb, ne_eqb, cases_Bool}
+use Rattle.std.proofs.Math.Nat.{mul-le-mul_right}
+use Rattle.quilt_types.specs.Plane.{side}
 use Rattle.quilt_words.specs.declared.item.Item.{Item}
-use Rattle.quilt_words.specs.declared.item.Item.TheVariants.{PointLines, RingLines}
+use Rattle.quilt_words.specs.declared.item.Item.TheVariants.{Rows, PointLines, RingLines}
 use Rattle.quilt_words.specs.Items.{Group, asked, groups_from, held, is_complete, is_long, is_silent, items_of, line_limit, point_of, points_joined}
-use Rattle.quilt_words.specs.Items.{ring_of, rings_joined, whole_items, whole_lines, words_of}
+use Rattle.quilt_words.specs.Items.{colour_bytes, ring_of, rings_joined, rows_joined, whole_items, whole_lines, words_of}
 use Rattle.quilt_lang.specs.declared.asked.Asked.{Asked}
 use Rattle.quilt_lang.specs.declared.asked.Asked.TheVariants as kinds
-use Rattle.quilt_lang.specs.Reading.{Gives, IsLine, Same, point_limit, unfinished}
+use Rattle.quilt_words.specs.Spelling.{row}
+use Rattle.quilt_lang.specs.Reading.{Gives, IsLine, Same, point_limit, row_limit, unfinished}
 use Rattle.quilt_lang.specs.Cutting.{IsAsked, grouped, holding, limit_of, further_count}
 use Rattle.quilt_lang.proofs.LineLaws.{groups_loud}
 use Rattle.quilt_lang.proofs.Long.{first_of, later_of, long_item, onto, pieces}
@@ -50,32 +53,60 @@ none_either : {X : Type 0} (b : Bool) (o : Option X) → o ≡ None → cond b o
 none_either true o none = none
 none_either false o none = refl
 
+-- and one row, in a format up to 2, and there are no colours
+none_joined : {X : Type 0} (g : X → X → X) (o : Option X) → option_and_then (λ b. option_map (λ r. g b r) None) o ≡ None
+none_joined g None = refl
+none_joined g (Some b) = refl
+
+joined_none : (f width : ℕ) (ms : List (List ℕ)) (l : List ℕ) (rest : List (List ℕ)) → f ≤ 2 → 4 * width < length l
+    → rows_joined f width (ms ++ l ∷ rest) ≡ None
+joined_none f width [] l rest low long =
+    let most : 2 * f * width ≤ 4 * width = mul-le-mul_right width (omega (arith, low)) in
+    let other : (length l == 2 * f * width) ≡ false = ne_eqb (length l) (2 * f * width) (λ e. omega (arith, e, most, long)) in
+    rw other refl
+joined_none f width (m ∷ ms) l rest low long =
+    rw (joined_none f width ms l rest low long)
+    (none_either (length m == 2 * f * width) (option_and_then (λ b. option_map (λ r. colour_bytes f b ++ r) None) (row m))
+    (none_joined (λ b r. colour_bytes f b ++ r) (row m)))
+
+row_most : (n lim : ℕ) → row_limit n ≡ Some lim → 4 * side n ≡ lim
+row_most n lim is = elim (cases_Bool (nat_le n 16)) [
+  | inl few ↦ let same : Some (4 * side n) ≡ Some lim = rw few at is in cc
+  | inr many ↦ absurd (let bad : None ≡ Some lim = rw many at is in cc)
+]
+
 -- what is held where one of the lines is too long
-holding_long : (f n lim : ℕ) (line : List ℕ) (ms : List (List ℕ)) (l m : List ℕ) (rest : List (List ℕ)) (what : Asked) → limit_of what ≡ Some lim
+holding_long : (f n lim : ℕ) (line : List ℕ) (ms : List (List ℕ)) (l m : List ℕ) (rest : List (List ℕ)) (what : Asked) → f ≤ 2 → limit_of n what ≡ Some lim
     → lim < length l → lim < length m → holding f n line (ms ++ l ∷ rest) what ≡ holding f n line (ms ++ m ∷ rest) what
-holding_long f n lim line ms l m rest kinds.Nothing is long_l long_m = refl
-holding_long f n lim line ms l m rest kinds.Rows is long_l long_m = absurd (let bad : None ≡ Some lim = is in cc)
-holding_long f n lim line ms l m rest (kinds.Points k) is long_l long_m =
+holding_long f n lim line ms l m rest kinds.Nothing low is long_l long_m = refl
+holding_long f n lim line ms l m rest kinds.Rows low is long_l long_m =
+    let most : 4 * side n ≡ lim = row_most n lim is in
+    ap (λ o. Rows line o)
+    (none_either (length (ms ++ l ∷ rest) == side n) (rows_joined f (side n) (ms ++ l ∷ rest))
+    (joined_none f (side n) ms l rest low (omega (arith, most, long_l)))
+    ∙ sym (none_either (length (ms ++ m ∷ rest) == side n) (rows_joined f (side n) (ms ++ m ∷ rest))
+    (joined_none f (side n) ms m rest low (omega (arith, most, long_m)))))
+holding_long f n lim line ms l m rest (kinds.Points k) low is long_l long_m =
     let same : Some point_limit ≡ Some lim = is in
     let lim_is : point_limit ≡ lim = cc in
     ap (λ o. PointLines line o)
     (none_either (length (ms ++ l ∷ rest) == k) (points_joined (ms ++ l ∷ rest)) (points_none ms l rest (omega (arith, lim_is, long_l)))
     ∙ sym (none_either (length (ms ++ m ∷ rest) == k) (points_joined (ms ++ m ∷ rest)) (points_none ms m rest (omega (arith, lim_is, long_m)))))
-holding_long f n lim line ms l m rest (kinds.Rings k) is long_l long_m =
+holding_long f n lim line ms l m rest (kinds.Rings k) low is long_l long_m =
     let same : Some line_limit ≡ Some lim = is in
     let lim_is : line_limit ≡ lim = cc in
     ap (λ o. RingLines line o)
     (none_either (length (ms ++ l ∷ rest) == k) (rings_joined (ms ++ l ∷ rest)) (rings_none ms l rest (omega (arith, lim_is, long_l)))
     ∙ sym (none_either (length (ms ++ m ∷ rest) == k) (rings_joined (ms ++ m ∷ rest)) (rings_none ms m rest (omega (arith, lim_is, long_m)))))
 
-held_long : (f n lim : ℕ) (line : List ℕ) (ms : List (List ℕ)) (l m : List ℕ) (rest : List (List ℕ)) (what : Asked) → limit_of what ≡ Some lim
+held_long : (f n lim : ℕ) (line : List ℕ) (ms : List (List ℕ)) (l m : List ℕ) (rest : List (List ℕ)) (what : Asked) → f ≤ 2 → limit_of n what ≡ Some lim
     → IsAsked n (asked n line) (words_of line) what → lim < length l → lim < length m
     → held f n (grouped line (ms ++ l ∷ rest)) ≡ held f n (grouped line (ms ++ m ∷ rest))
-held_long f n lim line ms l m rest what is asks long_l long_m = elim (cases_Bool (is_long line)) [
+held_long f n lim line ms l m rest what low is asks long_l long_m = elim (cases_Bool (is_long line)) [
   | inl long ↦ long_item f n (grouped line (ms ++ l ∷ rest)) long ∙ sym (long_item f n (grouped line (ms ++ m ∷ rest)) long)
   | inr short ↦
       sym (holds f n line (ms ++ l ∷ rest) what (holding f n line (ms ++ l ∷ rest) what) short asks refl)
-      ∙ holding_long f n lim line ms l m rest what is long_l long_m
+      ∙ holding_long f n lim line ms l m rest what low is long_l long_m
       ∙ holds f n line (ms ++ m ∷ rest) what (holding f n line (ms ++ m ∷ rest) what) short asks refl
 ]
 
@@ -88,10 +119,10 @@ pub record Wants (n lim : ℕ) (text : List ℕ) : Type 0 where
   pub loud : is_silent line ≡ false
   pub asks : IsAsked n (asked n line) (words_of line) what
   pub few : length more < further_count n what
-  pub limit : limit_of what ≡ Some lim
+  pub limit : limit_of n what ≡ Some lim
 
 module _ (n lim : ℕ) (line : List ℕ) (more : List (List ℕ)) (what : Asked) (loud : is_silent line ≡ false)
-    (asks : IsAsked n (asked n line) (words_of line) what) (few : length more < further_count n what) (limit : limit_of what ≡ Some lim)
+    (asks : IsAsked n (asked n line) (words_of line) what) (few : length more < further_count n what) (limit : limit_of n what ≡ Some lim)
     (l m : List ℕ) (long_l : lim < length l) (long_m : lim < length m) where
   -- how many are wanted behind it
   abbrev left : ℕ
@@ -107,12 +138,12 @@ module _ (n lim : ℕ) (line : List ℕ) (more : List (List ℕ)) (what : Asked)
       ∙ ap (λ (x : List (List ℕ)). grouped line x ∷ groups_from n (asked n line) (more ++ a ∷ rest)) (take_past (asked n line) left more a rest wanted)
       ∙ ap (λ (gs : List Group). grouped line (more ++ a ∷ take left rest) ∷ gs) (groups_past n (asked n line) left more a rest wanted)
 
-  held_same : (f : ℕ) (rest : List (List ℕ)) → held f n (grouped line (more ++ l ∷ take left rest)) ≡ held f n (grouped line (more ++ m ∷ take left rest))
-  held_same f rest = held_long f n lim line more l m (take left rest) what limit asks long_l long_m
+  held_same : (f : ℕ) (rest : List (List ℕ)) → f ≤ 2 → held f n (grouped line (more ++ l ∷ take left rest)) ≡ held f n (grouped line (more ++ m ∷ take left rest))
+  held_same f rest low = held_long f n lim line more l m (take left rest) what low limit asks long_l long_m
 
   groups_same : (rest : List (List ℕ)) → Same n (groups_from n 0 (line ∷ (more ++ l ∷ rest))) (groups_from n 0 (line ∷ (more ++ m ∷ rest)))
-  groups_same rest = λ f.
-      ap (map (held f n)) (group_long l rest) ∙ ap (λ (i : Item). i ∷ map (held f n) (groups_from n left rest)) (held_same f rest)
+  groups_same rest = λ f low.
+      ap (map (held f n)) (group_long l rest) ∙ ap (λ (i : Item). i ∷ map (held f n) (groups_from n left rest)) (held_same f rest low)
       ∙ sym (ap (map (held f n)) (group_long m rest))
 
   -- of them the whole ones
@@ -121,11 +152,11 @@ module _ (n lim : ℕ) (line : List ℕ) (more : List (List ℕ)) (what : Asked)
 
   whole_same : (rest : List (List ℕ)) →
       Same n (filter (is_complete n) (groups_from n 0 (line ∷ (more ++ l ∷ rest)))) (filter (is_complete n) (groups_from n 0 (line ∷ (more ++ m ∷ rest))))
-  whole_same rest = λ f.
+  whole_same rest = λ f low.
       ap (λ (gs : List Group). map (held f n) (filter (is_complete n) gs)) (group_long l rest)
       ∙ either (length (more ++ l ∷ take left rest) == asked n line) (length (more ++ m ∷ take left rest) == asked n line)
       (grouped line (more ++ l ∷ take left rest)) (grouped line (more ++ m ∷ take left rest)) (filter (is_complete n) (groups_from n left rest))
-      f (ap (λ (k : ℕ). k == asked n line) (as_many rest)) (held_same f rest)
+      f (ap (λ (k : ℕ). k == asked n line) (as_many rest)) (held_same f rest low)
       ∙ sym (ap (λ (gs : List Group). map (held f n) (filter (is_complete n) gs)) (group_long m rest))
     where
       either : (a b : Bool) (g h : Group) (gs : List Group) (f : ℕ) → a ≡ b → held f n g ≡ held f n h
@@ -150,7 +181,7 @@ long_items n lim x a b v so is_a is_b long_a long_b =
 swapped : (n lim : ℕ) (x a b : List ℕ) (ls : List (List ℕ)) → Wants n lim x → lim < length a → lim < length b →
     Same n (filter (is_complete n) (groups_from n 0 (whole_lines x ++ onto (unfinished x ++ a) ls)))
     (filter (is_complete n) (groups_from n 0 (whole_lines x ++ onto (unfinished x ++ b) ls)))
-swapped n lim x a b [] so long_a long_b = λ f. refl
+swapped n lim x a b [] so long_a long_b = λ f low. refl
 swapped n lim x a b (l ∷ ls) so long_a long_b =
     let tail_a : List ℕ = (unfinished x ++ a) ++ l in
     let tail_b : List ℕ = (unfinished x ++ b) ++ l in

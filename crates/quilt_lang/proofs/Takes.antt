@@ -1,5 +1,5 @@
 -- Items taken one after another, and piece after piece.
-use Rattle.std.proofs.Common.{◌≡◌, ℕ, ◌<◌, Bool, true, false, List, [], ◌∷◌, ◌++◌, length, refl, sym, ◌∙◌, ap, subst, arith, append_assoc, append-nil, map}
+use Rattle.std.proofs.Common.{◌≡◌, ℕ, ◌<◌, ◌≤◌, Bool, true, false, List, [], ◌∷◌, ◌++◌, length, refl, sym, ◌∙◌, ap, subst, arith, append_assoc, append-nil, map}
 use Rattle.std.proofs.lemmas.List.{length-map, map-append}
 use Rattle.quilt_words.specs.declared.item.Item.{Item}
 use Rattle.quilt_words.specs.Items.{Group, held, items_of, whole_items}
@@ -31,7 +31,7 @@ gave_next e f s t u before after i so same next =
 -- with each item there are fewer
 pub fewer : (e : Bool) (n f : ℕ) (i : Item) (a b : List ℕ) → MayFollow e [] → GivesItem e n f i a b → length (items_of n b) < length (items_of n a)
 fewer e n f i a b may so =
-    let all : map (held 1 n) (items_of n a) ≡ map (held 1 n) (so.group ∷ items_of n b) = rw (append-nil a, append-nil b) at (so.gives.all [] may 1) in
+    let all : map (held 1 n) (items_of n a) ≡ map (held 1 n) (so.group ∷ items_of n b) = rw (append-nil a, append-nil b) at (so.gives.all [] may 1 (omega arith)) in
     omega (arith, ap length all, length-map (items_of n a) (held 1 n), length-map (items_of n b) (held 1 n))
 
 pub may_end : (e : Bool) → MayFollow e []
@@ -76,9 +76,9 @@ so_far_next n f s t u before after bytes piece so same fed took =
     }
 
 -- where no item is left, those given are the items of all bytes
-pub all_of_it : (n f : ℕ) (s u : Unread) (before after : List Item) (bytes : List ℕ) → SoFar n f s before bytes → Takes true f s u before after →
+pub all_of_it : (n f : ℕ) (s u : Unread) (before after : List Item) (bytes : List ℕ) → f ≤ 2 → SoFar n f s before bytes → Takes true f s u before after →
     after ≡ map (held f n) (items_of n bytes)
-all_of_it n f s u before after bytes so took =
+all_of_it n f s u before after bytes low so took =
     let groups : List Group = took.gave.items in
     let P : ℕ → Type 0 = λ (m : ℕ). Gives true m groups s.rest u.rest in
     let R : ℕ → Type 0 = λ (m : ℕ). after ≡ before ++ map (held f m) groups in
@@ -88,21 +88,21 @@ all_of_it n f s u before after bytes so took =
     let gave : Gives true n groups s.rest u.rest = subst P so.level took.gave.gives in
     let second : Same n (items_of n s.rest) (groups ++ items_of n u.rest) = rw (append-nil s.rest, append-nil u.rest) at (gave.all [] refl) in
     let behind : Same n (items_of n s.rest) groups =
-    λ g. second g ∙ ap (λ (l : List Group). map (held g n) (groups ++ l)) none ∙ ap (map (held g n)) (append-nil groups) in
+    λ g few. second g few ∙ ap (λ (l : List Group). map (held g n) (groups ++ l)) none ∙ ap (map (held g n)) (append-nil groups) in
     subst R so.level took.gave.put ∙ ap (λ (l : List Item). l ++ map (held f n) groups) so.are ∙ sym (map-append (held f n) so.groups groups)
     ∙ sym (same_then n (items_of n bytes) (so.groups ++ items_of n s.rest) (so.groups ++ groups) first
-    (same_onto n so.groups (items_of n s.rest) groups behind) f)
+    (same_onto n so.groups (items_of n s.rest) groups behind) f low)
 
 -- where no whole item is left, those given are the whole items, and stand at the front whatever follows
-pub whole_of_it : (n f : ℕ) (s : Unread) (items : List Item) (bytes : List ℕ) → SoFar n f s items bytes → items ≡ map (held f n) (whole_items n bytes)
-whole_of_it n f s items bytes so =
+pub whole_of_it : (n f : ℕ) (s : Unread) (items : List Item) (bytes : List ℕ) → f ≤ 2 → SoFar n f s items bytes → items ≡ map (held f n) (whole_items n bytes)
+whole_of_it n f s items bytes low so =
     let whole : Same n (whole_items n bytes) (so.groups ++ whole_items n s.rest) = rw (append-nil bytes, append-nil s.rest) at (so.gives.whole refl []) in
-    so.are ∙ sym (whole f ∙ ap (λ (l : List Group). map (held f n) (so.groups ++ l)) so.none ∙ ap (map (held f n)) (append-nil so.groups))
+    so.are ∙ sym (whole f low ∙ ap (λ (l : List Group). map (held f n) (so.groups ++ l)) so.none ∙ ap (map (held f n)) (append-nil so.groups))
 
-pub front_of_it : (n f : ℕ) (s : Unread) (items : List Item) (bytes v : List ℕ) → SoFar n f s items bytes
+pub front_of_it : (n f : ℕ) (s : Unread) (items : List Item) (bytes v : List ℕ) → f ≤ 2 → SoFar n f s items bytes
     → BeginWith (map (held f n) (items_of n (bytes ++ v))) items
-front_of_it n f s items bytes v so = (
+front_of_it n f s items bytes v low so = (
   map (held f n) (items_of n (s.rest ++ v)),
-  so.gives.all v tt f ∙ map-append (held f n) so.groups (items_of n (s.rest ++ v))
+  so.gives.all v tt f low ∙ map-append (held f n) so.groups (items_of n (s.rest ++ v))
       ∙ ap (λ (l : List Item). l ++ map (held f n) (items_of n (s.rest ++ v))) (sym so.are),
 )

@@ -6,7 +6,7 @@ use Rattle.quilt_lang.specs.declared.asked.Asked.TheVariants as kinds
 use Rattle.quilt_words.specs.declared.item.Item.{Item}
 use Rattle.quilt_words.specs.declared.item.Item.TheVariants.{Line, Rows, PointLines, RingLines}
 use Rattle.quilt_words.specs.Items.{Group, begins_with, line_limit, lines_of, whole_lines, rows_of, points_of, rings_of}
-use Rattle.quilt_lang.specs.Reading.{MayFollow, point_limit}
+use Rattle.quilt_lang.specs.Reading.{MayFollow, point_limit, row_limit}
 
 -- a line with these further lines
 abbrev pub grouped : List ℕ → List (List ℕ) → Group
@@ -35,12 +35,12 @@ further_count n kinds.Rows = side n
 further_count n (kinds.Points k) = k
 further_count n (kinds.Rings k) = k
 
--- the most bytes that one of them may have; a row has no such bound
-abbrev pub limit_of : Asked → Option ℕ
-limit_of kinds.Nothing = None
-limit_of kinds.Rows = None
-limit_of (kinds.Points k) = Some point_limit
-limit_of (kinds.Rings k) = Some line_limit
+-- the most bytes that one of them may have
+abbrev pub limit_of : ℕ → Asked → Option ℕ
+limit_of n kinds.Nothing = None
+limit_of n kinds.Rows = row_limit n
+limit_of n (kinds.Points k) = Some point_limit
+limit_of n (kinds.Rings k) = Some line_limit
 
 -- the words begin with the one that asks for them, and for one line at least
 abbrev pub IsAsking : List (List ℕ) → Asked → Type 0

@@ -69,10 +69,10 @@ told_len (progresses.Waiting waiting) = waiting.line + 1 + waiting.cut.len + wai
 pub record KeepsUnfinished (n : ℕ) (rest : List ℕ) (progress : Progress) : Type 0 where
   pub within : told_len progress ≤ length rest
   pub gives : Gives false n [] rest (take (told_len progress) rest)
-  pub short : told_len progress ≤ kept_limit rest
+  pub short : told_len progress ≤ kept_limit n rest
   pub behind : (piece : List ℕ) → IsProgress n progress (take (told_len progress) rest ++ piece)
   pub lines : whole_lines (take (told_len progress) rest) ≡ whole_lines rest
-  pub misses : (b : ℕ × ℕ) → bounds_of progress ≡ Some b → Misses n b.0 b.1 (take (told_len progress) rest)
-  pub part : (b : ℕ × ℕ) → bounds_of progress ≡ Some b → length (unfinished (take (told_len progress) rest)) ≤ b.0 + 1
-  pub bounds : (line : List ℕ) (more : List (List ℕ)) (most : ℕ) → whole_lines rest ≡ line ∷ more → limit_behind (whole_lines rest) ≡ Some most
-      → bounds_of progress ≡ Some (most, asked n line - length more)
+  pub misses : (b : ℕ × ℕ) → bounds_of n progress ≡ Some b → Misses n b.0 b.1 (take (told_len progress) rest)
+  pub part : (b : ℕ × ℕ) → bounds_of n progress ≡ Some b → length (unfinished (take (told_len progress) rest)) ≤ b.0 + 1
+  pub bounds : (line : List ℕ) (more : List (List ℕ)) (most : ℕ) → whole_lines rest ≡ line ∷ more → limit_behind n (whole_lines rest) ≡ Some most
+      → bounds_of n progress ≡ Some (most, asked n line - length more)

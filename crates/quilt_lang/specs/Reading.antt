@@ -1,7 +1,8 @@
 -- What reading a text in pieces gives.
-use Rattle.std.specs.Prelude.{◌≡◌, ℕ, ◌+◌, ◌-◌, ◌<◌, ◌==◌, min, Bool, true, false, List, [], ◌∷◌, ◌++◌, length, take, drop, map, All, Option, Some, None, Result}
+use Rattle.std.specs.Prelude.{◌≡◌, ℕ, ◌+◌, ◌-◌, ◌*◌, ◌<◌, ◌≤◌, ◌==◌, nat_le, min, Bool, true, false, List, [], ◌∷◌, ◌++◌, length, take, drop, map, All, Option, Some, None, Result}
 use Rattle.std.specs.Prelude.{if◌then◌else◌, codes}
 use Rattle.std.specs.List.{slice_split}
+use Rattle.quilt_types.specs.Plane.{side}
 use Rattle.quilt_types.specs.declared.code.Code.{Code}
 use Rattle.quilt_words.specs.declared.command.Command.{Command}
 use Rattle.quilt_words.specs.declared.item.Item.{Item}
@@ -18,9 +19,9 @@ abbrev pub MayFollow : Bool → List ℕ → Type 0
 MayFollow false v = Unit {0}
 MayFollow true v = v ≡ []
 
--- two lists of groups of lines that hold the same items, in whatever format each is read
+-- two lists of groups of lines that hold the same items, in whatever format up to 2 each is read
 abbrev pub Same : ℕ → List Group → List Group → Type 0
-Same n gs hs = (f : ℕ) → map (held f n) gs ≡ map (held f n) hs
+Same n gs hs = (f : ℕ) → f ≤ 2 → map (held f n) gs ≡ map (held f n) hs
 
 -- Whatever may follow, the items of the old text are these and then those of the new one, and so are the whole items.
 pub record Gives (ended : Bool) (n : ℕ) (items : List Group) (old new : List ℕ) : Type 0 where
@@ -90,11 +91,16 @@ unfinished text = last_part (slice_split (λ c. c == 10) text)
 abbrev pub point_limit : ℕ
 point_limit = 64
 
--- The most bytes that a line may have behind these whole lines: one that begins an item, a list line or a ring line; a row has no such bound.
-abbrev pub limit_behind : List (List ℕ) → Option ℕ
-limit_behind [] = Some line_limit
-limit_behind (l ∷ ls) =
-    if begins_with (words_of l) (codes "scatter") then Some point_limit
+-- the most bytes that a row may have, in a format up to 2: four a pixel; beyond level 16, where pixels have no numbers of 16 bits, it has no such bound
+abbrev pub row_limit : ℕ → Option ℕ
+row_limit n = if nat_le n 16 then Some (4 * side n) else None
+
+-- the most bytes that a line may have behind these whole lines: one that begins an item, a row, a list line or a ring line
+abbrev pub limit_behind : ℕ → List (List ℕ) → Option ℕ
+limit_behind n [] = Some line_limit
+limit_behind n (l ∷ ls) =
+    if begins_with (words_of l) (codes "raster") then row_limit n
+    else if begins_with (words_of l) (codes "scatter") then Some point_limit
     else if begins_with (words_of l) (codes "polygon") then Some line_limit else None
 
 -- so many bytes, and no more than show that they are too many
@@ -104,5 +110,5 @@ enough_of (Some most) k = min k (most + 1)
 
 -- The most bytes that are kept of a rest whose whole items are all given: all that end with a newline, and of the last line no more
 -- than show that it is too long.
-abbrev pub kept_limit : List ℕ → ℕ
-kept_limit rest = length rest - length (unfinished rest) + enough_of (limit_behind (whole_lines rest)) (length (unfinished rest))
+abbrev pub kept_limit : ℕ → List ℕ → ℕ
+kept_limit n rest = length rest - length (unfinished rest) + enough_of (limit_behind n (whole_lines rest)) (length (unfinished rest))

@@ -1,10 +1,11 @@
 //! The further lines that a line asks for.
-ghost use Rattle.std.specs.Prelude.{◌≡◌, ◌==◌, ◌||◌, ℕ, false, codes, length, map, IfOk};
+ghost use Rattle.std.specs.Prelude.{◌≡◌, ◌<◌, ◌≤◌, ◌^◌, ◌==◌, ◌||◌, ℕ, false, codes, length, map, IfOk, IfSome};
 ghost use Rattle.std.specs.Str.{bytes_eq};
 ghost use Rattle.quilt_types.specs.Plane.{side};
 ghost use Rattle.quilt_words.specs.Items.{asked, asked_by, begins_with, words_of};
 ghost use Rattle.quilt_lang.specs.Cutting.{IsAsked, limit_of, further_count};
-ghost use Rattle.quilt_lang.specs.Reading.{enough_of};
+ghost use Rattle.quilt_lang.specs.declared.asked.Asked.TheVariants as kinds;
+ghost use Rattle.quilt_lang.specs.Reading.{enough_of, row_limit};
 ghost use Rattle.quilt_lang.specs.Shortening.{bounds};
 
 use crate::spelled::{POINT_LIMIT, listed};
@@ -37,24 +38,27 @@ impl Asked {
     }
 
     /// So many bytes of one of them, and no more than show that it is too long.
-    pub fn enough_of(self, len: usize) -> usize
-        ensures { result ≡ enough_of (limit_of self) len }
+    pub fn enough_of(self, level: u8, len: usize) -> usize
+        ensures { result ≡ enough_of (limit_of level self) len }
     {
         match self {
+            Asked::Nothing => len,
+            Asked::Rows => enough_of_row(level, len),
             Asked::Points(_) => len.min(POINT_LIMIT + 1),
             Asked::Rings(_) => len.min(LINE_LIMIT + 1),
-            _ => len,
         }
     }
 
-    /// The most bytes that one of them may have, and how many are missing where so many stand there; none for rows.
-    pub fn bounds(self, count: usize) -> Option<(usize, usize)>
-        ensures { result ≡ bounds self count }
+    /// The most bytes that one of them may have, and how many are missing where so many stand there.
+    pub fn bounds(self, level: u8, count: usize) -> Option<(usize, usize)>
+        ensures is { result ≡ bounds level self count }
+        ensures low { IfSome result (λ b. b.0 < 2 ^ 63) }
     {
         match self {
+            Asked::Nothing => None,
+            Asked::Rows => row_bounds(level, count),
             Asked::Points(k) => Some((POINT_LIMIT, (k as usize).saturating_sub(count))),
             Asked::Rings(k) => Some((LINE_LIMIT, (k as usize).saturating_sub(count))),
-            _ => None,
         }
     }
 
@@ -64,6 +68,43 @@ impl Asked {
     {
         ended || self.is_number(level, count)
     }
+}
+
+/// The highest level at which a row has a greatest length.
+const ROW_LEVEL: u8 = 16;
+
+/// The most bytes that a row may have in a format up to 2.
+fn row_limit(level: u8) -> Option<usize>
+    ensures is { result ≡ row_limit level }
+    ensures low { IfSome result (λ most. most ≤ 262144) }
+{
+    if level > ROW_LEVEL {
+        return None;
+    }
+    let side = 1_usize << level;
+    Some(4 * side)
+}
+
+/// So many bytes of a row, and no more than show that it is too long.
+fn enough_of_row(level: u8, len: usize) -> usize
+    ensures { result ≡ enough_of (row_limit level) len }
+{
+    match row_limit(level) {
+        Some(most) => len.min(most + 1),
+        None => len,
+    }
+}
+
+/// The most bytes that a row may have, and how many are missing where so many stand there.
+fn row_bounds(level: u8, count: usize) -> Option<(usize, usize)>
+    ensures is { result ≡ bounds level kinds.Rows count }
+    ensures low { IfSome result (λ b. b.0 < 2 ^ 63) }
+{
+    if level > ROW_LEVEL {
+        return None;
+    }
+    let side = 1_usize << level;
+    Some((4 * side, side.saturating_sub(count)))
 }
 
 /// Whether so many lines are a row for each row of the square.

@@ -56,7 +56,7 @@ fn kept_waiting(level: u8, rest: &[u8], waiting: Waiting) -> Progress
         len,
         scanned,
     } = count_lines(level, what, &rest[line + 1..], cut);
-    let scanned = what.enough_of(scanned);
+    let scanned = what.enough_of(level, scanned);
     let cut = CutLines {
         count,
         len,

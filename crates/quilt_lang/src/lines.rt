@@ -60,14 +60,14 @@ impl Lines {
         requires { whole_items self.old.level self.old.rest ≡ [] }
         ensures level { self.new.level ≡ self.old.level }
         ensures fed { OnOk result (Gives false self.old.level [] (self.old.rest ++ piece.now) self.new.rest) }
-        ensures short { OnOk result (length self.new.rest ≤ kept_limit self.old.rest + length piece.now) }
+        ensures short { OnOk result (length self.new.rest ≤ kept_limit self.old.level self.old.rest + length piece.now) }
         ensures lines { OnOk result (KeepsShort self.old.level self.old.rest self.new.rest) }
         ensures err { OnErr result (self.new ≡ self.old) }
     {
         let alloc = *self.bytes.allocator();
         let rest = &self.bytes[self.from..];
         let progress = kept_progress(alloc, self.level, rest, self.progress)?;
-        put_piece(&mut self.bytes, self.from, progress, piece)?;
+        put_piece(&mut self.bytes, self.from, self.level, progress, piece)?;
         match progress {
             Progress::Waiting(_) => {
                 self.from = 0;
@@ -168,15 +168,16 @@ impl Lines {
 fn put_piece(
     bytes: &mut Vec<u8>,
     from: usize,
+    level: u8,
     progress: Progress,
     piece: &[u8],
 ) -> Result<(), AllocError>
     requires { from + told_len progress ≤ vec_len bytes.old }
     ensures put { OnOk result ((new : List ℕ) × (bytes.new.items ≡ take (told_len progress) (drop from bytes.old.items) ++ new)
-        × IsTextPart (bounds_of progress) piece.now new) }
+        × IsTextPart (bounds_of level progress) piece.now new) }
     ensures err { OnErr result (bytes.new.items ≡ bytes.old.items) }
 {
-    match progress.bounds() {
+    match progress.bounds(level) {
         None => put_behind(bytes, from, progress.len(), piece),
         Some((most, missing)) => {
             if is_short(piece, most, missing) {

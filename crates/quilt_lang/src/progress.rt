@@ -1,4 +1,4 @@
-ghost use Rattle.std.specs.Prelude.{◌≡◌, ◌<◌, ◌^◌};
+ghost use Rattle.std.specs.Prelude.{◌≡◌, ◌<◌, ◌^◌, IfSome};
 ghost use Rattle.quilt_lang.specs.Progress.{told_len};
 ghost use Rattle.quilt_lang.specs.Shortening.{bounds_of};
 
@@ -55,13 +55,14 @@ impl Progress {
         }
     }
 
-    /// The most bytes of a further line that waits, and how many are missing; none where a line begins an item, or is a row.
-    pub fn bounds(self) -> Option<(usize, usize)>
-        ensures { result ≡ bounds_of self }
+    /// The most bytes of a further line that waits, and how many are missing; none where a line begins an item.
+    pub fn bounds(self, level: u8) -> Option<(usize, usize)>
+        ensures is { result ≡ bounds_of level self }
+        ensures low { IfSome result (λ b. b.0 < 2 ^ 63) }
     {
         match self {
             Progress::Begun(_) => None,
-            Progress::Waiting(Waiting { what, cut, .. }) => what.bounds(cut.count),
+            Progress::Waiting(Waiting { what, cut, .. }) => what.bounds(level, cut.count),
         }
     }
 }

@@ -1,5 +1,5 @@
 -- The public laws of this crate, which crates above may cite.
-use Rattle.std.proofs.Common.{◌≡◌, Some, sym, ◌∙◌}
+use Rattle.std.proofs.Common.{◌≡◌, ℕ, Some, sym, ◌∙◌, subst, arith}
 use Rattle.quilt_world.specs.Stops.{LeavesNow}
 use Rattle.quilt_world.specs.Tale.{Tale}
 use Rattle.quilt_world.specs.declared.disk.Disk as disk
@@ -8,6 +8,7 @@ use Rattle.quilt_world.specs.Disk.{Pages}
 use Rattle.quilt_journal.specs.Kept.{HasHome, published}
 use Rattle.quilt_replies.specs.Answers.{State}
 use Rattle.quilt_map.specs.declared.session.Session.{Session}
+use Rattle.quilt_map.proofs.answers.Orderly.{IsReadAt}
 use Rattle.quilt_map.proofs.states.Keeping.{book_leaves, book_seen, book_stands}
 use Rattle.quilt_map.specs.Sessions.{IsAt, session_world, format_of, level_of}
 
@@ -33,3 +34,11 @@ module _ {W : Type 0} {D : disk.Ghosts W} (session : Session W D) (s : State) wh
   pub at_level : IsAt session s → s.last.level ≡ level_of session
   unfolding IsAt level_of
   at_level h = let at = h.at in at.last.head.level
+
+  -- and a format that there is
+  pub at_read : IsAt session s → IsReadAt (level_of session) s.last
+  unfolding IsAt level_of
+  at_read h = let at = h.at in (at.last.head.level, omega (arith, at.last.head.format ∙ sym at.format, session.book.next.format.1))
+
+  pub at_read_as : IsAt session s → (n : ℕ) → level_of session ≡ n → IsReadAt n s.last
+  at_read_as h n is = subst (λ (m : ℕ). IsReadAt m s.last) is (at_read h)

@@ -117,7 +117,7 @@ module _ (path : List ℕ) (door : Door) where
       let before = early pages first u v new keeps (subst (λ (p : Pages). IsMapFile p pages) start file) (subst (λ (p : Pages). Stands p first) start stands) in
       subst (λ (i : List ℕ). RunsInTurn (run (quota pages) first i) end v) (keeps.input ∙ opens.fresh.input)
       (runs_turn pages first end v v
-      (quiet_run pages first end v untold (λ image left. before v.log image ([], sym (append-nil v.log)) left)
+      (quiet_run pages first end v _ stands untold (λ image left. before v.log image ([], sym (append-nil v.log)) left)
       (λ x. apart end ends.Done 5 0 other refl (λ f. cc) x) (λ x. apart end ends.Refused 5 1 other refl (λ f. cc) x)
       (λ x. apart end ends.TooMuch 5 2 other refl (λ f. cc) x)) untold before)
   quiet_turn end t u v other opens keeps (sources.Trial seed count) = λ memory. pages_unput v.log (opened_untold u v opens.fresh.log keeps)

@@ -137,17 +137,17 @@ file_missing source path pool rose now end o n door opens =
     (λ x. let f : ◌≡◌ {A = Door} doors.Missing doors.Taken = sym door ∙ x in cc) opens
 
 -- a run that was not begun
-quiet : (source : Source) (pages : ℕ) (first : Edition) (rose : Type 0) (end : End) (t v : Tale) → v.input ≡ t.input → IsUntold v
+quiet : (source : Source) (pages : ℕ) (first : Edition) (rose : Type 0) (end : End) (t v : Tale) → v.input ≡ t.input → IsUntold v → Stands v.start first
     → ((so_far : Log) (image : Pages) → Begins v.log so_far → CanLeave v.start so_far image → Stands image first) → number end ≡ 5
     → IsOneOf end run_ends → (end ≡ ends.Device → rose) → Runs source pages first rose end t v
-quiet sources.Input pages first rose end t v input untold early other one device =
+quiet sources.Input pages first rose end t v input untold stands early other one device =
     subst (λ (i : List ℕ). RunsInput pages first i rose end v) input
     (runs_input pages first end v v
-    (quiet_run pages first end v untold (λ image left. early v.log image ([], sym (append-nil v.log)) left)
+    (quiet_run pages first end v v.start stands untold (λ image left. early v.log image ([], sym (append-nil v.log)) left)
     (λ x. apart end ends.Done 5 0 other refl (λ f. cc) x) (λ x. apart end ends.Refused 5 1 other refl (λ f. cc) x)
     (λ x. apart end ends.TooMuch 5 2 other refl (λ f. cc) x))
     untold early rose one device)
-quiet (sources.Trial seed count) pages first rose end t v input untold early other one device =
+quiet (sources.Trial seed count) pages first rose end t v input untold stands early other one device =
     runs_trial pages first seed count end v v untold
     (quiet_try pages first seed count end v (λ image left. early v.log image ([], sym (append-nil v.log)) left)
     (λ x. apart end ends.Done 5 0 other refl (λ f. cc) x) (λ x. apart end ends.Refused 5 1 other refl (λ f. cc) x))
@@ -177,7 +177,7 @@ module _ (source : Source) (path : List ℕ) (pool : ℕ) (rose : Type 0) (door 
       (λ page x. absurd (apart end (ends.Damaged page) 5 4 other refl (λ f. cc) x))
       (λ pages file none. let some = damage_page (home v.start pages) (home_few v.start pages file) in (some.0, some.1, inr one))
       (λ x. apart end ends.TooMuch 5 2 other refl (λ f. cc) x))
-      (λ e pages first file stands. quiet source pages first rose end t v (keeps.input ∙ opens.fresh.input) untold
+      (λ e pages first file stands. quiet source pages first rose end t v (keeps.input ∙ opens.fresh.input) untold stands
       (early pages first file stands) other (one_run end one) device)
 
   -- no map file

@@ -20,6 +20,7 @@ use Rattle.quilt_edition.specs.Stands.{HoldsEdition, Stands, IsDamagePage}
 use Rattle.quilt_words.specs.Items.{items_of}
 use Rattle.quilt_replies.specs.Answers.{State}
 use Rattle.quilt_replies.specs.Runs.{Run, Published, run, publishes, replies_of, output, told_within, editions_told}
+use Rattle.quilt_map.proofs.answers.Orderly.{IsReadAt}
 use Rattle.quilt_map.specs.Sessions.{first_state}
 use Rattle.quilt_top.specs.Stronger.{PutsWhole, RunsInTurn, gives_next, touches_page}
 use Rattle.quilt_top.specs.TextRun.{run_in, publishes_in, IsUntold, IsFine, RunsFrom, RunsWhole, Overruns, EndsBetween}
@@ -241,17 +242,18 @@ module _ (pages : ℕ) (first : Edition) (end : End) (v w : Tale) (so : RunsTo f
 
 -- ---- a run that was not begun
 
-pub quiet_run : (pages : ℕ) (first : Edition) (end : End) (v : Tale) → IsUntold v → LeavesNow v (λ image. Stands image first) → (end ≡ ends.Done → ⊥)
+pub quiet_run : (pages : ℕ) (first : Edition) (end : End) (v : Tale) (image : Pages) → Stands image first → IsUntold v → LeavesNow v (λ image. Stands image first) → (end ≡ ends.Done → ⊥)
     → (end ≡ ends.Refused → ⊥) → (end ≡ ends.TooMuch → ⊥)
     → RunsTo first.level (first_state pages first) end v v
-quiet_run pages first end v untold leaves not_done not_refused not_much =
+quiet_run pages first end v image stands untold leaves not_done not_refused not_much =
     let s = first_state pages first in
-    let reading = reading_first first.level s refl 0 v refl untold leaves in record {
-      runs = runs_now first.level s refl 0 true s 0 [] v v (omega arith) reading;
+    let at : IsReadAt first.level first = (refl, omega (arith, stands.holds.format, stands.holds.header.numbers.format.1)) in
+    let reading = reading_first first.level s at 0 v refl untold leaves in record {
+      runs = runs_now first.level s at 0 true s 0 [] v v (omega arith) reading;
       done = λ is. absurd (not_done is);
       refused = λ is. absurd (not_refused is);
       too_much = λ is. absurd (not_much is);
-      between = λ is. ends_now first.level s refl 0 true s 0 [] v v reading leaves;
+      between = λ is. ends_now first.level s at 0 true s 0 [] v v reading leaves;
     }
 
 pub opens_quiet : (end : End) (u v : Tale) → u.log ≡ [] → Keeps u v → ComesExactly end ends.NotMap (IsNoMap v.start)

@@ -15,6 +15,7 @@ use Rattle.quilt_words.specs.Items.{Group, held, items_of}
 use Rattle.quilt_lang.specs.Reading.{Same}
 use Rattle.quilt_replies.specs.Answers.{State, Reply}
 use Rattle.quilt_replies.specs.Runs.{Run, replies_of, is_done, with_first}
+use Rattle.quilt_map.proofs.answers.Orderly.{IsReadAt}
 use Rattle.quilt_map.proofs.answers.TextLaws.{run_same}
 use Rattle.quilt_top.specs.Headline.{all_done, last_number, summary}
 use Rattle.quilt_top.specs.Replies.{held_at, outcome, state_then, state_after}
@@ -23,7 +24,7 @@ use Rattle.quilt_top.specs.Trying.{StandsForLast, summary_of, Tried}
 use Rattle.quilt_top.specs.declared.trial_run.Tally.{Tally}
 use Rattle.quilt_top.proofs.turns.Exits.{last_is}
 use Rattle.quilt_top.proofs.turns.Places.{edition_first}
-use Rattle.quilt_top.proofs.logs.Said.{run_replies, length-replies, level_after}
+use Rattle.quilt_top.proofs.logs.Said.{run_replies, length-replies, read_after}
 
 -- ---- no reply is a refusal
 
@@ -64,12 +65,12 @@ number_is s (g ∷ gs) =
 
 -- ---- the numbers
 
-module _ (n : ℕ) (text : List ℕ) (s now : State) (at : s.last.level ≡ n) (tally : Tally) (so : Tried n text [] s now tally) where
+module _ (n : ℕ) (text : List ℕ) (s now : State) (at : IsReadAt n s.last) (tally : Tally) (so : Tried n text [] s now tally) where
   abbrev r : Run
   r = run_in s (items_of n text)
 
   all : Same n (items_of n text) so.items
-  all f = so.all f ∙ ap (λ (l : List Group). map (held f n) l) (append-nil so.items)
+  all f low = so.all f low ∙ ap (λ (l : List Group). map (held f n) l) (append-nil so.items)
 
   run_is : r ≡ run_in s so.items
   run_is = run_same s.quota s.last s.work n (items_of n text) so.items at all
@@ -87,7 +88,7 @@ module _ (n : ℕ) (text : List ℕ) (s now : State) (at : s.last.level ≡ n) (
   number_now = ap (λ (x : Run). last_number x.editions) run_is ∙ number_is s so.items ∙ sym (ap (λ (x : State). x.last.number) so.state)
 
   pub level_now : now.last.level ≡ n
-  level_now = ap (λ (x : State). x.last.level) so.state ∙ level_after s n so.items at
+  level_now = ap (λ (x : State). x.last.level) so.state ∙ (read_after s n so.items at).0
 
   pub flag_is : tally.done + tally.refused ≡ length (items_of n text) → (tally.refused == 0) ≡ all_done r
   flag_is counted = none_refused (replies_of r) tally.refused (omega (arith, size_is, done_is, counted))

@@ -294,6 +294,7 @@ fn padded_text(alloc: Global, head: &[u8], words: &[u8], len: usize) -> Result<V
 /// Whether the items are one whose further lines hold something, as is asked, and a line behind it.
 fn are_held(items: &[Item], held: bool) -> bool {
     match items {
+        [Item::Rows(_, rows), Item::Line(_)] => rows.is_some() == held,
         [Item::PointLines(_, points), Item::Line(_)] => points.is_some() == held,
         [Item::RingLines(_, rings), Item::Line(_)] => rings.is_some() == held,
         _ => false,
@@ -303,17 +304,18 @@ fn are_held(items: &[Item], held: bool) -> bool {
 /// Reads a text in pieces of so many bytes, and in two that are cut at each byte from an index on.
 fn check_held(
     alloc: Global,
+    format: u8,
     text: &[u8],
     held: bool,
     piece: usize,
     from: usize,
 ) -> Result<(), Fail> {
     let pieces: Vec<&[u8]> = text.chunks(piece.max(1)).collect(alloc)?;
-    if !are_held(&items_in(alloc, LEVEL, 1, &pieces)?, held) {
+    if !are_held(&items_in(alloc, LEVEL, format, &pieces)?, held) {
         return Err(Fail::from("read otherwise in pieces"));
     }
     for cut in from..text.len() {
-        let items = items_in(alloc, LEVEL, 1, &[&text[..cut], &text[cut..]])?;
+        let items = items_in(alloc, LEVEL, format, &[&text[..cut], &text[cut..]])?;
         if !are_held(&items, held) {
             return Err(Fail::from("cut otherwise"));
         }
@@ -327,7 +329,7 @@ fn reads_list_lines_up_to_their_limit(rt: HostRuntime) -> Result<(), Fail> {
     for (len, held) in [(64, true), (65, false), (66, false), (200, false)] {
         let text = padded_text(alloc, b"scatter p 1\n", b"1 1 7", len)?;
         for piece in [1, 7, 64, 65, 66] {
-            check_held(alloc, &text, held, piece, 0)?;
+            check_held(alloc, 1, &text, held, piece, 0)?;
         }
     }
     Ok(())
@@ -339,7 +341,7 @@ fn reads_ring_lines_up_to_their_limit(rt: HostRuntime) -> Result<(), Fail> {
     for (len, held) in [(8320, true), (8321, false), (8322, false), (20_000, false)] {
         let text = padded_text(alloc, b"polygon a 1 1\n", b"0 0 1 0 0 1", len)?;
         for piece in [100, 4096, 8320, 8321] {
-            check_held(alloc, &text, held, piece, text.len().saturating_sub(20))?;
+            check_held(alloc, 1, &text, held, piece, text.len().saturating_sub(20))?;
         }
     }
     Ok(())
@@ -361,9 +363,58 @@ fn list_text(alloc: Global, index: usize, len: usize) -> Result<Vec<u8>, Fail> {
 fn reads_each_list_line_up_to_its_limit(rt: HostRuntime) -> Result<(), Fail> {
     let alloc = rt.alloc();
     for index in 0..3_usize {
-        check_held(alloc, &list_text(alloc, index, 64)?, true, 3, 0)?;
-        check_held(alloc, &list_text(alloc, index, 65)?, false, 3, 0)?;
-        check_held(alloc, &list_text(alloc, index, 300)?, false, 70, 0)?;
+        check_held(alloc, 1, &list_text(alloc, index, 64)?, true, 3, 0)?;
+        check_held(alloc, 1, &list_text(alloc, index, 65)?, false, 3, 0)?;
+        check_held(alloc, 1, &list_text(alloc, index, 300)?, false, 70, 0)?;
+    }
+    Ok(())
+}
+
+/// A text of a raster of two rows, of which the one at the index has so many digits and the other those of its format, and one line more.
+fn raster_text(alloc: Global, format: u8, index: usize, len: usize) -> Result<Vec<u8>, Fail> {
+    let mut text = Vec::from_slice(alloc, b"raster a\n")?;
+    for i in 0..2_usize {
+        let size = if i == index { len } else { 4 * format as usize };
+        text.extend_from_slice(&vec![in alloc; b'7'; size]?)?;
+        text.push(b'\n')?;
+    }
+    text.extend_from_slice(b"at a 1 0\n")?;
+    Ok(text)
+}
+
+#[test]
+fn reads_each_row_up_to_its_limit(rt: HostRuntime) -> Result<(), Fail> {
+    let alloc = rt.alloc();
+    let cases = [
+        (1, 4, true),
+        (1, 5, false),
+        (1, 8, false),
+        (1, 9, false),
+        (2, 8, true),
+    ];
+    for (format, len, held) in cases {
+        for index in 0..2_usize {
+            check_held(
+                alloc,
+                format,
+                &raster_text(alloc, format, index, len)?,
+                held,
+                1,
+                0,
+            )?;
+        }
+    }
+    for (len, piece) in [(9, 1), (10, 3), (16, 9), (200, 70)] {
+        for index in 0..2_usize {
+            check_held(
+                alloc,
+                2,
+                &raster_text(alloc, 2, index, len)?,
+                false,
+                piece,
+                0,
+            )?;
+        }
     }
     Ok(())
 }

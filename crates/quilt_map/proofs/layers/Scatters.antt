@@ -1,7 +1,7 @@
 -- Points that come at once: which of them may, and what the command is answered.
 use Rattle.std.specs.Prelude.{◌↔◌, is_some, is_none, IsNone, unwrap_or}
 use Rattle.std.specs.List.{list_any}
-use Rattle.std.proofs.Common.{◌≡◌, ℕ, Bool, true, false, not, ◌||◌, List, [], ◌∷◌, map, All, Contains, Option, Some, None, refl, sym, ◌∙◌, ap, subst, ⊎_elim}
+use Rattle.std.proofs.Common.{◌≡◌, ℕ, Bool, true, false, not, List, [], ◌∷◌, map, All, Contains, Option, Some, None, refl, sym, ◌∙◌, ap, subst, ⊎_elim}
 use Rattle.std.specs.FinMap as finmap
 use Rattle.std.proofs.lemmas.Bool.{cases_Bool, or_parts, or_from, not-false}
 use Rattle.std.proofs.lemmas.List.Elements.{All-weaker, All-contains_itself}

@@ -17,7 +17,8 @@ use Rattle.quilt_words.specs.declared.item.Item.{Item}
 use Rattle.quilt_words.specs.Forms.{form}
 use Rattle.quilt_words.specs.Items.{Group}
 use Rattle.quilt_lang.specs.Reading.{Same}
-use Rattle.quilt_map.proofs.answers.TextLaws.{run_same, outcome_keeps_level}
+use Rattle.quilt_map.proofs.answers.Orderly.{IsReadAt, read_then}
+use Rattle.quilt_map.proofs.answers.TextLaws.{run_same}
 use Rattle.quilt_replies.specs.Answers.{State, Reply}
 use Rattle.quilt_replies.specs.Runs.{Run, replies_of, text_of, output, is_done}
 use Rattle.quilt_top.specs.Replies.{held_at, reply_to, state_then, state_after, replies_from, said_for}
@@ -161,19 +162,19 @@ run_output s g = ap output (run_replies s g)
 
 -- ---- groups of lines that hold the same items
 
-pub replies_same : (s : State) (n : ℕ) (g h : List Group) → s.last.level ≡ n → Same n g h → replies_from s g ≡ replies_from s h
+pub replies_same : (s : State) (n : ℕ) (g h : List Group) → IsReadAt n s.last → Same n g h → replies_from s g ≡ replies_from s h
 replies_same s n g h at same =
     sym (run_replies s g) ∙ ap (λ (r : Run). replies_of r) (run_same s.quota s.last s.work n g h at same) ∙ run_replies s h
 
-pub said_same : (s : State) (n : ℕ) (g h : List Group) → s.last.level ≡ n → Same n g h → said_for s g ≡ said_for s h
+pub said_same : (s : State) (n : ℕ) (g h : List Group) → IsReadAt n s.last → Same n g h → said_for s g ≡ said_for s h
 unfolding said_for
 said_same s n g h at same = ap output (replies_same s n g h at same)
 
--- no item changes the level
-level_then : (s : State) (i : Item) → (state_then s i).last.level ≡ s.last.level
+-- no item changes the level, and none brings a format that there is not
+read_next : (n : ℕ) (s : State) (i : Item) → IsReadAt n s.last → IsReadAt n (state_then s i).last
 unfolding state_then
-level_then s i = outcome_keeps_level s (form s.last.format i)
+read_next n s i at = read_then n s (form s.last.format i) at
 
-pub level_after : (s : State) (n : ℕ) (g : List Group) → s.last.level ≡ n → (state_after s g).last.level ≡ n
-level_after s n [] at = at
-level_after s n (i ∷ g) at = level_after (state_then s (held_at s i)) n g (level_then s (held_at s i) ∙ at)
+pub read_after : (s : State) (n : ℕ) (g : List Group) → IsReadAt n s.last → IsReadAt n (state_after s g).last
+read_after s n [] at = at
+read_after s n (i ∷ g) at = read_after (state_then s (held_at s i)) n g (read_next n s (held_at s i) at)

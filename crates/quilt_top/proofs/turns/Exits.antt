@@ -15,6 +15,7 @@ use Rattle.quilt_lang.specs.Reading.{Same}
 use Rattle.quilt_replies.specs.Answers.{State}
 use Rattle.quilt_world.specs.Tale.{Tale, put_bytes}
 use Rattle.quilt_replies.specs.Runs.{Run, Published, told_within}
+use Rattle.quilt_map.proofs.answers.Orderly.{IsReadAt}
 use Rattle.quilt_map.proofs.answers.TextLaws.{run_same, publishes_same}
 use Rattle.quilt_top.specs.Answering.{Steps, PartStep, changes_then, changes_all}
 use Rattle.quilt_top.specs.Headline.{IsEdition, WritesFew, is_wrote}
@@ -80,7 +81,7 @@ ends_in s gs h v put leaves = record {
 
 -- ---- the run of the whole input
 
-module _ (n : ℕ) (s : State) (at : s.last.level ≡ n) (input : List ℕ) (all : List Group) (same : Same n (items_of n input) all) where
+module _ (n : ℕ) (s : State) (at : IsReadAt n s.last) (input : List ℕ) (all : List Group) (same : Same n (items_of n input) all) where
   run_is : run_in s (items_of n input) ≡ run_in s all
   run_is = run_same s.quota s.last s.work n (items_of n input) all at same
 
@@ -97,26 +98,26 @@ module _ (n : ℕ) (s : State) (at : s.last.level ≡ n) (input : List ℕ) (all
         record { edition = (state_after s all).last; is = ap (λ (r : Run). slice_get r.editions place.0) run_is ∙ place.2; stands = stands },
       )
 
-pub exit_fine : (n : ℕ) (s : State) (at : s.last.level ≡ n) (input : List ℕ) (gs next h : List Group) (t u v : Tale)
+pub exit_fine : (n : ℕ) (s : State) (at : IsReadAt n s.last) (input : List ℕ) (gs next h : List Group) (t u v : Tale)
     → Same n (items_of n input) (gs ++ (next ++ h))
     → Steps s 0 gs t u → PartStep (state_after s gs) (changes_all s 0 gs) next u v → LeavesNow t (λ image. Stands image s.last) → (E : Log)
     → v.log ≡ t.log ++ E → AreFine (run_in s (items_of n input)) t.start t.log E
 exit_fine n s at input gs next h t u v same steps part leaves E is =
     subst (λ (r : Run). AreFine r t.start t.log E) (sym (run_is n s at input (gs ++ (next ++ h)) same)) (steps_fine gs next h s 0 t u v steps part leaves E is)
 
-pub exit_between : (n : ℕ) (s : State) (at : s.last.level ≡ n) (input : List ℕ) (gs next h : List Group) (t u v : Tale)
+pub exit_between : (n : ℕ) (s : State) (at : IsReadAt n s.last) (input : List ℕ) (gs next h : List Group) (t u v : Tale)
     → Same n (items_of n input) (gs ++ (next ++ h))
     → Steps s 0 gs t u → PartStep (state_after s gs) (changes_all s 0 gs) next u v → (E : Log) → v.log ≡ t.log ++ E
     → WritesBetween (run_in s (items_of n input)) E
 exit_between n s at input gs next h t u v same steps part E is =
     subst (λ (r : Run). WritesBetween r E) (sym (run_is n s at input (gs ++ (next ++ h)) same)) (steps_between gs next h s 0 t u v steps part E is)
 
-pub exit_ends : (n : ℕ) (s : State) (at : s.last.level ≡ n) (input : List ℕ) (gs h : List Group) (v : Tale) → Same n (items_of n input) (gs ++ h)
+pub exit_ends : (n : ℕ) (s : State) (at : IsReadAt n s.last) (input : List ℕ) (gs h : List Group) (v : Tale) → Same n (items_of n input) (gs ++ h)
     → put_bytes v.log ≡ said_for s gs → LeavesNow v (λ image. Stands image (state_after s gs).last) → EndsBetween (run_in s (items_of n input)) v
 exit_ends n s at input gs h v same put leaves =
     subst (λ (r : Run). EndsBetween r v) (sym (run_is n s at input (gs ++ h) same)) (ends_in s gs h v put leaves)
 
-pub exit_writes : (n : ℕ) (s : State) (at : s.last.level ≡ n) (input : List ℕ) (gs next h : List Group) (t u v : Tale)
+pub exit_writes : (n : ℕ) (s : State) (at : IsReadAt n s.last) (input : List ℕ) (gs next h : List Group) (t u v : Tale)
     → Same n (items_of n input) (gs ++ (next ++ h))
     → Steps s 0 gs t u → PartStep (state_after s gs) (changes_all s 0 gs) next u v → IsUntold t
     → All (WritesFew (run_in s (items_of n input)) v.log) (publishes_in s (items_of n input))

@@ -12,6 +12,7 @@ use Rattle.quilt_words.specs.Items.{Group, held, items_of, whole_items}
 use Rattle.quilt_lang.specs.Reading.{Same, Gives, MayFollow}
 use Rattle.quilt_replies.specs.Answers.{State, Reply}
 use Rattle.quilt_replies.specs.Runs.{is_done}
+use Rattle.quilt_map.proofs.answers.Orderly.{IsReadAt}
 use Rattle.quilt_top.specs.Answering.{Steps, PartStep, changes_all}
 use Rattle.quilt_top.specs.Replies.{state_after, said_for, replies_from}
 use Rattle.quilt_top.specs.Saying.{is_took, Says}
@@ -23,7 +24,7 @@ use Rattle.quilt_world.proofs.AddedLaws.{adds_only_none}
 use Rattle.quilt_world.proofs.Told.{goes_then, goes_weaker, goes_and}
 use Rattle.quilt_top.proofs.logs.Events.{put_bytes-append, taken_bytes-append, nothing_taken, pages_untaken, pages_unput}
 use Rattle.quilt_top.proofs.logs.Said.{said-append, said_none, replies-append, length-replies, state-append, done-append, says_quiet, run_replies, run_output}
-use Rattle.quilt_top.proofs.logs.Said.{replies_same, said_same, level_after}
+use Rattle.quilt_top.proofs.logs.Said.{replies_same, said_same, read_after}
 use Rattle.quilt_world.specs.Stops.{LeavesNow}
 use Rattle.quilt_edition.specs.Stands.{Stands}
 use Rattle.quilt_top.proofs.turns.Exits.{took_only, steps_took, last_is, exit_fine, exit_between, exit_ends, exit_writes}
@@ -54,7 +55,7 @@ goes_last R S T Q (Some t) None n r s q step = absurd r
 goes_last R S T Q (Some t) (Some u) None r s q step = s
 goes_last R S T Q (Some t) (Some u) (Some v) r s q step = step t u v r s q
 
-module _ (n : ℕ) (s0 : State) (at : s0.last.level ≡ n) where
+module _ (n : ℕ) (s0 : State) (at : IsReadAt n s0.last) where
   pub reading_first : (c : ℕ) (t : Tale) → c ≡ 0 → IsUntold t → LeavesNow t (λ image. Stands image s0.last) → ReadSoFar n 0 true s0 s0 c [] t t
   reading_first c t none new leaves = record {
     untold = new;
@@ -263,7 +264,7 @@ module _ (n : ℕ) (s0 : State) (at : s0.last.level ≡ n) where
     runs_quietly : (t u v : Tale) → count ≤ 2 ^ 30 + 4096 → ReadSoFar n count flag s0 s1 c1 rest t u → Adds [] u v → RunsFrom n s0 t v
     runs_quietly t u v few so none =
         runs_after [] [] [] (items_of n (rest ++ u.input)) t u u v few so (says_quiet u v none) (said_for s1 (items_of n (rest ++ u.input)), refl)
-        (λ f. refl) (adds_only_none is_took u) none
+        (λ f low. refl) (adds_only_none is_took u) none
 
     -- at an exit between calls
     pub runs_now : (t u : Tale) → count ≤ 2 ^ 30 + 4096 → ReadSoFar n count flag s0 s1 c1 rest t u → RunsFrom n s0 t u
@@ -308,13 +309,13 @@ module _ (n : ℕ) (s0 : State) (at : s0.last.level ≡ n) where
 
     left_items : (r2 : List ℕ) (u : Tale) (g : List Group) → u.input ≡ [] → Gives true n g rest r2 → items_of n r2 ≡ []
         → Same n (items_of n (rest ++ u.input)) g
-    left_items r2 u g ended gives none = λ f.
-        ap (λ (l : List ℕ). map (held f n) (items_of n (rest ++ l))) ended ∙ gives.all [] refl f
+    left_items r2 u g ended gives none = λ f low.
+        ap (λ (l : List ℕ). map (held f n) (items_of n (rest ++ l))) ended ∙ gives.all [] refl f low
         ∙ ap (λ (l : List ℕ). map (held f n) (g ++ items_of n l)) (append-nil r2) ∙ ap (λ (l : List Group). map (held f n) (g ++ l)) none
         ∙ ap (map (held f n)) (append-nil g)
 
-    level_now : (t u : Tale) → ReadSoFar n count flag s0 s1 c1 rest t u → s1.last.level ≡ n
-    level_now t u so = ap (λ (s : State). s.last.level) so.state ∙ level_after s0 n so.items at
+    read_now : (t u : Tale) → ReadSoFar n count flag s0 s1 c1 rest t u → IsReadAt n s1.last
+    read_now t u so = subst (λ (s : State). IsReadAt n s.last) (sym so.state) (read_after s0 n so.items at)
 
     -- at the end all is put
     runs_whole : (more : Bool) (s2 : State) (r2 : List ℕ) (t u v : Tale) → (g : List Group) → count ≤ 2 ^ 30 → ReadSoFar n count flag s0 s1 c1 rest t u
@@ -323,7 +324,7 @@ module _ (n : ℕ) (s0 : State) (at : s0.last.level ≡ n) where
         → Stands v.seen s2.last × LeavesNow v (λ image. Stands image s2.last) → RunsFrom n s0 t v × RunsWhole n more s0 t v
     runs_whole more s2 r2 t u v g few so ended gives none is holds says steps stands =
         let left = left_items r2 u g ended gives none in
-        let here = level_now t u so in
+        let here = read_now t u so in
         let same : said_for s1 (items_of n (rest ++ u.input)) ≡ said_for s1 g = said_same s1 n _ _ here left in
         let both : Same n (items_of n (rest ++ u.input)) ((g ++ []) ++ []) =
         subst (λ (l : List Group). Same n (items_of n (rest ++ u.input)) l) (sym (append-nil (g ++ []) ∙ append-nil g)) left in

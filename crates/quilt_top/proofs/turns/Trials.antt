@@ -22,6 +22,7 @@ use Rattle.quilt_trial.specs.Drawing.{IsTextLine}
 use Rattle.quilt_trial.specs.Rest.{newlines}
 use Rattle.quilt_replies.specs.Answers.{State, Reply}
 use Rattle.quilt_replies.specs.Runs.{Run, is_done}
+use Rattle.quilt_map.proofs.answers.Orderly.{IsReadAt}
 use Rattle.quilt_map.proofs.answers.TextLaws.{run_same, then_same}
 use Rattle.quilt_top.specs.Answering.{StandsForItem, Applies}
 use Rattle.quilt_top.specs.Replies.{held_at, outcome, reply_to, state_then, state_after, replies_from}
@@ -40,23 +41,23 @@ Leads n start left = Same n (items_of n start) (items_of n left)
 
 module _ (n : ℕ) (start rest trial : List ℕ) (leads : Leads n start (rest ++ trial)) where
   pub next_whole : (f : ℕ) (item : Item) (new : List ℕ) → GivesItem false n f item rest new → IsNextItem n f item start (new ++ trial)
-  next_whole f item new given = record { group = given.group; is = given.is; rest = λ k. leads k ∙ given.gives.all trial tt k }
+  next_whole f item new given = record { group = given.group; is = given.is; rest = λ k low. leads k low ∙ given.gives.all trial tt k low }
 
   -- where the text has ended
   pub next_last : (f : ℕ) (item : Item) (new : List ℕ) → trial ≡ [] → GivesItem true n f item rest new → IsNextItem n f item start (new ++ trial)
-  next_last f item new ended given = record { group = given.group; is = given.is; rest = λ k. leads k ∙ given.gives.all trial ended k }
+  next_last f item new ended given = record { group = given.group; is = given.is; rest = λ k low. leads k low ∙ given.gives.all trial ended k low }
 
   pub none_last : trial ≡ [] → items_of n rest ≡ [] → items_of n start ≡ []
   none_last ended none =
       let left : items_of n (rest ++ trial) ≡ [] = ap (λ (l : List ℕ). items_of n (rest ++ l)) ended ∙ ap (items_of n) (append-nil rest) ∙ none in
       let size : length (items_of n start) ≡ length (items_of n (rest ++ trial)) =
-      sym (length-map (items_of n start) (held 1 n)) ∙ ap length (leads 1) ∙ length-map (items_of n (rest ++ trial)) (held 1 n) in
+      sym (length-map (items_of n start) (held 1 n)) ∙ ap length (leads 1 (omega arith)) ∙ length-map (items_of n (rest ++ trial)) (held 1 n) in
       nil_from_length (items_of n start) (size ∙ ap length left)
 
   pub fed : (line behind new : List ℕ) → trial ≡ line ++ behind → Gives false n [] (rest ++ line) new → Leads n start (new ++ behind)
-  fed line behind new is gives = λ k.
-      leads k ∙ ap (λ (l : List ℕ). map (held k n) (items_of n (rest ++ l))) is
-      ∙ ap (λ (l : List ℕ). map (held k n) (items_of n l)) (sym (append_assoc rest line behind)) ∙ gives.all behind tt k
+  fed line behind new is gives = λ k low.
+      leads k low ∙ ap (λ (l : List ℕ). map (held k n) (items_of n (rest ++ l))) is
+      ∙ ap (λ (l : List ℕ). map (held k n) (items_of n l)) (sym (append_assoc rest line behind)) ∙ gives.all behind tt k low
 
 -- what is given before that
 pub command_whole : (n f : ℕ) (start rest trial new : List ℕ) (spelled : Result Command Code) → Leads n start (rest ++ trial)
@@ -82,7 +83,7 @@ shorter old line new is so =
 pub fewer : (n f : ℕ) (item : Item) (old new : List ℕ) → IsNextItem n f item old new → length (items_of n old) ≡ length (items_of n new) + 1
 fewer n f item old new next =
     let sizes : length (items_of n old) ≡ length (next.group ∷ items_of n new) =
-    sym (length-map (items_of n old) (held 1 n)) ∙ ap length (next.rest 1) ∙ length-map (next.group ∷ items_of n new) (held 1 n) in
+    sym (length-map (items_of n old) (held 1 n)) ∙ ap length (next.rest 1 (omega arith)) ∙ length-map (next.group ∷ items_of n new) (held 1 n) in
     omega (arith, sizes)
 
 -- ---- how many items a text has
@@ -143,7 +144,7 @@ tries_one s gs g h c t u applies = record {
 pub one_first : (s : State) (gs : List Group) (image : Pages) → Stands image s.last → StandsForOne (run_in s gs) image
 one_first s gs image stands = (0, record { edition = s.last; is = edition_first s.quota s.last s.work gs; stands = stands })
 
-module _ (n : ℕ) (text : List ℕ) (s : State) (at : s.last.level ≡ n) where
+module _ (n : ℕ) (text : List ℕ) (s : State) (at : IsReadAt n s.last) where
   abbrev r : Run
   r = run_in s (items_of n text)
 
@@ -152,14 +153,14 @@ module _ (n : ℕ) (text : List ℕ) (s : State) (at : s.last.level ≡ n) where
   first_tries (Some t) leaves = tries_none r t (λ image left. one_first s (items_of n text) image (leaves image left))
 
   pub first_tried : (tally : Tally) → tally.done ≡ 0 → Tried n text (items_of n text) s s tally
-  first_tried tally none = record { items = []; all = λ f. refl; state = refl; done = none }
+  first_tried tally none = record { items = []; all = λ f low. refl; state = refl; done = none }
 
   module _ (left : List Group) (now : State) (tally : Tally) (so : Tried n text left s now tally) (g : Group) (behind : List Group)
       (rest : Same n left (g ∷ behind)) where
     pub next_tries : (c : ℕ) (o m l : Option Tale) → Goes (TriesCommands r) o m → Goes (Applies now (held_at now g) c) m l → Goes (TriesCommands r) o l
     next_tries c o m l tries applies =
-        let all : Same n (items_of n text) (so.items ++ g ∷ behind) = λ f. so.all f ∙ map-append (held f n) so.items left
-        ∙ ap (λ l. map (held f n) so.items ++ l) (rest f) ∙ sym (map-append (held f n) so.items (g ∷ behind)) in
+        let all : Same n (items_of n text) (so.items ++ g ∷ behind) = λ f low. so.all f low ∙ map-append (held f n) so.items left
+        ∙ ap (λ l. map (held f n) so.items ++ l) (rest f low) ∙ sym (map-append (held f n) so.items (g ∷ behind)) in
         let is : r ≡ run_in s (so.items ++ g ∷ behind) = run_same s.quota s.last s.work n (items_of n text) (so.items ++ g ∷ behind) at all in
         goes_then _ _ _ o m l tries applies (λ t u v before one.
         tries_both r t u v before (subst (λ (x : Run). TriesCommands x u v) (sym is)

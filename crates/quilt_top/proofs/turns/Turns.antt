@@ -9,6 +9,7 @@ use Rattle.quilt_words.specs.Items.{Group, items_of}
 use Rattle.quilt_lang.specs.Reading.{Gives, MayFollow}
 use Rattle.quilt_replies.specs.Answers.{State}
 use Rattle.quilt_replies.specs.Runs.{text_of, is_done}
+use Rattle.quilt_map.proofs.answers.Orderly.{IsReadAt}
 use Rattle.quilt_top.specs.Answered.{ItemsAnswered, PrefixOfAll, StopsBetween}
 use Rattle.quilt_top.specs.Answering.{Answers, AnswersPrefix, PutsNone, Steps, changes_then, changes_all}
 use Rattle.quilt_top.specs.Replies.{held_at, reply_to, state_then, state_after, replies_from, said_for}
@@ -16,7 +17,7 @@ use Rattle.quilt_top.specs.Saying.{is_took, Says}
 use Rattle.quilt_world.proofs.AddedLaws.{adds_only_none, adds_only_both}
 use Rattle.quilt_world.proofs.Told.{goes_then, goes_weaker, goes_and}
 use Rattle.quilt_top.proofs.turns.Applying.{answer_says, part_says}
-use Rattle.quilt_top.proofs.logs.Said.{says_nothing, says_then, says_same, said-append, said_one, said_none, state-append, done-append, said_same, level_after}
+use Rattle.quilt_top.proofs.logs.Said.{says_nothing, says_then, says_same, said-append, said_one, said_none, state-append, done-append, said_same, read_after}
 use Rattle.quilt_map.proofs.answers.TextLaws.{gives_none, gives_then}
 
 pub goes_same : (R : Tale → Tale → Type 0) (o : Option Tale) → ((t : Tale) → R t t) → Goes R o o
@@ -60,7 +61,7 @@ pub steps_one : (s : State) (c : ℕ) (i : Group) (t u : Tale) → Answers s (he
 steps_one s c i t u answers = (u, record { first = t; takes = adds_only_none is_took t; answers = answers }, adds_only_none is_took u)
 
 module _ (ended : Bool) (n : ℕ) where
-  module _ (so_far : Bool) (s0 : State) (c0 : ℕ) (r0 : List ℕ) (at : s0.last.level ≡ n) where
+  module _ (so_far : Bool) (s0 : State) (c0 : ℕ) (r0 : List ℕ) (at : IsReadAt n s0.last) where
     -- what all items define begins with what the given ones do
     said_with : (g : List Group) (r1 v : List ℕ) → Gives ended n g r0 r1 → MayFollow ended v →
         said_for s0 (items_of n (r0 ++ v)) ≡ said_for s0 g ++ said_for (state_after s0 g) (items_of n (r1 ++ v))
@@ -133,7 +134,7 @@ module _ (ended : Bool) (n : ℕ) where
                 left ++ after_,
                 said_with g r1 w gives may
                     ∙ ap (λ (l : List ℕ). said_for s0 g ++ l)
-                    (said_same s1 n _ _ (level_after s0 n g at) (next.all w may) ∙ said-append s1 (i ∷ []) (items_of n (r2 ++ w))
+                    (said_same s1 n _ _ (read_after s0 n g at) (next.all w may) ∙ said-append s1 (i ∷ []) (items_of n (r2 ++ w))
                     ∙ ap (λ (l : List ℕ). l ++ after_) (said_one s1 i ∙ some.front.1) ∙ append_assoc some.said left after_)
                     ∙ sym (append_assoc (said_for s0 g) some.said (left ++ after_)),
               );

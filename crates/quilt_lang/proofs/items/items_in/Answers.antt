@@ -21,8 +21,8 @@ loop-piece-preserved c =
     grind (arith, common_steps, next)
 
 pub returns : goal.returns
-returns c =
+returns c = λ low.
     let pieces = c.args.pieces.now in
-    all_of_it c.args.level c.args.format _ _ _ _ _ c.loop-piece.invariant c.in_ok-take_items-2.ensures
+    all_of_it c.args.level c.args.format _ _ _ _ _ low c.loop-piece.invariant c.in_ok-take_items-2.ensures
     ∙ ap (λ ps. map (held c.args.format c.args.level) (items_of c.args.level (flat_map (λ piece. piece.now) ps)))
     (take_all c.loop-piece.piece-index pieces (omega arith))

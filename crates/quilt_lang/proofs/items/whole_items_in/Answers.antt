@@ -8,19 +8,19 @@ pub feed-requires : goal.feed-requires
 feed-requires c = rw c.new-lines.ensures.empty (whole_part _ [] (All-nil (λ (x : ℕ). (x == 10) ≡ false)))
 
 pub returns-clause-whole : goal.returns-clause-whole
-returns-clause-whole c =
+returns-clause-whole c = λ low.
     let none = whole_part c.args.level [] (All-nil (λ (x : ℕ). (x == 10) ≡ false)) in
     let first = so_far_first c.args.level c.args.format c.new-lines.result none c.new-lines.ensures.level c.new-lines.ensures.empty in
     let took = rw c.new-items.ensures.items at c.in_ok-take_items.ensures in
-    whole_of_it c.args.level c.args.format _ _ _
+    whole_of_it c.args.level c.args.format _ _ _ low
     (so_far_next c.args.level c.args.format c.new-lines.result c.feed.new.self _ [] _
     [] c.args.text.now first c.in_ok-feed.ensures.level c.in_ok-feed.ensures.fed took)
 
 pub returns-clause-front : goal.returns-clause-front
-returns-clause-front c =
+returns-clause-front c = λ low more.
     let none = whole_part c.args.level [] (All-nil (λ (x : ℕ). (x == 10) ≡ false)) in
     let first = so_far_first c.args.level c.args.format c.new-lines.result none c.new-lines.ensures.level c.new-lines.ensures.empty in
     let took = rw c.new-items.ensures.items at c.in_ok-take_items.ensures in
-    λ more. front_of_it c.args.level c.args.format _ _ _ more
+    front_of_it c.args.level c.args.format _ _ _ more low
     (so_far_next c.args.level c.args.format c.new-lines.result c.feed.new.self _ [] _
     [] c.args.text.now first c.in_ok-feed.ensures.level c.in_ok-feed.ensures.fed took)

@@ -5,7 +5,7 @@ use Rattle.quilt_words.specs.Forms.{form}
 use Rattle.quilt_replies.specs.Answers.{State}
 use Rattle.quilt_replies.specs.Runs.{text_of, is_done}
 use Rattle.quilt_map.specs.Sessions.{session_world, changes_of, IsAt}
-use Rattle.quilt_map.proofs.Laws.{at_level}
+use Rattle.quilt_map.proofs.Laws.{at_level, at_read_as}
 use Rattle.quilt_map.proofs.answers.TextLaws.{fewer_left}
 use Rattle.quilt_types.specs.declared.stop.Stop.TheVariants as stops
 use Rattle.quilt_top.specs.declared.halt.Halt.{Halt}
@@ -26,13 +26,13 @@ items-init g c = record {
   faults = search rules;
   level = search rules;
   same = search rules;
-  done = λ s at. (s, at, answered_first _ _ _ _ _ _ (at_level c.args.session.now s at ∙ c.requires.level) _);
+  done = λ s at. (s, at, answered_first _ _ _ _ _ _ (at_read_as c.args.session.now s at _ c.requires.level) _);
 }
 
 pub returns-in_err-spelled-clause-stopped : goal.returns-in_err-spelled-clause-stopped
 returns-in_err-spelled-clause-stopped g c =
     on_err_all {S = State} _ _ _
-    (λ s at. stopped_now _ _ _ _ _ _ (at_level c.args.session.now s at ∙ c.requires.level) _ _ _ _ _ _ (c.items.invariant.done s at).2)
+    (λ s at. stopped_now _ _ _ _ _ _ (at_read_as c.args.session.now s at _ c.requires.level) _ _ _ _ _ _ (c.items.invariant.done s at).2)
 
 pub returns-in_err-all_done-clause-stopped : goal.returns-in_err-all_done-clause-stopped
 returns-in_err-all_done-clause-stopped g c =
@@ -47,7 +47,7 @@ returns-in_err-all_done-clause-stopped g c =
     subst (λ (i : Item). Goes (AnswersPrefix so.0 i (changes_of c.items.session)) (g.W.Disk.told (session_world c.items.session))
     (g.W.Disk.told (session_world c.put_answer.new.session)))
     held_ (c.in_err-all_done.ensures.part given.item said so.0 so.1) in
-    stopped_part _ _ _ _ _ _ (at_level c.args.session.now s at ∙ c.requires.level) _ _ _ _ _ _ _ _ _ so.2 given.gives.gives part)
+    stopped_part _ _ _ _ _ _ (at_read_as c.args.session.now s at _ c.requires.level) _ _ _ _ _ _ _ _ _ so.2 given.gives.gives part)
 
 pub items-smaller : goal.items-smaller
 items-smaller g c =
@@ -75,7 +75,7 @@ items-preserved g c =
           held_ (c.in_ok-all_done.ensures.said given.item said so.0 so.1) in (
             state_then so.0 given.item,
             c.in_ok-all_done.ensures.at given.item said so.0 so.1,
-            answered_next _ _ _ _ _ _ (at_level c.args.session.now s at ∙ c.requires.level) _ _ _ _ _ _ _ _ _ _ _ _ so.2 given.gives.gives put
+            answered_next _ _ _ _ _ _ (at_read_as c.args.session.now s at _ c.requires.level) _ _ _ _ _ _ _ _ _ _ _ _ so.2 given.gives.gives put
                 (ap (λ (i : Item). state_then so.0 i) held_)
                 (c.in_ok-all_done.ensures.changes given.item said so.0 so.1 ∙ ap (λ (i : Item). changes_then so.0 i (changes_of c.items.session)) held_)
                 (c.in_ok-all_done.ensures.done given.item said so.0 so.1 ∙ ap (λ (i : Item). c.items.all_done && is_done (reply_to so.0 i)) held_),
@@ -100,7 +100,7 @@ pub returns-in_err-spelled-clause-between : goal.returns-in_err-spelled-clause-b
 returns-in_err-spelled-clause-between g c =
     if_err_const _ _ _ (λ s at.
     let so = c.items.invariant.done s at in
-    stopped_between _ _ _ _ _ _ (at_level c.args.session.now s at ∙ c.requires.level) _ _ _ _ _ _ so.2 (leaves_told c.items.session so.0 so.1))
+    stopped_between _ _ _ _ _ _ (at_read_as c.args.session.now s at _ c.requires.level) _ _ _ _ _ _ so.2 (leaves_told c.items.session so.0 so.1))
 
 pub returns-in_err-all_done-clause-between : goal.returns-in_err-all_done-clause-between
 returns-in_err-all_done-clause-between g c =
@@ -111,6 +111,6 @@ returns-in_err-all_done-clause-between g c =
     let here : Between c.in_err-all_done.field-0.0 = λ is s at.
     let so = c.items.invariant.done s at in
     let said = ap (λ f. form f given.item) (sym c.head.ensures.is_format) ∙ given.is in
-    stopped_after _ _ _ _ _ _ (at_level c.args.session.now s at ∙ c.requires.level) _ _ _ _ _ _ _ so.2
+    stopped_after _ _ _ _ _ _ (at_read_as c.args.session.now s at _ c.requires.level) _ _ _ _ _ _ _ so.2
     (c.in_err-all_done.ensures.none is given.item said so.0 so.1) in
     err_from _ c.in_err-all_done.field-0.0 _ Between c.from_residual-in_err-all_done.ensures.1 (λ e is. is) here

@@ -18,7 +18,7 @@ use Rattle.quilt_top.proofs.logs.Said.{either_way, if_err_const, if_err_both, if
 use Rattle.quilt_top.proofs.turns.Runs.{reading_first, runs_quiet, goes_took, goes_fed, goes_counted, ended_counted, goes_runs, goes_past, goes_stopped}
 use Rattle.quilt_top.proofs.turns.Runs.{goes_stopped_end, goes_ended, runs_answered, reading_answered, goes_ends, goes_between, goes_between_end, goes_left, goes_right}
 use Rattle.quilt_map.proofs.answers.TextLaws.{whole_empty}
-use Rattle.quilt_map.proofs.Laws.{at_level}
+use Rattle.quilt_map.proofs.Laws.{at_read}
 use Rattle.quilt_top.proofs.text_run.run_text.Goals as goal
 
 pub pieces-init : goal.pieces-init
@@ -38,13 +38,13 @@ pieces-init g c = record {
         at,
         rw c.new-lines.ensures.empty
             (goes_first (λ t. IsUntold t × LeavesNow t (λ image. Stands image s.last)) _ _ both
-            (λ t is so. reading_first _ _ (at_level c.args.session.now s at) _ t c.requires.unchanged so.0 so.1)),
+            (λ t is so. reading_first _ _ (at_read c.args.session.now s at) _ t c.requires.unchanged so.0 so.1)),
       );
 }
 
 pub returns-in_err-n-clause-runs : goal.returns-in_err-n-clause-runs
 returns-in_err-n-clause-runs g c =
-    λ s at. runs_quiet _ _ (at_level c.args.session.now s at) _ _ _ _ _ _ _ _ (omega arith) (c.pieces.invariant.tale s at).2 c.in_err-n.ensures.nothing
+    λ s at. runs_quiet _ _ (at_read c.args.session.now s at) _ _ _ _ _ _ _ _ (omega arith) (c.pieces.invariant.tale s at).2 c.in_err-n.ensures.nothing
 
 pub returns-in_err-total-clause-runs : goal.returns-in_err-total-clause-runs
 returns-in_err-total-clause-runs g c = λ s at.
@@ -52,9 +52,9 @@ returns-in_err-total-clause-runs g c = λ s at.
     let into : List ℕ = c.take.new.into in
     let size : length (take n into) ≡ n = omega (arith, length-take n into, c.take.auto.into, c.in_ok-n.ensures.count) in
     let some : 0 < length (take n into) = omega (arith, size, c.if-n-eq0.false) in
-    let took = goes_took _ _ (at_level c.args.session.now s at) _ _ _ _ _ (c.pieces.total + n) (take n into) _ _ _ (omega (arith, size))
+    let took = goes_took _ _ (at_read c.args.session.now s at) _ _ _ _ _ (c.pieces.total + n) (take n into) _ _ _ (omega (arith, size))
     (c.pieces.invariant.tale s at).2 c.pieces.invariant.none some c.in_ok-n.ensures.took in
-    goes_runs _ _ (at_level c.args.session.now s at) _ _ _ _ _ _ _ (omega (arith, c.take.auto.into, c.in_ok-n.ensures.count)) took
+    goes_runs _ _ (at_read c.args.session.now s at) _ _ _ _ _ _ _ (omega (arith, c.take.auto.into, c.in_ok-n.ensures.count)) took
 
 pub returns-in_err-total-clause-too_much : goal.returns-in_err-total-clause-too_much
 returns-in_err-total-clause-too_much g c =
@@ -64,7 +64,7 @@ returns-in_err-total-clause-too_much g c =
     let some : 0 < length (take n into) = omega (arith, size, c.if-n-eq0.false) in
     let over : (s : State) → IsAt c.args.session.now s
     → Goes (λ old new. Overruns new) (g.W.Disk.told (session_world c.args.session.now)) (g.W.Disk.told (session_world c.take.new.self)) = λ s at.
-    goes_past _ _ (at_level c.args.session.now s at) _ _ _ _ _ (c.pieces.total + n) (take n into) _ _ _
+    goes_past _ _ (at_read c.args.session.now s at) _ _ _ _ _ (c.pieces.total + n) (take n into) _ _ _
     (omega (arith, size)) c.in_err-total.ensures.much (c.pieces.invariant.tale s at).2 c.pieces.invariant.none some c.in_ok-n.ensures.took in
     if_err_const _ _ _ over
 
@@ -74,9 +74,9 @@ returns-in_err-feed-clause-runs g c = λ s at.
     let into : List ℕ = c.take.new.into in
     let size : length (take n into) ≡ n = omega (arith, length-take n into, c.take.auto.into, c.in_ok-n.ensures.count) in
     let some : 0 < length (take n into) = omega (arith, size, c.if-n-eq0.false) in
-    let took = goes_took _ _ (at_level c.args.session.now s at) _ _ _ _ _ (c.pieces.total + n) (take n into) _ _ _ (omega (arith, size))
+    let took = goes_took _ _ (at_read c.args.session.now s at) _ _ _ _ _ (c.pieces.total + n) (take n into) _ _ _ (omega (arith, size))
     (c.pieces.invariant.tale s at).2 c.pieces.invariant.none some c.in_ok-n.ensures.took in
-    goes_runs _ _ (at_level c.args.session.now s at) _ _ _ _ _ _ _ (omega (arith, c.in_ok-total.ensures.few)) took
+    goes_runs _ _ (at_read c.args.session.now s at) _ _ _ _ _ _ _ (omega (arith, c.in_ok-total.ensures.few)) took
 
 pub returns-in_err-all_done-clause-runs : goal.returns-in_err-all_done-clause-runs
 returns-in_err-all_done-clause-runs g c = λ s at.
@@ -85,13 +85,13 @@ returns-in_err-all_done-clause-runs g c = λ s at.
     let into : List ℕ = c.take.new.into in
     let size : length (take n into) ≡ n = omega (arith, length-take n into, c.take.auto.into, c.in_ok-n.ensures.count) in
     let some : 0 < length (take n into) = omega (arith, size, c.if-n-eq0.false) in
-    let took = goes_took _ _ (at_level c.args.session.now s at) _ _ _ _ _ (c.pieces.total + n) (take n into) _ _ _
+    let took = goes_took _ _ (at_read c.args.session.now s at) _ _ _ _ _ (c.pieces.total + n) (take n into) _ _ _
     (omega (arith, size)) so.2 c.pieces.invariant.none some c.in_ok-n.ensures.took in
-    let fed = goes_fed _ _ (at_level c.args.session.now s at) _ _ _ _ _ _ _ _ took (rw c.pieces.invariant.level at c.in_ok-feed.ensures.fed) in
-    let here = goes_counted _ _ (at_level c.args.session.now s at) _ _ _ _ _ _ _ _ c.take.ensures.changes fed in
+    let fed = goes_fed _ _ (at_read c.args.session.now s at) _ _ _ _ _ _ _ _ took (rw c.pieces.invariant.level at c.in_ok-feed.ensures.fed) in
+    let here = goes_counted _ _ (at_read c.args.session.now s at) _ _ _ _ _ _ _ _ c.take.ensures.changes fed in
     let level = c.in_ok-feed.ensures.level ∙ c.pieces.invariant.level in
     let stopped = rw level at c.in_err-all_done.ensures.stopped in
-    goes_stopped _ _ (at_level c.args.session.now s at) _ _ _ _ _ _ _ _ (omega (arith, c.in_ok-total.ensures.few)) here
+    goes_stopped _ _ (at_read c.args.session.now s at) _ _ _ _ _ _ _ _ (omega (arith, c.in_ok-total.ensures.few)) here
     (stopped so.0 (c.take.ensures.at so.0 so.1))
 
 pub pieces-preserved : goal.pieces-preserved
@@ -112,29 +112,29 @@ pieces-preserved g c =
       none = rw level at c.in_ok-all_done.ensures.none;
       tale = λ s at.
           let so = c.pieces.invariant.tale s at in
-          let took = goes_took _ _ (at_level c.args.session.now s at) _ _ _ _ _ c.in_ok-total.total (take n into) _ _ _
+          let took = goes_took _ _ (at_read c.args.session.now s at) _ _ _ _ _ c.in_ok-total.total (take n into) _ _ _
           (omega (arith, size, c.in_ok-total.ensures.few)) so.2 c.pieces.invariant.none some c.in_ok-n.ensures.took in
-          let fed = goes_fed _ _ (at_level c.args.session.now s at) _ _ _ _ _ _ _ _ took (rw c.pieces.invariant.level at c.in_ok-feed.ensures.fed) in
-          let here = goes_counted _ _ (at_level c.args.session.now s at) _ _ _ _ _ _ _ _ c.take.ensures.changes fed in
+          let fed = goes_fed _ _ (at_read c.args.session.now s at) _ _ _ _ _ _ _ _ took (rw c.pieces.invariant.level at c.in_ok-feed.ensures.fed) in
+          let here = goes_counted _ _ (at_read c.args.session.now s at) _ _ _ _ _ _ _ _ c.take.ensures.changes fed in
           let next = answered so.0 (c.take.ensures.at so.0 so.1) in
-          (next.0, next.1, reading_answered _ _ (at_level c.args.session.now s at) _ _ _ _ _ _ _ _ _ _ _ _ here next.2);
+          (next.0, next.1, reading_answered _ _ (at_read c.args.session.now s at) _ _ _ _ _ _ _ _ _ _ _ _ here next.2);
     }
 
 pub returns-clause-runs : goal.returns-clause-runs
 returns-clause-runs g c = λ s at.
     let so = c.pieces.invariant.tale s at in
     let now = c.take.ensures.at so.0 so.1 in
-    let at_end = goes_ended _ _ (at_level c.args.session.now s at) _ _ _ _ _ _ _ _ so.2 (rw c.if-n-eq0.true at c.in_ok-n.ensures.took) in
-    let ended = ended_counted _ _ (at_level c.args.session.now s at) _ _ _ _ _ _ _ _ c.take.ensures.changes at_end in
+    let at_end = goes_ended _ _ (at_read c.args.session.now s at) _ _ _ _ _ _ _ _ so.2 (rw c.if-n-eq0.true at c.in_ok-n.ensures.took) in
+    let ended = ended_counted _ _ (at_read c.args.session.now s at) _ _ _ _ _ _ _ _ c.take.ensures.changes at_end in
     let ok = rw c.pieces.invariant.level at c.answer_items-2.ensures.answered in
     let none = rw c.pieces.invariant.level at c.answer_items-2.ensures.none in
     let err = rw c.pieces.invariant.level at c.answer_items-2.ensures.stopped in
     either_way c.answer_items-2.result _ _ _ (if_ok_both _ _ _ (ok_at (IsAt c.take.new.self) so.0 now _ _ ok) none)
     (err_at (IsAt c.take.new.self) so.0 now _ _ err)
     (λ done all. goes_left _ _ _ _
-    (runs_answered _ _ (at_level c.args.session.now s at) _ _ _ _ _ _ _ _ _ _ _ _ c.pieces.invariant.few ended all.0.2 all.1
+    (runs_answered _ _ (at_read c.args.session.now s at) _ _ _ _ _ _ _ _ _ _ _ _ c.pieces.invariant.few ended all.0.2 all.1
     (both_told c.answer_items-2.new.session all.0.0 all.0.1)))
-    (λ stopped. goes_stopped_end _ _ (at_level c.args.session.now s at) _ _ _ _ _ _ _ _ (omega arith) ended stopped)
+    (λ stopped. goes_stopped_end _ _ (at_read c.args.session.now s at) _ _ _ _ _ _ _ _ (omega arith) ended stopped)
 
 pub returns-clause-whole : goal.returns-clause-whole
 returns-clause-whole g c =
@@ -143,10 +143,10 @@ returns-clause-whole g c =
     IfOk-weaker c.answer_items-2.result _ _
     (λ done all. λ s at.
     let so = c.pieces.invariant.tale s at in
-    let at_end = goes_ended _ _ (at_level c.args.session.now s at) _ _ _ _ _ _ _ _ so.2 (rw c.if-n-eq0.true at c.in_ok-n.ensures.took) in
-    let ended = ended_counted _ _ (at_level c.args.session.now s at) _ _ _ _ _ _ _ _ c.take.ensures.changes at_end in
+    let at_end = goes_ended _ _ (at_read c.args.session.now s at) _ _ _ _ _ _ _ _ so.2 (rw c.if-n-eq0.true at c.in_ok-n.ensures.took) in
+    let ended = ended_counted _ _ (at_read c.args.session.now s at) _ _ _ _ _ _ _ _ c.take.ensures.changes at_end in
     let next = all.0 so.0 (c.take.ensures.at so.0 so.1) in
-    goes_right _ _ _ _ (runs_answered _ _ (at_level c.args.session.now s at) _ _ _ _ _ _ _ _ _ _ _ _ c.pieces.invariant.few ended next.2 all.1
+    goes_right _ _ _ _ (runs_answered _ _ (at_read c.args.session.now s at) _ _ _ _ _ _ _ _ _ _ _ _ c.pieces.invariant.few ended next.2 all.1
     (both_told c.answer_items-2.new.session next.0 next.1))) (if_ok_both _ _ _ ok none)
 
 -- ---- where a page is damaged
@@ -185,9 +185,9 @@ returns-in_err-total-clause-between g c =
     let size : length (take n into) ≡ n = omega (arith, length-take n into, c.take.auto.into, c.in_ok-n.ensures.count) in
     let some : 0 < length (take n into) = omega (arith, size, c.if-n-eq0.false) in
     let so = c.pieces.invariant.tale s at in
-    let took = goes_took _ _ (at_level c.args.session.now s at) _ _ _ _ _ (c.pieces.total + n) (take n into) _ _ _ (omega (arith, size))
+    let took = goes_took _ _ (at_read c.args.session.now s at) _ _ _ _ _ (c.pieces.total + n) (take n into) _ _ _ (omega (arith, size))
     so.2 c.pieces.invariant.none some c.in_ok-n.ensures.took in
-    goes_ends _ _ (at_level c.args.session.now s at) _ _ _ _ _ _ _ took (leaves_told c.take.new.self so.0 (c.take.ensures.at so.0 so.1)))
+    goes_ends _ _ (at_read c.args.session.now s at) _ _ _ _ _ _ _ took (leaves_told c.take.new.self so.0 (c.take.ensures.at so.0 so.1)))
 
 pub returns-in_err-feed-clause-between : goal.returns-in_err-feed-clause-between
 returns-in_err-feed-clause-between g c =
@@ -197,9 +197,9 @@ returns-in_err-feed-clause-between g c =
     let size : length (take n into) ≡ n = omega (arith, length-take n into, c.take.auto.into, c.in_ok-n.ensures.count) in
     let some : 0 < length (take n into) = omega (arith, size, c.if-n-eq0.false) in
     let so = c.pieces.invariant.tale s at in
-    let took = goes_took _ _ (at_level c.args.session.now s at) _ _ _ _ _ (c.pieces.total + n) (take n into) _ _ _ (omega (arith, size))
+    let took = goes_took _ _ (at_read c.args.session.now s at) _ _ _ _ _ (c.pieces.total + n) (take n into) _ _ _ (omega (arith, size))
     so.2 c.pieces.invariant.none some c.in_ok-n.ensures.took in
-    goes_ends _ _ (at_level c.args.session.now s at) _ _ _ _ _ _ _ took (leaves_told c.take.new.self so.0 (c.take.ensures.at so.0 so.1)))
+    goes_ends _ _ (at_read c.args.session.now s at) _ _ _ _ _ _ _ took (leaves_told c.take.new.self so.0 (c.take.ensures.at so.0 so.1)))
 
 pub returns-in_err-all_done-clause-between : goal.returns-in_err-all_done-clause-between
 returns-in_err-all_done-clause-between g c =
@@ -215,11 +215,11 @@ returns-in_err-all_done-clause-between g c =
     let into : List ℕ = c.take.new.into in
     let size : length (take n into) ≡ n = omega (arith, length-take n into, c.take.auto.into, c.in_ok-n.ensures.count) in
     let some : 0 < length (take n into) = omega (arith, size, c.if-n-eq0.false) in
-    let took = goes_took _ _ (at_level c.args.session.now s at) _ _ _ _ _ (c.pieces.total + n) (take n into) _ _ _
+    let took = goes_took _ _ (at_read c.args.session.now s at) _ _ _ _ _ (c.pieces.total + n) (take n into) _ _ _
     (omega (arith, size)) so.2 c.pieces.invariant.none some c.in_ok-n.ensures.took in
-    let fed = goes_fed _ _ (at_level c.args.session.now s at) _ _ _ _ _ _ _ _ took (rw c.pieces.invariant.level at c.in_ok-feed.ensures.fed) in
+    let fed = goes_fed _ _ (at_read c.args.session.now s at) _ _ _ _ _ _ _ _ took (rw c.pieces.invariant.level at c.in_ok-feed.ensures.fed) in
     let stopped = rw level at c.in_err-all_done.ensures.between in
-    goes_between _ _ (at_level c.args.session.now s at) _ _ _ _ _ _ _ _ fed (stopped is so.0 (c.take.ensures.at so.0 so.1)) in
+    goes_between _ _ (at_read c.args.session.now s at) _ _ _ _ _ _ _ _ fed (stopped is so.0 (c.take.ensures.at so.0 so.1)) in
     let here : Between c.in_err-all_done.field-0.0 = λ calm. elim calm [
       | inl much ↦ absurd (c.in_err-all_done.ensures.short much)
       | inr is ↦ memory is
@@ -237,6 +237,6 @@ returns-clause-between g c =
       | inl much ↦ absurd (all.0 much)
       | inr is ↦
           let so = c.pieces.invariant.tale s at in
-          let at_end = goes_ended _ _ (at_level c.args.session.now s at) _ _ _ _ _ _ _ _ so.2 (rw c.if-n-eq0.true at c.in_ok-n.ensures.took) in
-          goes_between_end _ _ (at_level c.args.session.now s at) _ _ _ _ _ _ _ _ at_end (all.1 is so.0 (c.take.ensures.at so.0 so.1))
+          let at_end = goes_ended _ _ (at_read c.args.session.now s at) _ _ _ _ _ _ _ _ so.2 (rw c.if-n-eq0.true at c.in_ok-n.ensures.took) in
+          goes_between_end _ _ (at_read c.args.session.now s at) _ _ _ _ _ _ _ _ at_end (all.1 is so.0 (c.take.ensures.at so.0 so.1))
     ]) both

@@ -1,7 +1,7 @@
 use Rattle.std.proofs.Common.{◌∙◌, ap, arith}
 use Rattle.quilt_lang.specs.Trials.{trial_text}
 use Rattle.quilt_map.specs.Sessions.{level_of}
-use Rattle.quilt_map.proofs.Laws.{at_level}
+use Rattle.quilt_map.proofs.Laws.{at_read}
 use Rattle.quilt_top.specs.Trying.{trial_run}
 use Rattle.quilt_top.proofs.turns.Applying.{leaves_told, seen_told}
 use Rattle.quilt_top.proofs.Concluding.{tries_pages, goes_none, goes_part, goes_whole, goes_front, tries_as, tried_as, counted_as}
@@ -29,7 +29,7 @@ returns-in_err-put_reply-clause-front g c = λ s at.
     let level = c.new-items.ensures.level ∙ c.head.ensures.is_level in
     let text = c.new-items.ensures.text ∙ ap (trial_text c.args.seed c.args.count) c.head.ensures.is_level in
     let so = c.in_ok-tally.ensures.tried s at in
-    let first = at_level c.args.session.now s at in
+    let first = at_read c.args.session.now s at in
     let tally = c.in_ok-tally.tally in
     let trial = trial_text c.args.seed c.args.count n in
     let tried = tried_as n _ c.args.seed c.args.count _ level text s so.0 tally so.2 in
@@ -45,7 +45,7 @@ returns-clause-whole g c = λ s at.
     let level = c.new-items.ensures.level ∙ c.head.ensures.is_level in
     let text = c.new-items.ensures.text ∙ ap (trial_text c.args.seed c.args.count) c.head.ensures.is_level in
     let so = c.in_ok-tally.ensures.tried s at in
-    let first = at_level c.args.session.now s at in
+    let first = at_read c.args.session.now s at in
     let tally = c.in_ok-tally.tally in
     let trial = trial_text c.args.seed c.args.count n in
     let tried = tried_as n _ c.args.seed c.args.count _ level text s so.0 tally so.2 in

@@ -7,7 +7,7 @@ use Rattle.quilt_words.specs.Items.{Group, items_of}
 use Rattle.quilt_replies.specs.Answers.{State}
 use Rattle.quilt_replies.specs.Runs.{is_done}
 use Rattle.quilt_map.specs.Sessions.{session_world, changes_of, IsAt}
-use Rattle.quilt_map.proofs.Laws.{at_level}
+use Rattle.quilt_map.proofs.Laws.{at_level, at_read_as}
 use Rattle.quilt_top.specs.declared.halt.Halt.{Halt}
 use Rattle.quilt_top.specs.declared.halt.Halt.TheVariants as halts
 use Rattle.quilt_top.specs.Answering.{Applies}
@@ -28,7 +28,7 @@ items-init g c = record {
   same = search rules;
   count = omega arith;
   tries = λ s at.
-      let level = at_level c.args.session.now s at ∙ c.requires.level in
+      let level = at_read_as c.args.session.now s at _ c.requires.level in
       (s, at, first_tried _ _ s level _ refl, first_tries _ _ s level _ (leaves_told c.args.session.now s at));
 }
 
@@ -55,7 +55,7 @@ items-preserved g c =
       count = omega (arith, c.items.invariant.count, fewer _ _ _ _ _ given.next, c.with-tally.ensures.count);
       tries = λ s at.
           let so = c.items.invariant.tries s at in
-          let level = at_level c.args.session.now s at ∙ c.requires.level in
+          let level = at_read_as c.args.session.now s at _ c.requires.level in
           let said = ap (λ f. form f given.item) (sym c.head.ensures.is_format) ∙ given.is in
           let held_ : given.item ≡ held_at so.0 given.next.group =
           held_is _ _ so.0 given.next.group given.item given.next.is (c.head.ensures.format so.0 so.1)
@@ -83,7 +83,7 @@ returns-in_err-is_done-clause-tries g c = λ s at.
     let n : ℕ = c.args.items.now.lines.level in
     let given = rw (c.in-Some.is, c.items.invariant.level) at c.in_ok-spelled.ensures.given in
     let so = c.items.invariant.tries s at in
-    let level = at_level c.args.session.now s at ∙ c.requires.level in
+    let level = at_read_as c.args.session.now s at _ c.requires.level in
     let said = ap (λ f. form f given.item) (sym c.head.ensures.is_format) ∙ given.is in
     let held_ : given.item ≡ held_at so.0 given.next.group =
     held_is _ _ so.0 given.next.group given.item given.next.is (c.head.ensures.format so.0 so.1)

@@ -2,7 +2,7 @@ use Rattle.std.proofs.Common.{◌≡◌, ap, arith, false, List, ℕ, [], ◌++�
 use Rattle.quilt_lang.specs.declared.progress.Progress.TheVariants as progresses
 use Rattle.quilt_lang.specs.Reading.{Gives, Unread}
 use Rattle.quilt_lang.specs.Progress.{KeepsUnfinished, IsProgress}
-use Rattle.quilt_lang.specs.Shortening.{KeepsShort}
+use Rattle.quilt_lang.specs.Shortening.{IsTextPart, KeepsShort, bounds_of}
 use Rattle.quilt_words.proofs.Slices.{behind}
 use Rattle.quilt_lang.proofs.Enough.{kept_loud}
 use Rattle.quilt_lang.proofs.Feeding.{begun_short, fed_part, part_short}
@@ -30,8 +30,10 @@ returns-in-Waiting-clause-fed c =
     let kept : KeepsUnfinished c.args.self.now.level old c.in_ok-progress.progress = subst (λ (n : ℕ). KeepsUnfinished n old c.in_ok-progress.progress) level
     (rw (c.deref.ensures.value, behind from bytes) at c.in_ok-progress.ensures) in
     let put = c.in_ok-put_piece.ensures.put in
+    let part : IsTextPart (bounds_of c.args.self.now.level c.in_ok-progress.progress) c.args.piece.now put.0 =
+    subst (λ (n : ℕ). IsTextPart (bounds_of n c.in_ok-progress.progress) c.args.piece.now put.0) level put.2 in
     subst (λ (l : List ℕ). Gives false c.args.self.now.level [] (l ++ c.args.piece.now) joined) rest
-    (fed_part c.args.self.now.level c.in_ok-progress.progress old c.args.piece.now put.0 joined kept put.1 put.2)
+    (fed_part c.args.self.now.level c.in_ok-progress.progress old c.args.piece.now put.0 joined kept put.1 part)
 
 pub returns-in-Waiting-clause-lines : goal.returns-in-Waiting-clause-lines
 returns-in-Waiting-clause-lines c =
@@ -44,8 +46,10 @@ returns-in-Waiting-clause-lines c =
     let kept : KeepsUnfinished c.args.self.now.level old c.in_ok-progress.progress = subst (λ (n : ℕ). KeepsUnfinished n old c.in_ok-progress.progress) level
     (rw (c.deref.ensures.value, behind from bytes) at c.in_ok-progress.ensures) in
     let put = c.in_ok-put_piece.ensures.put in
+    let part : IsTextPart (bounds_of c.args.self.now.level c.in_ok-progress.progress) c.args.piece.now put.0 =
+    subst (λ (n : ℕ). IsTextPart (bounds_of n c.in_ok-progress.progress) c.args.piece.now put.0) level put.2 in
     subst (λ (l : List ℕ). KeepsShort c.args.self.now.level l joined) rest
-    (part_short c.args.self.now.level c.in_ok-progress.progress old c.args.piece.now put.0 joined kept put.1 put.2)
+    (part_short c.args.self.now.level c.in_ok-progress.progress old c.args.piece.now put.0 joined kept put.1 part)
 
 pub returns-in-Begun-clause-lines : goal.returns-in-Begun-clause-lines
 returns-in-Begun-clause-lines c =
@@ -71,6 +75,8 @@ returns-in-Begun-clause-fed c =
     let kept : KeepsUnfinished c.args.self.now.level old c.in_ok-progress.progress = subst (λ (n : ℕ). KeepsUnfinished n old c.in_ok-progress.progress) level
     (rw (c.deref.ensures.value, behind from bytes) at c.in_ok-progress.ensures) in
     let put = c.in_ok-put_piece.ensures.put in
+    let part : IsTextPart (bounds_of c.args.self.now.level c.in_ok-progress.progress) c.args.piece.now put.0 =
+    subst (λ (n : ℕ). IsTextPart (bounds_of n c.in_ok-progress.progress) c.args.piece.now put.0) level put.2 in
     fed_on c.args.self.now old joined c.args.piece.now _ rest
-    (fed_part c.args.self.now.level c.in_ok-progress.progress old c.args.piece.now put.0 joined kept put.1 put.2)
+    (fed_part c.args.self.now.level c.in_ok-progress.progress old c.args.piece.now put.0 joined kept put.1 part)
     (rw c.deref-in-Begun.ensures.value at c.silent_front-from.ensures.gives)
