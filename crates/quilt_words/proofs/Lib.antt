@@ -3,6 +3,7 @@ pub mod Forming
 pub mod Holding
 pub mod Names
 pub mod Numbers
+pub mod Plain
 pub mod Recolours
 pub mod Remarks
 pub mod Rings

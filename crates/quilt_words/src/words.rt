@@ -1,4 +1,4 @@
-ghost use Rattle.std.specs.Prelude.{◌≡◌, ◌==◌, ◌<◌, [], ◌∷◌, IfOk, IfSome, MatchOption, map, find, length, take, drop, not, position};
+ghost use Rattle.std.specs.Prelude.{◌≡◌, ◌==◌, ◌<◌, [], ◌∷◌, IfOk, IfSome, MatchOption, map, find, length, take, drop, nat_le, not, position};
 ghost use Rattle.std.specs.List.{list_all, position_or_len};
 ghost use Rattle.quilt_words.specs.Items.{words_of, is_plain, is_remark, is_silent};
 
@@ -84,11 +84,22 @@ pub fn line_words(alloc: Global, line: &[u8]) -> Result<Vec<&[u8]>, AllocError>
     Ok(words)
 }
 
-/// Whether each byte is one that a line may have.
+/// Whether each byte is one that a line may have. No byte is branched on, so that many are looked at at once.
 pub fn is_plain_line(line: &[u8]) -> bool
     ensures { result ≡ list_all is_plain line.now }
 {
-    line.iter().all(|c| *c >= 32 && *c <= 126)
+    let mut most = 0_u8;
+    for c in line {
+        most = most.max(behind_space(*c));
+    }
+    most <= 94
+}
+
+/// How far a byte stands behind the space, round and round: at most 94 where a line may have it.
+fn behind_space(c: u8) -> u8
+    ensures { nat_le result 94 ≡ is_plain c }
+{
+    c.wrapping_sub(b' ')
 }
 
 /// The first byte of a line other than a space.
