@@ -64,9 +64,9 @@ under_past None k m below past = cc
 under_past (Some h) k m below past = lt_le k h m below past
 
 -- the leaf is the one to which each of its keys leads
-pub led_from : (told : Option (List (List ℕ))) (t : Tree) (page : ℕ) (low : Key) (high : Option Key) (rs : List Record) (k : Key)
+pub led_from : {told : Option (List (List ℕ))} {t : Tree} {page : ℕ} {low : Key} {high : Option Key} {rs : List Record} (k : Key)
     (s : HoldsKeys told t page low high rs) → is_le (key_cmp low k) ≡ true → is_below high k ≡ true → LeadsToLeaf k rs s.own None high
-led_from told t page low high rs k s le below = record {
+led_from {low} {high} k s le below = record {
   before = s.before;
   behind = s.behind;
   records = s.records;
@@ -82,12 +82,12 @@ led_from told t page low high rs k s le below = record {
     never m h = cc
 
 -- so the record with such a key is in the leaf
-pub value_from : (told : Option (List (List ℕ))) (t : Tree) (page : ℕ) (low : Key) (high : Option Key) (bytes : List ℕ) (k : Key)
-    (v : Option (List ℕ)) → IsLeafFrom told t page low high → is_le (key_cmp low k) ≡ true → is_below high k ≡ true → AreOf told page bytes
+pub value_from : {told : Option (List (List ℕ))} {t : Tree} {page : ℕ} {low : Key} {high : Option Key} {bytes : List ℕ} (k : Key)
+    {v : Option (List ℕ)} → IsLeafFrom told t page low high → is_le (key_cmp low k) ≡ true → is_below high k ≡ true → AreOf told page bytes
     → ((here : List Record) → leaf_of bytes ≡ Some here → v ≡ value_at_key k here) → (rs : List Record) → IsTree told t rs → v ≡ value_at_key k rs
-value_from told t page low high bytes k v f le below are found rs is =
+value_from {bytes} k {v} f le below are found rs is =
     let s = f rs is in
-    let l = led_from told t page low high rs k s le below in
+    let l = led_from k s le below in
     value_led k rs bytes v (record {
       here = s.own;
       is_leaf = s.is_leaf bytes are;
@@ -99,12 +99,12 @@ value_from told t page low high bytes k v f le below are found rs is =
     }) found
 
 -- and so is the floor of such a key, where the leaf has one
-pub floor_of_spot : (told : Option (List (List ℕ))) (t : Tree) (page : ℕ) (low : Key) (high : Option Key) (bytes : List ℕ) (k : Key)
+pub floor_of_spot : {told : Option (List (List ℕ))} {t : Tree} {page : ℕ} {low : Key} {high : Option Key} {bytes : List ℕ} (k : Key)
     (o : Option Record) → IsLeafFrom told t page low high → is_below high k ≡ true → AreOf told page bytes
     → ((here : List Record) → leaf_of bytes ≡ Some here → o ≡ floor_of k here)
     → IfSome o (λ r. (rs : List Record) → IsTree told t rs → Some r ≡ floor_of k rs)
-floor_of_spot told t page low high bytes k None f below are found = tt
-floor_of_spot told t page low high bytes k (Some r) f below are found = λ rs is.
+floor_of_spot k None f below are found = tt
+floor_of_spot {high} {bytes} k (Some r) f below are found = λ rs is.
     let s = f rs is in
     floor_is_near bytes high k r rs below found
     (record { own = s.own; is_leaf = s.is_leaf bytes are; before = s.before; behind = s.behind; records = s.records; bounded = s.bounded })
@@ -124,10 +124,10 @@ below_first before own behind r a is =
     (subst (λ l. is_ascending l ≡ true) (keys_append before (r ∷ (f.0 ++ behind))) cut))
 
 -- it is the leaf for all keys from its first on
-pub widened_from : (told : Option (List (List ℕ))) (t : Tree) (page : ℕ) (low : Key) (high : Option Key) (bytes : List ℕ) (r : Record) → 1 ≤ t.height
+pub widened_from : {told : Option (List (List ℕ))} {t : Tree} {page : ℕ} {low : Key} {high : Option Key} {bytes : List ℕ} (r : Record) → 1 ≤ t.height
     → AreOf told page bytes → ((own : List Record) → leaf_of bytes ≡ Some own → 0 < length own → slice_get own 0 ≡ Some r)
     → IsLeafFrom told t page low high → IsLeafFrom told t page r.key high
-widened_from told t page low high bytes r some are first f = λ rs is.
+widened_from {told} {t} {bytes} r some are first f = λ rs is.
     let ne : t.height ≢ 0 = omega arith in
     let s = f rs is in
     let leaf = s.is_leaf bytes are in
@@ -155,7 +155,7 @@ module _ (told now : Option (List (List ℕ))) (t : Tree) (page : ℕ) (from : K
       → (own : List Record) × (l : LeadsToLeaf low rs own None up) × (new ≡ range_of low high most (l.before ++ own))
   so_far rs is =
       let s = f rs is in
-      let l = led_from told t page from up rs low s le below in
+      let l = led_from low s le below in
       let leaf = s.is_leaf a.bytes (subst (λ o. AreOf o page a.bytes) same a.are) in (
         s.own,
         l,
@@ -201,9 +201,9 @@ pub under_next : (k next : Key) (high : Option Key) → is_below high k ≡ true
 under_next k next high below is = subst (λ o. is_below o k ≡ true) is below
 
 -- a range of keys of a spot does not go on behind its leaf
-pub never_on : (size : ℕ) (o : Option Spot) (s : Spot) (high next : Key) → o ≡ Some s → IsAtSpot size o high → s.high ≡ Some next
+pub never_on : (size : ℕ) {o : Option Spot} {s : Spot} (high next : Key) → o ≡ Some s → IsAtSpot size o high → s.high ≡ Some next
     → is_le (key_cmp next high) ≡ true → ⊥
-never_on size o s high next is at up le =
+never_on size high next is at up le =
     let here = subst (λ z. IsAtSpot size z high) is at in
     let below = subst (λ z. is_below z high ≡ true) up here.3 in
     let no = gt_not_le high next below in

@@ -3,6 +3,5 @@ pub mod Held
 pub mod Leaves
 pub mod Moves
 pub mod Pairs
-pub mod Reads
 pub mod Room
 pub mod Writes

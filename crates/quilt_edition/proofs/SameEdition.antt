@@ -24,7 +24,7 @@ module _ (pages others : List (List ℕ)) (size : length pages ≡ length others
       let used : found.used ≡ visited = sym (found.is_now ∙ append-nil found.used) in
       let stays = subtree_stays others pages size (suc h) true (root, everywhere) rs found.used
       (λ p is. same p (ap (λ l. list_any (λ v. v == p) l) (sym used) ∙ is)) found.spells in
-      walk_again pages (suc h) true (root, everywhere) [] rs found.used stays found.fresh ∙ ap (λ l. Whole rs l) (sym found.is_now)
+      walk_again pages (suc h) true (root, everywhere) [] found.used stays found.fresh ∙ ap (λ l. Whole rs l) (sym found.is_now)
 
   pub same_edition : (e : Edition) (h : HoldsEdition others e) → page_of pages 0 ≡ page_of others 0
       → ((p : ℕ) → list_any (λ v. v == p) h.visited ≡ true → slice_index_or pages p [] ≡ slice_index_or others p [])

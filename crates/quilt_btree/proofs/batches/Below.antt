@@ -1,5 +1,5 @@
 -- A subtree that is edited in one leaf.
-use Rattle.std.proofs.Common.{◌≡◌, ℕ, zero, suc, ◌+◌, ◌-◌, ◌<◌, ◌≤◌, Bool, true, false, ◌&&◌, List, [], ◌∷◌, ◌++◌, length, take, drop}
+use Rattle.std.proofs.Common.{◌≡◌, ℕ, zero, suc, ◌+◌, ◌-◌, ◌≤◌, Bool, true, false, ◌&&◌, List, [], ◌∷◌, ◌++◌, length, take, drop}
 use Rattle.std.proofs.lemmas.Bool.{and_from, and_parts}
 use Rattle.std.proofs.Common.{Option, Some, Result, Ok, Err, IfOk, IfErr, slice_index, slice_set, refl, sym, ◌∙◌, ap, subst, arith, get_or-set_same}
 use Rattle.std.specs.Prelude.{slice_get, if◌then◌else◌}
@@ -17,7 +17,6 @@ use Rattle.quilt_record.proofs.Orders.{le_le}
 use Rattle.quilt_node.specs.Pages.{Inner, leaf_of, is_ascending}
 use Rattle.quilt_node.specs.Nodes.{IsPlace, keys_of}
 use Rattle.quilt_node.specs.Tree.{Bounds, is_above, is_below}
-use Rattle.quilt_world.specs.Tale.{Goes}
 use Rattle.quilt_btree.specs.declared.edit.Edit.{Edit}
 use Rattle.quilt_btree.specs.declared.edit.Edit.TheVariants as edit
 use Rattle.quilt_btree.specs.Batches.{key_of, edit_keys, edited, edit_all, are_due, Fails, DidEdit}
@@ -33,7 +32,7 @@ use Rattle.quilt_btree.proofs.removals.Drains.{AreAmong, all_lower, all_higher, 
 use Rattle.quilt_btree.proofs.rows.Places.{front, from_keys, tail_places, row_one}
 use Rattle.quilt_btree.proofs.rows.Splices.{RowMoved, middle_moved, parent_stays}
 use Rattle.quilt_btree.proofs.stores.Moves.{moves_written, used_account}
-use Rattle.quilt_btree.proofs.stores.Writes.{tells_at, TellsAll, all_told}
+use Rattle.quilt_btree.proofs.stores.Writes.{WritesPage, tells_at, all_told}
 use Rattle.quilt_btree.proofs.subtrees.Along.{IsSame}
 use Rattle.quilt_btree.proofs.subtrees.Descents.{child_bounds}
 use Rattle.quilt_btree.proofs.subtrees.Trees.{all_both}
@@ -62,26 +61,30 @@ keys_take (suc n) (e ∷ run) = ap (λ l. key_of e ∷ l) (keys_take n run)
 pub all_first : (p : Key → Bool) (n : ℕ) (run : List Edit) → list_all p (edit_keys run) ≡ true → list_all p (edit_keys (take n run)) ≡ true
 all_first p n run h = ap (list_all p) (keys_take n run) ∙ all_take p (edit_keys run) n h
 
+-- the keys of a run lie from the lower bound of a subtree on, and those of its first edits below the upper one
+pub record LieWithin (b : Bounds) (high : Option Key) (run xs : List Edit) : Type 0 where
+  pub above : list_all (is_above b.low) (edit_keys run) ≡ true
+  pub below : list_all (is_below high) (edit_keys xs) ≡ true
+  pub top : b.high ≡ high
+
 -- the leaf was written once
-pub leaf_edited : {told : Option (List (List ℕ))} (now_told : Option (List (List ℕ))) {free now : ℕ → Bool} (size : ℕ) {page : ℕ} (bytes : List ℕ)
-    {is_root : Bool} {b : Bounds} {rs : List Record} {used : List ℕ} (high : Option Key) (leaf new : List Record) (xs : List Edit) → page < size
-    → TellsAll told size → leaf_of bytes ≡ Some new → IsEdited leaf new xs → leaf ≡ rs → list_all (is_below high) (edit_keys xs) ≡ true
-    → Goes (λ old new. new ≡ slice_set old page bytes) told now_told → now ≡ free → (if is_root then 1 else 72) ≤ length new → b.high ≡ high
-    → list_all (is_above b.low) (edit_keys xs) ≡ true → CanEdit told free page 1 is_root b rs used
-    → DidEdit xs told now_told free now page 1 is_root b rs used
-leaf_edited {told = told} now_told {free = free} size {page = page} bytes {is_root = is_root} {b = b} {rs = rs} {used = used} high leaf new xs inside many is d same below wrote same_free least top above can =
+pub leaf_edited : {told now_told : Option (List (List ℕ))} {free now : ℕ → Bool} {size page : ℕ} {bytes : List ℕ} {is_root : Bool} {b : Bounds}
+    {rs : List Record} {used : List ℕ} {high : Option Key} {leaf new : List Record} {xs : List Edit} → WritesPage told now_told size page bytes
+    → leaf_of bytes ≡ Some new → IsEdited leaf new xs → leaf ≡ rs → LieWithin b high xs xs → now ≡ free → (if is_root then 1 else 72) ≤ length new
+    → CanEdit told free page 1 is_root b rs used → DidEdit xs told now_told free now page 1 is_root b rs used
+leaf_edited {told = told} {now_told} {free = free} {size = size} {page = page} {bytes} {is_root = is_root} {b = b} {rs = rs} {used = used} {new = new} {xs = xs} w is d same fits same_free least can =
     let pages = can.pages in
     let s = can.subtree in
-    let written = tells_at (λ old new. new ≡ slice_set old page bytes) told now_told pages wrote can.is_told in
+    let written = tells_at (λ old new. new ≡ slice_set old page bytes) told now_told pages w.wrote can.is_told in
     let here : 1 ≤ multiplicity page used = subst (λ u. 1 ≤ multiplicity page u) (sym s.is_used) (first (multiplicity page (page ∷ [])) (times_here page [])) in
     let left : new ≡ edit_all xs rs = d.is ∙ ap (edit_all xs) same in
-    let under : list_all (is_below b.high) (edit_keys xs) ≡ true = subst (λ o. list_all (is_below o) (edit_keys xs) ≡ true) (sym top) below in
+    let under : list_all (is_below b.high) (edit_keys xs) ≡ true = subst (λ o. list_all (is_below o) (edit_keys xs) ≡ true) (sym fits.top) fits.below in
     let grown : Becomes pages (slice_set pages page bytes) free free page 1 is_root b used (edit_all xs rs) = record {
       uses = used;
       subtree = record {
-        page = ap leaf_of (get_or-set_same pages page bytes [] (all_told told size page pages many can.is_told inside)) ∙ is ∙ ap Some left;
+        page = ap leaf_of (get_or-set_same pages page bytes [] (all_told told size page pages w.many can.is_told w.inside)) ∙ is ∙ ap Some left;
         enough = still_enough is_root (length (edit_all xs rs)) (subst (λ (l : List Record). (if is_root then 1 else 72) ≤ length l) left least);
-        within = kept_run (λ k. is_above b.low k && is_below b.high k) xs rs (all_both (is_above b.low) (is_below b.high) (edit_keys xs) above under)
+        within = kept_run (λ k. is_above b.low k && is_below b.high k) xs rs (all_both (is_above b.low) (is_below b.high) (edit_keys xs) fits.above under)
             s.within;
         is_used = s.is_used;
       };
@@ -149,10 +152,10 @@ module _ (told then_told : Option (List (List ℕ))) (free then_free : ℕ → B
       let before = front (take i inner.children) ka b in
       let behind = tail_places (drop (suc i) inner.children) kb (from_keys ka b) in
       let middle : List (ℕ × Bounds) = (c, cb) ∷ [] in
-      let moved = middle_moved x.pages did.news free now x.below page before middle behind middle rs x.under all grown.uses x.apart x.at
+      let moved = middle_moved x.pages did.news x.below page middle all x.apart x.at
       (row_one (Subtree did.news (suc x.below) false) (c, cb) all grown.uses grown.subtree) grown.moves in
-      let becomes = parent_stays x.pages did.news free now x.below page is_root b inner x.under
-      (x.at.first ++ (all ++ x.at.last)) x.page_is x.inner_height x.enough x.within
+      let becomes = parent_stays x.pages did.news
+      x.page_is x.inner_height x.enough x.within
       (subst (λ (cs : List (ℕ × Bounds)). RowMoved x.pages did.news free now x.below page cs (x.at.first ++ (all ++ x.at.last)) x.under)
       (sym (cut_at_child inner b i x.in_range x.list.keys)) moved) in
       record {

@@ -1,23 +1,22 @@
 -- A leaf that is edited where it lies.
-use Rattle.std.proofs.Common.{◌≡◌, ℕ, ◌+◌, ◌<◌, ◌≤◌, Bool, true, false, List, [], ◌∷◌, length, take, Option, Some, None, IfSome, slice_index_or, slice_set}
+use Rattle.std.proofs.Common.{◌≡◌, ℕ, ◌+◌, ◌≤◌, Bool, true, false, List, [], ◌∷◌, length, take, Option, Some, None, IfSome, slice_index_or, slice_set}
 use Rattle.std.proofs.Common.{refl, sym, ◌∙◌, ap, subst, arith}
 use Rattle.std.specs.Prelude.{if◌then◌else◌}
-use Rattle.std.specs.List.{list_all}
 use Rattle.std.specs.Option.{is_some}
 use Rattle.std.proofs.lemmas.List.{set-get_or}
 use Rattle.quilt_record.specs.declared.key.Key.{Key}
 use Rattle.quilt_record.specs.declared.record.Record.{Record}
 use Rattle.quilt_node.specs.Pages.{leaf_of}
-use Rattle.quilt_node.specs.Tree.{Bounds, is_above, is_below}
+use Rattle.quilt_node.specs.Tree.{Bounds, is_above}
 use Rattle.quilt_world.specs.Tale.{Goes}
 use Rattle.quilt_btree.specs.declared.edit.Edit.{Edit}
-use Rattle.quilt_btree.specs.Batches.{edit_keys, edit_all, Fails, EditsLeaf, DidEdit}
+use Rattle.quilt_btree.specs.Batches.{edit_all, Fails, EditsLeaf, DidEdit}
 use Rattle.quilt_btree.specs.Edits.{multiplicity, CanEdit}
 use Rattle.quilt_btree.specs.Subtree.{Subtree}
-use Rattle.quilt_btree.proofs.batches.Below.{leaf_edited, all_first}
+use Rattle.quilt_btree.proofs.batches.Below.{LieWithin, leaf_edited, all_first}
 use Rattle.quilt_btree.proofs.lists.Counts.{times_here}
 use Rattle.quilt_btree.proofs.stores.Moves.{used_not_free}
-use Rattle.quilt_btree.proofs.stores.Writes.{TellsAll}
+use Rattle.quilt_btree.proofs.stores.Writes.{WritesPage}
 use Rattle.quilt_btree.proofs.ways.Forks.{are_of}
 
 -- the page of a leaf of the tree is not free
@@ -34,7 +33,7 @@ leaf_taken told free page is_root b rs used can =
 module _ (told : Option (List (List ℕ))) (free : ℕ → Bool) (page : ℕ) (is_root : Bool) (b : Bounds) (rs : List Record) (used old : List ℕ)
     (shown : IfSome told (λ pages. old ≡ slice_index_or pages page [])) where
   -- the leaf that the page lends
-  lent_leaf : CanEdit told free page 1 is_root b rs used → leaf_of old ≡ Some rs
+  pub lent_leaf : CanEdit told free page 1 is_root b rs used → leaf_of old ≡ Some rs
   lent_leaf can =
       let s : Subtree can.pages 1 is_root (page, b) rs used = can.subtree in
       ap leaf_of (are_of told page old shown can.pages can.is_told) ∙ s.page
@@ -47,20 +46,14 @@ module _ (told : Option (List (List ℕ))) (free : ℕ → Bool) (page : ℕ) (i
       differ h = cc
 
 -- the first edits of the run were made where the leaf lies
-pub leaf_made : {told : Option (List (List ℕ))} (now_told : Option (List (List ℕ))) {free now : ℕ → Bool} (size : ℕ) {page least : ℕ} {is_root : Bool}
-    {b : Bounds} {rs : List Record} {used : List ℕ} (high : Option Key) (run : List Edit) (n : ℕ) (old bytes : List ℕ) → page < size
-    → TellsAll told size → IfSome told (λ pages. old ≡ slice_index_or pages page [])
-    → ((rs : List Record) → leaf_of old ≡ Some rs → EditsLeaf least run n rs bytes) → 1 ≤ n
-    → Goes (λ before after. after ≡ slice_set before page bytes) told now_told → least ≡ (if is_root then 1 else 72) → list_all (is_below high)
-    (edit_keys (take n run)) ≡ true → now ≡ free → b.high ≡ high → list_all (is_above b.low) (edit_keys run) ≡ true
+pub leaf_made : {told now_told : Option (List (List ℕ))} {free now : ℕ → Bool} {size page least : ℕ} {is_root : Bool} {b : Bounds} {rs : List Record}
+    {used : List ℕ} {high : Option Key} {run : List Edit} {n : ℕ} {bytes : List ℕ} → WritesPage told now_told size page bytes
+    → EditsLeaf least run n rs bytes → 1 ≤ n → least ≡ (if is_root then 1 else 72) → LieWithin b high run (take n run) → now ≡ free
     → CanEdit told free page 1 is_root b rs used → DidEdit (take n run) told now_told free now page 1 is_root b rs used
-leaf_made {told = told} now_told {free = free} {now = now} size {page = page} {least = least} {is_root = is_root} {b = b} {rs = rs} {used = used} high run n old bytes inside many shown edits one wrote lower below same_free top above
-    can =
-    let m = edits rs (lent_leaf told free page is_root b rs used old shown can) in
-    leaf_edited now_told size bytes high rs (edit_all (take n run) rs) (take n run) inside many m.is
-    (record { is = refl; due = m.due }) refl below wrote same_free
-    (subst (λ k. k ≤ length (edit_all (take n run) rs)) lower (m.enough one))
-    top (all_first (is_above b.low) n run above) can
+leaf_made {b = b} {rs = rs} {run = run} {n = n} w made one lower fits same_free can =
+    leaf_edited w made.is (record { is = refl; due = made.due }) refl
+    (record { above = all_first (is_above b.low) n run fits.above; below = fits.below; top = fits.top }) same_free
+    (subst (λ k. k ≤ length (edit_all (take n run) rs)) lower (made.enough one)) can
 
 -- an edit of the leaf is not due
 pub leaf_fails : {told : Option (List (List ℕ))} {free : ℕ → Bool} {page : ℕ} {is_root : Bool} {b : Bounds} {rs : List Record} {used : List ℕ}

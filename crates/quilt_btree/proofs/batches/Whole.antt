@@ -35,6 +35,7 @@ use Rattle.quilt_btree.proofs.lists.RisingApart.{ascending_back}
 use Rattle.quilt_btree.proofs.lists.Withouts.{without_one_fewer}
 use Rattle.quilt_btree.proofs.removals.Drains.{asc_without}
 use Rattle.quilt_btree.proofs.removals.TreeRemovals.{IsRemoving, at_root}
+use Rattle.quilt_btree.proofs.subtrees.Along.{IsSame}
 use Rattle.quilt_btree.proofs.subtrees.Holdings.{subtree_some}
 use Rattle.quilt_btree.proofs.subtrees.Trees.{subtree_rises, ascending_first, ascending_rest}
 
@@ -166,56 +167,61 @@ module _ (told now_told : Option (List (List ℕ))) (free now : ℕ → Bool) (s
       let did = f everywhere rs a.used refl (all_over_none (edit_keys run)) a.can in
       let rises = subtree_rises a.can.pages t.height true (t.root, everywhere) rs a.used a.can.subtree in
       let left = subtree_some did.news t.height true (t.root, everywhere) (edit_all xs rs) did.becomes.uses did.becomes.subtree in
-      enough (length (edit_all xs rs)) (length left.more) (fewer xs) (more xs) (length rs) t.records (ap length left.is)
+      enough (fewer xs) (more xs) (ap length left.is)
       (length_all xs rs rises.ascends did.due) w.number
     where
-      enough : (a m f p l r : ℕ) → a ≡ suc m → a + f ≡ l + p → l ≡ r → f < r + p
-      enough a m f p l r e g h = omega arith
+      enough : {a m : ℕ} (f p : ℕ) {l r : ℕ} → a ≡ suc m → a + f ≡ l + p → l ≡ r → f < r + p
+      enough f p e g h = omega arith
 
-  pub whole_edited : (records : ℕ) (t : Tree) (rs : List Record) (run xs : List Edit) → IsRemoving free size t
+  pub whole_edited : (records : ℕ) (t : Tree) {rs : List Record} (run : List Edit) {xs : List Edit} → IsRemoving free size t
       → records + fewer xs ≡ t.records + more xs → AtRootEdits run xs told now_told free now t → IsWhole told free size t rs
       → (are_due xs rs ≡ true) × IsWhole now_told now size (record { root = t.root; height = t.height; records = records }) (edit_all xs rs)
-  whole_edited records t rs run xs i count f w =
+  whole_edited records t {rs} run {xs} i count f w =
       let a = at_root told free size t rs i w in
       let did = f everywhere rs a.used refl (all_over_none (edit_keys run)) a.can in
       let rises = subtree_rises a.can.pages t.height true (t.root, everywhere) rs a.used a.can.subtree in
       let tall : 1 ≤ t.height = let ne = i.above in omega arith in
       let number : length (edit_all xs rs) ≡ records =
-      same (length (edit_all xs rs)) (fewer xs) (more xs) (length rs) t.records records (length_all xs rs rises.ascends did.due) w.number count in (
+      same (fewer xs) (more xs) (length_all xs rs rises.ascends did.due) w.number count in (
         did.due,
-        whole_again size t.root t.height records
-            (edit_all xs rs) did.is tall did.becomes.subtree did.becomes.moves a.can.apart a.balance number,
+        whole_again t.root
+            did.is tall did.becomes.subtree did.becomes.moves a.can.apart a.balance number,
       )
     where
-      same : (a f p l r n : ℕ) → a + f ≡ l + p → l ≡ r → n + f ≡ r + p → a ≡ n
-      same a f p l r n g h c = omega arith
+      same : {a : ℕ} (f p : ℕ) {l r n : ℕ} → a + f ≡ l + p → l ≡ r → n + f ≡ r + p → a ≡ n
+      same f p g h c = omega arith
 
 fails_all : (run : List Edit) (high : Option Key) (rs : List Record) → Fails run high rs → are_due run rs ≡ false
 fails_all run high rs l =
     ap (λ m. are_due m rs) (sym (take-append-drop l.number run)) ∙ are_due-append (take l.number run) (drop l.number run) rs
     ∙ ap (λ b. b && are_due (drop l.number run) (edit_all (take l.number run) rs)) l.missing
 
--- nothing changed before
-pub stays_edited : (r : Result ℕ Stop) (told mid now_told : Option (List (List ℕ))) (free was now : ℕ → Bool) (size at : ℕ) (t u : Tree)
-    (run : List Edit) → mid ≡ told → was ≡ free → at ≡ size
+-- where nothing changed before
+whole_along : {told mid : Option (List (List ℕ))} {free was : ℕ → Bool} {size at : ℕ} (t : Tree) (rs : List Record) → IsSame told mid free was size at
+    → IsWhole told free size t rs → IsWhole mid was at t rs
+whole_along {told} {mid} {free} {was} {size} t rs is w =
+    subst (λ m. IsWhole mid was m t rs) (sym is.same_size)
+    (subst (λ (h : ℕ → Bool). IsWhole mid h size t rs) (sym is.same_free) (subst (λ o. IsWhole o free size t rs) (sym is.same_pages) w))
+
+pub stays_edited : (r : Result ℕ Stop) {told mid : Option (List (List ℕ))} (now_told : Option (List (List ℕ))) {free was : ℕ → Bool} (now : ℕ → Bool)
+    {size at : ℕ} (t u : Tree) (run : List Edit) → IsSame told mid free was size at
     → IfOk r (λ n. (rs : List Record) → IsWhole mid was at t rs → (are_due (take n run) rs ≡ true) × IsWhole now_told now at u (edit_all (take n run) rs))
     → IfOk r (λ n. (rs : List Record) → IsWhole told free size t rs
     → (are_due (take n run) rs ≡ true) × IsWhole now_told now size u (edit_all (take n run) rs))
-stays_edited (Err e) told mid now_told free was now size at t u run p q s f = f
-stays_edited (Ok n) told mid now_told free was now size at t u run p q s f = λ rs w.
-    let g =
-    f rs (subst (λ m. IsWhole mid was m t rs) (sym s)
-    (subst (λ (h : ℕ → Bool). IsWhole mid h size t rs) (sym q) (subst (λ o. IsWhole o free size t rs) (sym p) w))) in
-    (g.0, subst (λ m. IsWhole now_told now m u (edit_all (take n run) rs)) s g.1)
+stays_edited (Err e) now_told now t u run is f = f
+stays_edited (Ok n) now_told now t u run is f = λ rs w.
+    let g = f rs (whole_along t rs is w) in
+    (g.0, subst (λ m. IsWhole now_told now m u (edit_all (take n run) rs)) is.same_size g.1)
 
-pub stays_failed : (r : Result ℕ Stop) (told mid : Option (List (List ℕ))) (free was : ℕ → Bool) (size at : ℕ) (t : Tree) (run : List Edit)
-    → mid ≡ told → was ≡ free → at ≡ size
-    → IfErr r (λ e. (rs : List Record) → IsWhole mid was at t rs → (page : ℕ) → e ≡ Damaged page → (page ≡ 0) × (are_due run rs ≡ false))
-    → IfErr r (λ e. (rs : List Record) → IsWhole told free size t rs → (page : ℕ) → e ≡ Damaged page → (page ≡ 0) × (are_due run rs ≡ false))
-stays_failed (Ok v) told mid free was size at t run p q s f = f
-stays_failed (Err e) told mid free was size at t run p q s f = λ rs w.
-    f rs (subst (λ m. IsWhole mid was m t rs) (sym s)
-    (subst (λ (h : ℕ → Bool). IsWhole mid h size t rs) (sym q) (subst (λ o. IsWhole o free size t rs) (sym p) w)))
+-- an end that names a page of a whole tree names page 0, where an edit of the run is not due
+abbrev pub NamesUndue : Stop → Option (List (List ℕ)) → (ℕ → Bool) → ℕ → Tree → List Edit → Type 0
+NamesUndue e told free size t run =
+    (rs : List Record) → IsWhole told free size t rs → (page : ℕ) → e ≡ Damaged page → (page ≡ 0) × (are_due run rs ≡ false)
+
+pub stays_failed : (r : Result ℕ Stop) {told mid : Option (List (List ℕ))} {free was : ℕ → Bool} {size at : ℕ} (t : Tree) (run : List Edit)
+    → IsSame told mid free was size at → IfErr r (λ e. NamesUndue e mid was at t run) → IfErr r (λ e. NamesUndue e told free size t run)
+stays_failed (Ok v) t run is f = f
+stays_failed (Err e) t run is f = λ rs w. f rs (whole_along t rs is w)
 
 -- how far a run is made
 pub record IsMade (told now_told : Option (List (List ℕ))) (free now : ℕ → Bool) (size : ℕ) (t u : Tree) (run : List Edit) : Type 0 where
@@ -241,14 +247,14 @@ rest_ascends run i a =
     (ascending_back (take i (edit_keys run)) (drop i (edit_keys run))
     (subst (λ l. is_ascending l ≡ true) (sym (take-append-drop i (edit_keys run))) a)))
 
-pub made_rest : (told mid now_told : Option (List (List ℕ))) (free was now : ℕ → Bool) (size at i n : ℕ) (t u v : Tree) (run : List Edit)
+pub made_rest : {told mid now_told : Option (List (List ℕ))} {free was now : ℕ → Bool} {size at : ℕ} (i n : ℕ) {t u v : Tree} (run : List Edit)
     → at ≡ size
     → IsMade told mid free was size t u (take i run) → IsRooted at v
     → v.records + fewer (take n (rest run i)) ≡ u.records + more (take n (rest run i))
     → ((rs : List Record) → IsWhole mid was at u rs → (are_due (take n (rest run i)) rs ≡ true)
     × IsWhole now_told now at v (edit_all (take n (rest run i)) rs))
     → IsMade told now_told free now size t v (take (i + n) run)
-made_rest told mid now_told free was now size at i n t u v run same made rooted count f =
+made_rest {told} {mid} {now_told} {free} {was} {now} {size} i n {t} {u} {v} run same made rooted count f =
     let xs = take i run in
     let ys = take n (rest run i) in
     let cut : take (i + n) run ≡ xs ++ ys = take-add i n run ∙ ap (λ l. xs ++ take n l) (sym (take_rest run i)) in
@@ -264,11 +270,9 @@ made_rest told mid now_told free was now size at i n t u v run same made rooted 
           );
     })
 
-pub rest_fails : (e : Stop) (told mid : Option (List (List ℕ))) (free was : ℕ → Bool) (size at i : ℕ) (t u : Tree) (run : List Edit) → at ≡ size
-    → IsMade told mid free was size t u (take i run)
-    → ((rs : List Record) → IsWhole mid was at u rs → (page : ℕ) → e ≡ Damaged page → (page ≡ 0) × (are_due (rest run i) rs ≡ false))
-    → (rs : List Record) → IsWhole told free size t rs → (page : ℕ) → e ≡ Damaged page → (page ≡ 0) × (are_due run rs ≡ false)
-rest_fails e told mid free was size at i t u run same made f rs w page is =
+pub rest_fails : (e : Stop) {told mid : Option (List (List ℕ))} {free was : ℕ → Bool} {size at : ℕ} (i : ℕ) {t u : Tree} (run : List Edit) → at ≡ size
+    → IsMade told mid free was size t u (take i run) → NamesUndue e mid was at u (rest run i) → NamesUndue e told free size t run
+rest_fails e {mid = mid} {was = was} i {u = u} run same made f = λ rs w page is.
     let xs = take i run in
     let h = f (edit_all xs rs) (subst (λ m. IsWhole mid was m u (edit_all xs rs)) (sym same) (made.whole rs w).1) page is in (
       h.0,
@@ -306,11 +310,11 @@ module _ (told : Option (List (List ℕ))) (free : ℕ → Bool) (size : ℕ) (t
   pub rest_room : (mid : Option (List (List ℕ))) (was : ℕ → Bool) (i : ℕ) (u : Tree) → IsMade told mid free was size t u (take i run)
       → t.records + more run ≤ quota size → u.records + more (rest run i) ≤ quota size
   rest_room mid was i u made room =
-      enough u.records (more (rest run i)) t.records (more run) (fewer (take i run)) (more (take i run)) (quota size) made.count
-      (ap (λ l. more (take i run) + more l) (take_rest run i) ∙ more_take i run) room
+      enough u.records (more (rest run i)) t.records (fewer (take i run)) (more (take i run)) (quota size) made.count
+      (subst (λ m. t.records + m ≤ quota size) (sym (ap (λ l. more (take i run) + more l) (take_rest run i) ∙ more_take i run)) room)
     where
-      enough : (u r t m f a q : ℕ) → u + f ≡ t + a → a + r ≡ m → t + m ≤ q → u + r ≤ q
-      enough u r t m f a q e g h = omega arith
+      enough : (u r t f a q : ℕ) → u + f ≡ t + a → t + (a + r) ≤ q → u + r ≤ q
+      enough u r t f a q e h = omega arith
 
 pub more_next : (run : List Edit) (i : ℕ) → i < length run → more (take (i + 1) run) ≡ more (take i run) + more_of (edit_at run i)
 more_next run i lt =
@@ -336,17 +340,21 @@ true_false false h g = cc
 pub few_enough : (r a b m n : ℕ) → a + b ≡ m → r + m ≤ quota n → n ≤ 30000 → r + a < 4294967296
 few_enough r a b m n e h g = omega arith
 
-pub still_rooted : (size m a b f all : ℕ) (t : Tree) → IsRooted size t → t.height ≢ 0 → m + f ≡ t.records + a → a + b ≡ all → 1 ≤ m
-    → t.records + all ≤ quota size → IsRooted size (record { root = t.root; height = t.height; records = m })
-still_rooted size m a b f all t r ne e g some room = record {
+-- there is room for the first edits where there is for all
+pub first_room : (r a b m q : ℕ) → a + b ≡ m → r + m ≤ q → r + a ≤ q
+first_room r a b m q e h = omega arith
+
+pub still_rooted : {size m : ℕ} (a f : ℕ) {t : Tree} → IsRooted size t → t.height ≢ 0 → m + f ≡ t.records + a → 1 ≤ m → t.records + a ≤ quota size
+    → IsRooted size (record { root = t.root; height = t.height; records = m })
+still_rooted {size} {m} a f {t} r ne e some room = record {
   height = r.height;
-  records = enough m f t.records a b all (quota size) e g room;
+  records = enough m f t.records a (quota size) e room;
   tree = λ tall. let s = r.tree tall in (s.0, s.1, some);
   none = λ z. absurd (ne z);
 }
   where
-    enough : (m f r a b l q : ℕ) → m + f ≡ r + a → a + b ≡ l → r + l ≤ q → m ≤ q
-    enough m f r a b l q e g h = omega arith
+    enough : (m f r a q : ℕ) → m + f ≡ r + a → r + a ≤ q → m ≤ q
+    enough m f r a q e h = omega arith
 
 -- a key stands above those of a run where it is above the last
 follows_last : (e : Edit) (run : List Edit) (k : Key) → is_ascending (edit_keys (e ∷ run)) ≡ true

@@ -16,7 +16,8 @@ use Rattle.quilt_btree.specs.declared.cursor.Cursor.{Cursor}
 use Rattle.quilt_btree.specs.Cursors.{StandsAt, StandsIn, IsSought, GoesBack, GoesBackTo}
 use Rattle.quilt_btree.specs.Lists.{IsLast, IsLower}
 use Rattle.quilt_btree.specs.Trees.{SpellsSubtree, IsTree}
-use Rattle.quilt_btree.proofs.cursors.Stands.{take_at, drop_at, over_le, parts_same, no_both}
+use Rattle.quilt_btree.proofs.cursors.Stands.{take_at, drop_at, over_le}
+use Rattle.quilt_btree.proofs.ranges.Ranges.{parts_same, no_both}
 use Rattle.quilt_btree.proofs.lists.Rising.{all_append, all_map}
 use Rattle.quilt_btree.proofs.lists.RisingApart.{all_under, ascending_back}
 use Rattle.quilt_btree.proofs.subtrees.Descending.{AtFloor, leads_below, along_told}
@@ -51,7 +52,7 @@ module _ (old new : Option (List (List ℕ))) (page height child i : ℕ) (k : K
   pub lower_here : (r : Record) → AtFloor old new page height child i k inner
       → ((rs : List Record) → SpellsSubtree new child (height - 1) rs → IsLast k rs r) → (rs : List Record) → SpellsSubtree old page height rs → IsLast k rs r
   lower_here r a f rs s =
-      let at = leads_below old page height rs inner i k a.some a.above s a.reads a.place in
+      let at = leads_below old page height inner i k a.some a.above s a.reads a.place in
       let h = f at.here (subst (λ c. SpellsSubtree new c (height - 1) at.here) (sym a.is_child)
       (along_told old new (slice_index inner.children i) (height - 1) at.here a.told at.spells)) in
       record {
@@ -68,7 +69,7 @@ module _ (old new : Option (List (List ℕ))) (page height child i : ℕ) (k : K
       → ((rs : List Record) → SpellsSubtree new child (height - 1) rs → list_all (λ (r : Record). is_le (key_cmp k r.key)) rs ≡ true) → (rs : List Record)
       → SpellsSubtree old page height rs → list_all (λ (r : Record). is_le (key_cmp k r.key)) rs ≡ true
   lower_none a zero_place f rs s =
-      let at = leads_below old page height rs inner i k a.some a.above s a.reads a.place in
+      let at = leads_below old page height inner i k a.some a.above s a.reads a.place in
       let h = f at.here (subst (λ c. SpellsSubtree new c (height - 1) at.here) (sym a.is_child)
       (along_told old new (slice_index inner.children i) (height - 1) at.here a.told at.spells)) in
       subst (λ l. list_all (λ (r : Record). is_le (key_cmp k r.key)) l ≡ true)
@@ -87,7 +88,7 @@ pub lower_before : {old new newer : Option (List (List ℕ))} {page height child
     → ((rs : List Record) → SpellsSubtree newer prior (height - 1) rs → last_or None rs ≡ Some r) → {rs : List Record} → SpellsSubtree old page height rs
     → IsLast k rs r
 lower_before {old = old} {new = new} {newer = newer} {page = page} {height = height} {i = i} {k = k} {inner = inner} r a some t is f g {rs = rs} s =
-    let at = leads_below old page height rs inner i k a.some a.above s a.reads a.place in
+    let at = leads_below old page height inner i k a.some a.above s a.reads a.place in
     let h = f at.here (subst (λ c. SpellsSubtree new c (height - 1) at.here) (sym a.is_child)
     (along_told old new (slice_index inner.children i) (height - 1) at.here a.told at.spells)) in
     let n : i ≡ suc (i - 1) = omega arith in
@@ -170,24 +171,23 @@ module _ (told : Option (List (List ℕ))) (t : Tree) (c : Cursor) (first : Reco
           absurd (no_both x.key first.key (and_parts (is_lt (key_cmp x.key first.key)) (list_all (λ (l : Record). is_lt (key_cmp l.key first.key)) xs) h).0
           (and_parts (is_le (key_cmp first.key x.key)) (list_all (λ (l : Record). is_le (key_cmp first.key l.key)) (xs ++ after)) g).0)
 
--- the cursor goes back into another leaf
-pub back_over : (told : Option (List (List ℕ))) (t : Tree) (c d : Cursor) (first r : Record) (before after : List Record) → 1 ≤ t.height → c.place ≡ 0
-    → (0 < length (page_records c.bytes) → slice_get (page_records c.bytes) 0 ≡ Some first)
-    → ((rs : List Record) → SpellsSubtree told t.root t.height rs → IsLast first.key rs r)
-    → ((rs : List Record) → IsTree told t rs → IsSought told t d r.key rs)
-    → IsTree told t (before ++ after) → StandsIn told t c before after → GoesBack told t r d before after
-back_over told t c d first r before after some e at lower sought is s =
-    let ne : t.height ≢ 0 = omega arith in
-    let p = first_parts told t c first before after ne e at is s in
-    let l = lower (before ++ after) (tree_spells told t (before ++ after) ne is).0 in
-    let records : before ++ after ≡ (l.before ++ r ∷ []) ++ l.behind = l.records ∙ sym (append_assoc l.before (r ∷ []) l.behind) in
-    let same = parts_same first.key before after (l.before ++ r ∷ []) l.behind records p.0 p.1 l.lower l.higher in
-    let q = parted l.before r l.behind (subst (λ m. is_ascending (keys_of m) ≡ true) l.records (tree_ascends told t (before ++ after) ne is)) in
-    let found = sought (before ++ after) is in
-    let there = parts_same r.key found.before found.after l.before (r ∷ l.behind) (sym found.records ∙ l.records) found.lower found.higher q.0 q.1 in
-    record {
-      rest = l.before;
-      records = same.0;
-      stands = subst (λ m. StandsIn told t d l.before (r ∷ m)) (sym same.1)
-          (subst (λ m. StandsIn told t d l.before m) there.1 (subst (λ m. StandsIn told t d m found.after) there.0 found.stands));
-    }
+  -- the cursor goes back into another leaf
+  pub back_over : (d : Cursor) {r : Record} → 1 ≤ t.height → c.place ≡ 0 → (0 < length (page_records c.bytes) → slice_get (page_records c.bytes) 0 ≡ Some first)
+      → ((rs : List Record) → SpellsSubtree told t.root t.height rs → IsLast first.key rs r)
+      → ((rs : List Record) → IsTree told t rs → IsSought told t d r.key rs)
+      → IsTree told t (before ++ after) → StandsIn told t c before after → GoesBack told t r d before after
+  back_over d {r} some e at lower sought is s =
+      let ne : t.height ≢ 0 = omega arith in
+      let p = first_parts ne e at is s in
+      let l = lower (before ++ after) (tree_spells told t (before ++ after) ne is).0 in
+      let records : before ++ after ≡ (l.before ++ r ∷ []) ++ l.behind = l.records ∙ sym (append_assoc l.before (r ∷ []) l.behind) in
+      let same = parts_same first.key before after (l.before ++ r ∷ []) l.behind records p (l.lower, l.higher) in
+      let q = parted l.before r l.behind (subst (λ m. is_ascending (keys_of m) ≡ true) l.records (tree_ascends told t (before ++ after) ne is)) in
+      let found = sought (before ++ after) is in
+      let there = parts_same r.key found.before found.after l.before (r ∷ l.behind) (sym found.records ∙ l.records) (found.lower, found.higher) q in
+      record {
+        rest = l.before;
+        records = same.0;
+        stands = subst (λ m. StandsIn told t d l.before (r ∷ m)) (sym same.1)
+            (subst (λ m. StandsIn told t d l.before m) there.1 (subst (λ m. StandsIn told t d m found.after) there.0 found.stands));
+      }

@@ -1,6 +1,6 @@
 -- Where a cursor stands.
-use Rattle.std.proofs.Common.{◌≡◌, ◌≢◌, ℕ, zero, suc, ◌+◌, ◌<◌, ◌≤◌, Bool, true, false, List, [], ◌∷◌, ◌++◌, length, take, drop, Option, Some, None}
-use Rattle.std.proofs.lemmas.Bool.{and_from, and_parts}
+use Rattle.std.proofs.Common.{◌≡◌, ◌≢◌, ℕ, zero, suc, ◌+◌, ◌<◌, ◌≤◌, true, List, [], ◌∷◌, ◌++◌, length, take, drop, Option, Some, None}
+use Rattle.std.proofs.lemmas.Bool.{and_from}
 use Rattle.std.proofs.Common.{refl, sym, ◌∙◌, ap, subst, arith, add-one, take-append-drop}
 use Rattle.std.specs.Prelude.{slice_get, slice_index_or, IfSome, MatchOption}
 use Rattle.std.specs.List.{list_all}
@@ -18,8 +18,8 @@ use Rattle.quilt_btree.specs.Cursors.{IsParted, StandsAt, StandsIn, IsSoughtAt, 
 use Rattle.quilt_btree.specs.Arrivals.{Arrives}
 use Rattle.quilt_btree.specs.Trees.{IsTree, LeadsToLeaf, IsCut, is_past}
 use Rattle.quilt_btree.specs.Searches.{AreOf}
-use Rattle.quilt_btree.proofs.lists.Lists.{gt_not_le}
 use Rattle.quilt_btree.proofs.lists.Rising.{all_follow, all_append}
+use Rattle.quilt_btree.proofs.ranges.Ranges.{parts_same}
 use Rattle.quilt_btree.proofs.ranges.Rests.{next_divides}
 use Rattle.quilt_btree.proofs.subtrees.Whole.{tree_spells}
 use Rattle.quilt_btree.proofs.ways.Forks.{are_of}
@@ -88,12 +88,12 @@ module _ (told : Option (List (List ℕ))) (t : Tree) (k : Key) (rs : List Recor
         higher = l.bounded;
       }
 
-  pub sought : (bytes : List ℕ) (place : ℕ) (high : Option Key) → Arrives told t.root t.height k None bytes high → 1 ≤ t.height → IsTree told t rs
+  pub sought : {bytes : List ℕ} (place : ℕ) {high : Option Key} → Arrives told t.root t.height k None bytes high → 1 ≤ t.height → IsTree told t rs
       → place ≤ length (page_records bytes)
       → (leaf_of bytes ≡ Some (page_records bytes) → list_all (λ r. is_lt (key_cmp r.key k)) (take place (page_records bytes)) ≡ true)
       → (leaf_of bytes ≡ Some (page_records bytes) → list_all (λ r. is_le (key_cmp k r.key)) (drop place (page_records bytes)) ≡ true)
       → IsSoughtAt told t bytes place high k rs
-  sought bytes place high a some is inside low up =
+  sought {bytes} place {high} a some is inside low up =
       let ne : t.height ≢ 0 = omega arith in
       let s = tree_spells told t rs ne is in
       let leaf = a.leaf rs s.0 in
@@ -118,47 +118,17 @@ module _ (told : Option (List (List ℕ))) (t : Tree) (k : Key) (rs : List Recor
         };
       }
 
--- a key parts a list at one place
-pub no_both : (a b : Key) → is_lt (key_cmp a b) ≡ true → is_le (key_cmp b a) ≡ true → ⊥
-no_both a b h g = no (is_le (key_cmp b a)) g (gt_not_le a b h)
-  where
-    no : (c : Bool) → c ≡ true → c ≡ false → ⊥
-    no true h g = cc
-    no false h g = cc
-
-pub parts_same : (k : Key) (xs ys us vs : List Record) → xs ++ ys ≡ us ++ vs
-    → list_all (λ r. is_lt (key_cmp r.key k)) xs ≡ true → list_all (λ r. is_le (key_cmp k r.key)) ys ≡ true
-    → list_all (λ r. is_lt (key_cmp r.key k)) us ≡ true → list_all (λ r. is_le (key_cmp k r.key)) vs ≡ true → (xs ≡ us) × (ys ≡ vs)
-parts_same k [] ys [] vs e a b c d = (refl, e)
-parts_same k [] [] (u ∷ us) vs e a b c d = cc
-parts_same k [] (y ∷ ys) (u ∷ us) vs e a b c d =
-    let same : y ≡ u = cc in
-    absurd (no_both u.key k (and_parts (is_lt (key_cmp u.key k)) (list_all (λ (r : Record). is_lt (key_cmp r.key k)) us) c).0
-    (subst (λ (r : Record). is_le (key_cmp k r.key) ≡ true) same (and_parts (is_le (key_cmp k y.key)) (list_all (λ (r : Record). is_le (key_cmp k r.key)) ys) b).0))
-parts_same k (x ∷ xs) ys [] [] e a b c d = cc
-parts_same k (x ∷ xs) ys [] (v ∷ vs) e a b c d =
-    let same : v ≡ x = cc in
-    absurd (no_both x.key k (and_parts (is_lt (key_cmp x.key k)) (list_all (λ (r : Record). is_lt (key_cmp r.key k)) xs) a).0
-    (subst (λ (r : Record). is_le (key_cmp k r.key) ≡ true) same (and_parts (is_le (key_cmp k v.key)) (list_all (λ (r : Record). is_le (key_cmp k r.key)) vs) d).0))
-parts_same k (x ∷ xs) ys (u ∷ us) vs e a b c d =
-    let same : x ≡ u = cc in
-    let tails : xs ++ ys ≡ us ++ vs = cc in
-    let h = parts_same k xs ys us vs tails
-    (and_parts (is_lt (key_cmp x.key k)) (list_all (λ (r : Record). is_lt (key_cmp r.key k)) xs) a).1 b
-    (and_parts (is_lt (key_cmp u.key k)) (list_all (λ (r : Record). is_lt (key_cmp r.key k)) us) c).1 d in
-    (cc, h.1)
-
 module _ (told : Option (List (List ℕ))) (t : Tree) where
-  pub entered : (k : Key) (before after : List Record) (bytes : List ℕ) (high : Option Key) → Arrives told t.root t.height k None bytes high
+  pub entered : (k : Key) (before after : List Record) {bytes : List ℕ} {high : Option Key} → Arrives told t.root t.height k None bytes high
       → 1 ≤ t.height → IsTree told t (before ++ after) → IsParted told t k before after → StandsAt told t bytes 0 high before after
-  entered k before after bytes high a some is p =
+  entered k before after {bytes} {high} a some is p =
       let ne : t.height ≢ 0 = omega arith in
       let s = tree_spells told t (before ++ after) ne is in
       let l = a.leads (before ++ after) s.0 s.1 in
       let here = page_records bytes in
       let from = a.cut.starts p.pages (before ++ after) p.is_told s.0 s.1 p.divides in
-      let same = parts_same k before after l.before (here ++ l.behind) l.records p.lower p.higher l.lower
-      (all_append (λ (r : Record). is_le (key_cmp k r.key)) here l.behind from (over_le k l.behind l.higher)) in
+      let same = parts_same k before after l.before (here ++ l.behind) l.records (p.lower, p.higher)
+      (l.lower, all_append (λ (r : Record). is_le (key_cmp k r.key)) here l.behind from (over_le k l.behind l.higher)) in
       record {
         first = l.before;
         last = l.behind;
@@ -169,10 +139,10 @@ module _ (told : Option (List (List ℕ))) (t : Tree) where
         further = further_at told t k (before ++ after) here high l a.cut is ne;
       }
 
-  pub goes_over : (r : Record) (bytes : List ℕ) (place : ℕ) (high : Option Key) (before after : List Record) → place < length (page_records bytes)
+  pub goes_over : (r : Record) (bytes : List ℕ) (place : ℕ) {high : Option Key} {before after : List Record} → place < length (page_records bytes)
       → slice_get (page_records bytes) place ≡ Some r → StandsAt told t bytes place high before after
       → GoesOverTo told t r bytes (place + 1) high before after
-  goes_over r bytes place high before after lt at s =
+  goes_over r bytes place lt at s =
       let here = page_records bytes in
       record {
         rest = drop (suc place) here ++ s.last;

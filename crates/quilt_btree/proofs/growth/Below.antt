@@ -86,9 +86,9 @@ child_below inner b i k p h =
     (subst (λ o. is_below o k ≡ true) (sym (high_from (take i inner.keys) b)) h)
 
 module _ (told : Option (List (List ℕ))) (free : ℕ → Bool) (page height : ℕ) (is_root : Bool) (b : Bounds) where
-  pub go_below : (k : Key) (rs : List Record) (used : List ℕ) (inner : Inner) (i : ℕ) → 1 ≤ height → height ≢ 1 → ReadsInner told page inner
+  pub go_below : (k : Key) {rs : List Record} {used : List ℕ} (inner : Inner) (i : ℕ) → 1 ≤ height → height ≢ 1 → ReadsInner told page inner
       → IsPlace inner.keys k i → CanEdit told free page height is_root b rs used → IsBelow told free page height is_root b k rs used inner i
-  go_below k rs used inner i some ne reads p can =
+  go_below k {rs} {used} inner i some ne reads p can =
       let n = height_above height some ne in
       let s = subst (λ m. Subtree can.pages m is_root (page, b) rs used) n.1 can.subtree in
       let there = reads can.pages can.is_told in

@@ -46,7 +46,7 @@ module _ (told : Option (List (List ℕ))) (k : Key) (b : Bool) where
   pub finds_below : (then_told : Option (List (List ℕ))) (page height child i : ℕ) (inner : Inner) → IsLed told then_told page height child i k inner
       → Finds then_told child (height - 1) k b → Finds told page height k b
   finds_below then_told page height child i inner l f rs s =
-      let low = leads_below told page height rs inner i k l.some l.above s l.reads l.place in
+      let low = leads_below told page height inner i k l.some l.above s l.reads l.place in
       f low.here (subst (λ c. SpellsSubtree then_told c (height - 1) low.here) (sym l.is_child)
       (along_told told then_told (slice_index inner.children i) (height - 1) low.here l.same low.spells))
       ∙ sym (any_between k low.first low.here low.last rs low.among)

@@ -1,5 +1,5 @@
 -- An inner page that was to be written is written, whole or in two.
-use Rattle.std.proofs.Common.{◌≡◌, ℕ, suc, ◌+◌, ◌-◌, ◌<◌, ◌≤◌, Bool, true, false, nat_le, List, [], ◌∷◌, ◌++◌, length, take, drop, Option, Some, slice_index_or}
+use Rattle.std.proofs.Common.{◌≡◌, ℕ, suc, ◌+◌, ◌-◌, ◌≤◌, Bool, true, false, nat_le, List, [], ◌∷◌, ◌++◌, length, take, drop, Option, Some, slice_index_or}
 use Rattle.std.proofs.Common.{slice_set, refl, sym, ◌∙◌, ap, subst, arith, take-append-drop, length-take-le, length-drop}
 use Rattle.std.specs.Prelude.{slice_get, nat_lt, ◌&&◌}
 use Rattle.quilt_record.specs.declared.key.Key.{Key}
@@ -9,8 +9,6 @@ use Rattle.quilt_node.specs.Nodes.{are_pages}
 use Rattle.quilt_node.specs.Edits.{first_children, children_from}
 use Rattle.quilt_node.specs.Tree.{Bounds, bounded, are_within}
 use Rattle.quilt_node.proofs.Ascending.{all_take, all_drop}
-use Rattle.quilt_store.specs.Store.{FreesOnly}
-use Rattle.quilt_world.specs.Tale.{Goes}
 use Rattle.quilt_btree.specs.Subtree.{Row, Subtree}
 use Rattle.quilt_btree.specs.Edits.{multiplicity, Becomes, Separated}
 use Rattle.quilt_btree.specs.Inserts.{IsPending, DidPut}
@@ -22,7 +20,7 @@ use Rattle.quilt_btree.proofs.ways.Leaves.{cut_at}
 use Rattle.quilt_btree.proofs.rows.Splices.{bounded_join, rows_stay, page_in, apart_above, parent_written}
 use Rattle.quilt_btree.proofs.lists.Separators.{separated_at}
 use Rattle.quilt_btree.proofs.growth.LeafGrowth.{at_least}
-use Rattle.quilt_btree.proofs.stores.Writes.{tells_at, TellsAll, all_told, both_written, both_same}
+use Rattle.quilt_btree.proofs.stores.Writes.{WritesPage, WritesBoth, tells_at, all_told, both_written, both_same}
 
 -- the bytes are this inner page in every file that has its children
 abbrev pub IsWritten : List ℕ → Inner → Type 0
@@ -32,15 +30,15 @@ pub pending_taken : {told : Option (List (List ℕ))} {free : ℕ → Bool} {pag
     {under : List ℕ} → IsPending told free page is_root b inner all under → free page ≡ false
 pending_taken {free = free} {page = page} {under = under} p = used_not_free free (under ++ page ∷ []) page p.apart (page_in page under)
 
-pub put_done : {told : Option (List (List ℕ))} (now_told : Option (List (List ℕ))) {free now : ℕ → Bool} (size : ℕ) {page : ℕ} (height : ℕ)
-    {inner : Inner} (bytes : List ℕ) {is_root : Bool} {b : Bounds} {all : List Record} {under : List ℕ} → page < size → TellsAll told size
-    → IsWritten bytes inner → inner.height ≡ height → Goes (λ old new. new ≡ slice_set old page bytes) told now_told → now ≡ free
-    → IsPending told free page is_root b inner all under → DidPut told now_told free now page height is_root b (under ++ page ∷ []) all inserted.Done
-put_done {told = told} now_told {free = free} {now = now} size {page = page} height {inner = inner} bytes {is_root = is_root} {b = b} {all = all} {under = under} inside many is tall wrote same p =
-    let written = tells_at (λ old new. new ≡ slice_set old page bytes) told now_told p.pages wrote p.is_told in
+pub put_done : {told now_told : Option (List (List ℕ))} {free now : ℕ → Bool} {size page height : ℕ} {inner : Inner} {bytes : List ℕ} {is_root : Bool}
+    {b : Bounds} {all : List Record} {under : List ℕ} → WritesPage told now_told size page bytes → IsWritten bytes inner → inner.height ≡ height
+    → now ≡ free → IsPending told free page is_root b inner all under → DidPut told now_told free now page height is_root b (under ++ page ∷ []) all inserted.Done
+put_done {told = told} {now_told} {free = free} {now = now} {size} {page = page} {height} {inner = inner} {bytes} {is_root = is_root} {b = b} {all = all} {under = under} w is tall same p =
+    let written = tells_at (λ old new. new ≡ slice_set old page bytes) told now_told p.pages w.wrote p.is_told in
     let news = slice_set p.pages page bytes in
-    let becomes = parent_written p.pages free p.below page is_root b inner bytes under all (all_told told size page p.pages many p.is_told inside)
-    (is (length p.pages) p.in_range) p.is_height p.enough p.within p.apart p.children in
+    let becomes : Becomes p.pages news free free page (suc (suc p.below)) is_root b (under ++ page ∷ []) all =
+    parent_written under (all_told told size page p.pages w.many p.is_told w.inside)
+    (record { is = is (length p.pages) p.in_range; is_height = p.is_height; enough = p.enough; within = p.within }) p.apart p.children in
     record {
       pages = p.pages;
       news = news;
@@ -60,14 +58,16 @@ pub record AreParts (inner : Inner) (left right : List ℕ) (key : Key) : Type 0
 counted : (p new page : ℕ) (under rest first : List ℕ) → under ≡ rest ++ first
     → multiplicity p ((rest ++ new ∷ []) ++ (first ++ page ∷ [])) ≡ multiplicity p (new ∷ (under ++ page ∷ []))
 counted p new page under rest first e =
-    order (multiplicity p ((rest ++ new ∷ []) ++ (first ++ page ∷ []))) (multiplicity p (rest ++ new ∷ [])) (multiplicity p (first ++ page ∷ [])) (multiplicity p rest)
-    (multiplicity p (new ∷ [])) (multiplicity p first) (multiplicity p (page ∷ []))
-    (multiplicity p (new ∷ (under ++ page ∷ []))) (multiplicity p (under ++ page ∷ [])) (multiplicity p under)
-    (times-append p (rest ++ new ∷ []) (first ++ page ∷ [])) (times-append p rest (new ∷ [])) (times-append p first (page ∷ []))
+    order (multiplicity p rest) (multiplicity p (new ∷ [])) (multiplicity p first) (multiplicity p (page ∷ []))
+    (parts (multiplicity p rest) (multiplicity p (new ∷ [])) (multiplicity p first) (multiplicity p (page ∷ []))
+    (times-append p (rest ++ new ∷ []) (first ++ page ∷ [])) (times-append p rest (new ∷ [])) (times-append p first (page ∷ [])))
     (times-append p (new ∷ []) (under ++ page ∷ [])) (times-append p under (page ∷ [])) (ap (multiplicity p) e ∙ times-append p rest first)
   where
-    order : (t a b r n f g s u v : ℕ) → t ≡ a + b → a ≡ r + n → b ≡ f + g → s ≡ n + u → u ≡ v + g → v ≡ r + f → t ≡ s
-    order t a b r n f g s u v e1 e2 e3 e4 e5 e6 = omega arith
+    parts : {t a b : ℕ} (r n f g : ℕ) → t ≡ a + b → a ≡ r + n → b ≡ f + g → t ≡ (r + n) + (f + g)
+    parts r n f g e1 e2 e3 = omega arith
+
+    order : {t s u v : ℕ} (r n f g : ℕ) → t ≡ (r + n) + (f + g) → s ≡ n + u → u ≡ v + g → v ≡ r + f → t ≡ s
+    order r n f g e1 e2 e3 e4 = omega arith
 
 none_each : (p : ℕ) (under rest first : List ℕ) → under ≡ rest ++ first → multiplicity p under ≡ 0 → (multiplicity p rest ≡ 0) × (multiplicity p first ≡ 0)
 none_each p under rest first e h =
@@ -80,18 +80,17 @@ none_each p under rest first e h =
     right : (u r f : ℕ) → u ≡ r + f → u ≡ 0 → f ≡ 0
     right u r f e h = omega arith
 
-pub put_split : {told : Option (List (List ℕ))} (now_told : Option (List (List ℕ))) {free now : ℕ → Bool} (size : ℕ) {page new : ℕ} (height : ℕ)
-    {inner : Inner} (left right : List ℕ) (key : Key) {is_root : Bool} {b : Bounds} {all : List Record} {under : List ℕ} → page < size → new < size
-    → TellsAll told size → AreParts inner left right key → inner.height ≡ height → free new ≡ true → FreesOnly new false free now
-    → Goes (λ old now. now ≡ slice_set (slice_set old page left) new right) told now_told → IsPending told free page is_root b inner all under
+pub put_split : {told now_told : Option (List (List ℕ))} {free now : ℕ → Bool} {size page new height : ℕ} {inner : Inner} {left right : List ℕ} {key : Key}
+    {is_root : Bool} {b : Bounds} {all : List Record} {under : List ℕ} → WritesBoth told now_told free now size page new left right
+    → AreParts inner left right key → inner.height ≡ height → IsPending told free page is_root b inner all under
     → DidPut told now_told free now page height is_root b (under ++ page ∷ []) all (inserted.Split key new)
-put_split {told = told} now_told {free = free} {now = now} size {page = page} {new = new} height {inner = inner} left right key {b = b} {all = all} {under = under} inside inside_new many h tall t f wrote p =
+put_split {told = told} {now_told} {free = free} {now = now} {size} {page = page} {new = new} {inner = inner} {left} {right} {key} {b = b} {all = all} {under = under} w h tall p =
     let pages = p.pages in
     let S = Subtree pages (suc p.below) false in
     let news = slice_set (slice_set pages page left) new right in
-    let written = tells_at (λ old now. now ≡ slice_set (slice_set old page left) new right) told now_told pages wrote p.is_told in
+    let written = tells_at (λ old now. now ≡ slice_set (slice_set old page left) new right) told now_told pages w.wrote p.is_told in
     let both = both_written pages free now (under ++ page ∷ []) page new left right p.apart (page_in page under)
-    (all_told told size page pages many p.is_told inside) (all_told told size new pages many p.is_told inside_new) t f in
+    (all_told told size page pages w.many p.is_told w.inside) (all_told told size new pages w.many p.is_told w.inside_new) w.was_free w.taken in
     let cs = inner.children in
     let ks = inner.keys in
     let key_cut : ks ≡ take 126 ks ++ key ∷ drop 127 ks = cut_at ks 126 key h.parts in

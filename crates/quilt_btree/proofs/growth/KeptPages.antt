@@ -29,8 +29,8 @@ use Rattle.quilt_btree.proofs.removals.Underfulls.{page_used}
 use Rattle.quilt_btree.proofs.subtrees.Trees.{subtree_rises}
 use Rattle.quilt_btree.proofs.subtrees.Whole.{no_records}
 use Rattle.quilt_btree.proofs.lists.Withouts.{without_missing, without_one_fewer, without_none}
-use Rattle.quilt_btree.proofs.stores.Writes.{tells_at, TellsAll, all_told}
-use Rattle.quilt_btree.proofs.growth.TreeGrowth.{everywhere, root_found, tree_again, length-put, UnderRoot, IsNewRoot, regrown_split}
+use Rattle.quilt_btree.proofs.stores.Writes.{WritesPage, tells_at, TellsAll, all_told}
+use Rattle.quilt_btree.proofs.growth.TreeGrowth.{everywhere, root_found, tree_again, length-put, two_thirds, too_many, UnderRoot, IsNewRoot, regrown_split}
 use Rattle.quilt_btree.proofs.removals.TreeRemovals as removals
 
 some_height : (h : ℕ) → h ≢ 0 → 1 ≤ h
@@ -54,11 +54,11 @@ at_root told free t rs ne w =
 
 -- a subtree that has come of a tree by an edit is the tree
 pub kept_again : {pages news : List (List ℕ)} {now_told : Option (List (List ℕ))} {free now : ℕ → Bool} (root height records : ℕ) {used uses : List ℕ}
-    (all : List Record) → now_told ≡ Some news → 1 ≤ height → Subtree news height true (root, everywhere) all uses
+    {all : List Record} → now_told ≡ Some news → 1 ≤ height → Subtree news height true (root, everywhere) all uses
     → KeepsAccount pages news free now used uses → AreApart free used
     → HasItsPages now_told now (record { root = root; height = height; records = records }) all
 unfolding tree_again
-kept_again {pages = pages} {news = news} {now_told = now_told} {free = free} {now = now} root height records {used = used} {uses = uses} all is some s m apart =
+kept_again {pages = pages} {news = news} {now_told = now_told} {free = free} {now = now} root height records {used = used} {uses = uses} {all} is some s m apart =
     let still = apart_then pages news free now used uses m apart in
     record {
       tree = tree_again news now_told now root height records uses all is some s still;
@@ -82,20 +82,20 @@ module _ (told : Option (List (List ℕ))) (free : ℕ → Bool) (t : Tree) (rs 
       let a = at_root told free t rs ne w in
       f true everywhere rs a.used (insert_can told free size t k rs room a) few
 
-pub kept_split : (r : Record) {told : Option (List (List ℕ))} (mid_told now_told : Option (List (List ℕ))) {free : ℕ → Bool} (mid now : ℕ → Bool)
-    {size : ℕ} {t : Tree} {rs : List Record} (key : Key) (right new : ℕ) (bytes : List ℕ) (h : ℕ) → IsRooted size t → TellsAll told size
+pub kept_split : (r : Record) {told : Option (List (List ℕ))} {mid_told now_told : Option (List (List ℕ))} {free : ℕ → Bool} {mid now : ℕ → Bool}
+    {size : ℕ} {t : Tree} {rs : List Record} {key : Key} {right new : ℕ} {bytes : List ℕ} {h : ℕ} → IsRooted size t → TellsAll told size
     → t.height ≡ suc h → UnderRoot r told mid_told free mid size t (inserted.Split key right)
     → IsNewRoot t mid_told now_told mid now size key right new bytes → t.height < count_free free size → HasItsPages told free t rs
     → HasItsPages now_told now (record { root = new; height = t.height + 1; records = t.records + 1 }) (put r rs)
-kept_split r {told = told} mid_told now_told {free = free} mid now {size = size} {t = t} {rs = rs} key right new bytes h rooted many tall f is room w =
+kept_split r {told = told} {free = free} {size = size} {t = t} {rs = rs} {new} {h} rooted many tall f is room w =
     let ne : t.height ≢ 0 = omega arith in
     let a = at_root told free t rs ne w in
     let did = f true everywhere rs a.used (insert_can told free size t r.key rs room a) in
     let grown = regrown_split
-    h rooted many tall did.was did.is did.done.1 a.can.apart is in
+    rooted many tall did.was did.is did.done.1 a.can.apart is in
     let some : 1 ≤ t.height + 1 = omega arith in
     kept_again new (t.height + 1) (t.records + 1)
-    (put r rs) grown.is some grown.subtree grown.moves a.can.apart
+    grown.is some grown.subtree grown.moves a.can.apart
 
 module _ (r : Record) (told now_told : Option (List (List ℕ))) (free now : ℕ → Bool) (size : ℕ) (t : Tree) (rs : List Record) where
   pub kept_done : t.height ≢ 0 → UnderRoot r told now_told free now size t inserted.Done → t.height < count_free free size
@@ -104,23 +104,23 @@ module _ (r : Record) (told now_told : Option (List (List ℕ))) (free now : ℕ
       let a = at_root told free t rs ne w in
       let did = f true everywhere rs a.used (insert_can told free size t r.key rs room a) in
       let grown = did.done.1 in
-      kept_again t.root t.height (t.records + 1) (put r rs) did.is
+      kept_again t.root t.height (t.records + 1) did.is
       (some_height t.height ne) grown.subtree grown.moves a.can.apart
 
-  pub kept_first : (new : ℕ) (bytes : List ℕ) → TellsAll told size → t.height ≡ 0 → leaf_of bytes ≡ Some (r ∷ []) → (1 ≤ new) × (new < size)
-      → free new ≡ true → FreesOnly new false free now → Goes (λ old news. news ≡ slice_set old new bytes) told now_told → HasItsPages told free t rs
+  pub kept_first : (new : ℕ) (bytes : List ℕ) → WritesPage told now_told size new bytes → t.height ≡ 0 → leaf_of bytes ≡ Some (r ∷ [])
+      → free new ≡ true → FreesOnly new false free now → HasItsPages told free t rs
       → HasItsPages now_told now (record { root = new; height = 1; records = 1 }) (put r rs)
-  kept_first new bytes many none leaf range was_free taken wrote w =
+  kept_first new bytes one none leaf was_free taken w =
       let no_rs : rs ≡ [] = no_records told t rs none w.tree in
       let pages = w.tree.pages in
-      let written = tells_at (λ old news. news ≡ slice_set old new bytes) told now_told pages wrote w.tree.is_told in
+      let written = tells_at (λ old news. news ≡ slice_set old new bytes) told now_told pages one.wrote w.tree.is_told in
       let news = slice_set pages new bytes in
-      let inside = all_told told size new pages many w.tree.is_told range.1 in
-      let one : 1 ≤ 1 = omega arith in
+      let inside = all_told told size new pages one.many w.tree.is_told one.inside in
+      let least : 1 ≤ 1 = omega arith in
       let here : 1 ≤ multiplicity new (new ∷ []) = first (multiplicity new (new ∷ [])) (times_here new []) in
       let moves = moves_then (moves_taken pages free now [] new was_free taken)
       (moves_written pages now (new ∷ []) new bytes (used_account now (new ∷ []) new here)) in
-      kept_again new 1 1 (put r rs) (written.1 ∙ ap Some written.2) one
+      kept_again new 1 1 (written.1 ∙ ap Some written.2) least
       (subst (λ l. Subtree news 1 true (new, everywhere) (put r l) (new ∷ [])) (sym no_rs)
       (record { page = ap leaf_of (get_or-set_same pages new bytes [] inside) ∙ leaf; enough = refl; within = refl; is_used = refl }))
       moves (λ p. none_used (free p))
@@ -141,11 +141,11 @@ room_left free now size mid_size height same few room =
     left c d h e f = omega arith
 
 -- a root of the greatest height is not split within the quota
-pub kept_low : (r : Record) {told : Option (List (List ℕ))} (now_told : Option (List (List ℕ))) {free : ℕ → Bool} (now : ℕ → Bool) (size : ℕ)
-    {t : Tree} {rs : List Record} (key : Key) (right : ℕ) → t.records < quota size → size ≤ 30000 → t.height ≡ 3
+pub kept_low : (r : Record) {told : Option (List (List ℕ))} {now_told : Option (List (List ℕ))} {free : ℕ → Bool} {now : ℕ → Bool} {size : ℕ}
+    {t : Tree} {rs : List Record} {key : Key} {right : ℕ} → t.records < quota size → size ≤ 30000 → t.height ≡ 3
     → UnderRoot r told now_told free now size t (inserted.Split key right) → t.height < count_free free size → length rs ≡ t.records
     → HasItsPages told free t rs → ⊥
-kept_low r {told = told} now_told {free = free} now size {t = t} {rs = rs} key right few most tall f room number w =
+kept_low r {told = told} {free = free} {size} {t = t} {rs = rs} {key} {right} few most tall f room number w =
     let ne : t.height ≢ 0 = omega arith in
     let a = at_root told free t rs ne w in
     let did = f true everywhere rs a.used (insert_can told free size t r.key rs room a) in
@@ -156,15 +156,11 @@ kept_low r {told = told} now_told {free = free} now size {t = t} {rs = rs} key r
     let last = third_filled did.news (right, record { low = Some key; high = everywhere.high }) separated.rest separated.rest_uses
     (subst (λ h. Subtree did.news h false (right, record { low = Some key; high = everywhere.high }) separated.rest separated.rest_uses)
     tall separated.is_right) in
-    too_many size (length (put r rs)) (length separated.first) (length separated.rest) t.records
-    (ap length separated.records ∙ length-append separated.first separated.rest)
-    (more (length (put r rs)) (length rs) t.records (length-put r rs) number) left last few most
+    too_many size t.records (two_thirds (ap length separated.records ∙ length-append separated.first separated.rest) left last)
+    (more (length (put r rs)) (length rs) t.records (length-put r rs) number) few most
   where
     more : (a b n : ℕ) → a ≡ suc b → b ≡ n → a ≡ n + 1
     more a b n e f = omega arith
-
-    too_many : (n p a b m : ℕ) → p ≡ a + b → p ≡ m + 1 → 1161288 ≤ a → 1161288 ≤ b → m < quota n → n ≤ 30000 → ⊥
-    too_many n p a b m e f g h few most = omega arith
 
 pub out_none : (k : Key) (told : Option (List (List ℕ))) (free : ℕ → Bool) (t : Tree) (rs : List Record) → t.height ≡ 0 → HasItsPages told free t rs
     → HasItsPages told free t (without k rs)
@@ -184,7 +180,7 @@ module _ (k : Key) (told now_told : Option (List (List ℕ))) (free now : ℕ �
       → Becomes pages news free now t.root t.height true everywhere a.used (without k rs)
       → HasItsPages now_told now (record { root = t.root; height = t.height; records = t.records - 1 }) (without k rs)
   became a pages news ne is b =
-      kept_again t.root t.height (t.records - 1) (without k rs) is
+      kept_again t.root t.height (t.records - 1) is
       (some_height t.height ne) b.subtree b.moves a.can.apart
 
   pub out_done : t.height ≢ 0 → removals.UnderRoot k told now_told free now t removed.Done → HasItsPages told free t rs
@@ -230,7 +226,7 @@ module _ (k : Key) (told mid now_told : Option (List (List ℕ))) (free between 
       let grown =
       removals.regrown_only told now_told t did.1.is only a.can.apart tells
       frees in
-      kept_again child (t.height - 1) (t.records - 1) (without k rs) grown.is
+      kept_again child (t.height - 1) (t.records - 1) grown.is
       (removals.tall_above did.1.news t.height child (without k rs) only.below only.uses only.is_height only.subtree) grown.subtree grown.moves a.can.apart
 
 module _ (told : Option (List (List ℕ))) (free : ℕ → Bool) (t : Tree) where
@@ -259,7 +255,7 @@ module _ (k : Key) (told now_told : Option (List (List ℕ))) (free now : ℕ �
   two_done t rs ne f number w =
       let a = at_root told free t rs ne w in
       let did = f true everywhere rs a.used a.can in
-      removals.two_left did.1.news t.height true (t.root, everywhere) (without k rs) did.1.left.uses t.records did.1.left.subtree
+      removals.two_left did.1.news t.height true (t.root, everywhere) (without k rs) did.1.left.uses did.1.left.subtree
       (exact told free t rs k a number did.0)
 
   pub two_underfull : (t : Tree) (rs : List Record) → t.height ≢ 0 → removals.UnderRoot k told now_told free now t removed.Underfull
@@ -268,7 +264,7 @@ module _ (k : Key) (told now_told : Option (List (List ℕ))) (free now : ℕ �
       let a = at_root told free t rs ne w in
       let did = f true everywhere rs a.used a.can in
       let left = did.1.left in
-      removals.two_left did.1.news t.height true (t.root, everywhere) (without k rs) left.1.uses t.records left.1.subtree
+      removals.two_left did.1.news t.height true (t.root, everywhere) (without k rs) left.1.uses left.1.subtree
       (exact told free t rs k a number did.0)
 
   pub one_empty : (t : Tree) (rs : List Record) → t.height ≢ 0 → removals.UnderRoot k told now_told free now t removed.Emptied → length rs ≡ t.records
@@ -291,7 +287,7 @@ module _ (k : Key) (told now_told : Option (List (List ℕ))) (free now : ℕ �
       let apart = apart_then did.1.pages did.1.news free now a.used (only.uses ++ t.root ∷ []) only.moves a.can.apart in (
         used_not_free now (only.uses ++ t.root ∷ []) t.root apart
             (some (multiplicity t.root (only.uses ++ t.root ∷ [])) (multiplicity t.root only.uses) (removals.last_used t.root only.uses)),
-        removals.two_left did.1.news only.below false (child, everywhere) (without k rs) only.uses t.records only.subtree
+        removals.two_left did.1.news only.below false (child, everywhere) (without k rs) only.uses only.subtree
             (exact told free t rs k a number did.0),
         removals.tall_above did.1.news t.height child (without k rs) only.below only.uses only.is_height only.subtree,
       )

@@ -12,7 +12,7 @@ use Rattle.quilt_node.specs.Pages.{Inner, is_ascending}
 use Rattle.quilt_node.specs.Tree.{Bounds, bounded, are_within, is_above, is_below}
 use Rattle.quilt_node.proofs.Ascending.{ascending_insert, ascending_take, ascending_drop}
 use Rattle.quilt_btree.specs.Subtree.{Subtree}
-use Rattle.quilt_record.proofs.Orders.{lt_le, lt_to_le, le_lt}
+use Rattle.quilt_record.proofs.Orders.{lt_le, lt_to_le}
 use Rattle.quilt_btree.proofs.lists.Rising.{all_follow, all_parts, all_append, above_on, below_on}
 use Rattle.quilt_btree.proofs.subtrees.Trees.{leaf_list, inner_list, ascending_first, ascending_rest}
 use Rattle.quilt_btree.proofs.rows.Places.{front, from_keys, head_bounds, tail_places, bounded_front, bounded_head, high_from}
@@ -62,14 +62,6 @@ has_key_within pages (suc (suc h)) is_root at rs used s =
   where
     some : (c k : ℕ) → 2 ≤ c → c ≡ k + 1 → 1 ≤ k
     some c k h e = omega arith
-
--- so a lower bound is below an upper one
-pub bounds_part : (pages : List (List ℕ)) (height : ℕ) (is_root : Bool) (page : ℕ) (low high : Key) (o : Option Key) (rs : List Record)
-    (used : List ℕ) → o ≡ Some low
-    → Subtree pages height is_root (page, record { low = o; high = Some high }) rs used → is_lt (key_cmp low high) ≡ true
-bounds_part pages height is_root page low high o rs used e s =
-    let k = has_key_within pages height is_root (page, record { low = o; high = Some high }) rs used s in
-    le_lt low k.0 high (subst (λ l. is_above l k.0 ≡ true) e k.1) k.2
 
 -- keys whose last is below another key are below it
 under_from : (ks : List Key) (b : Bounds) (key : Key) → is_ascending ks ≡ true

@@ -22,7 +22,7 @@ use Rattle.quilt_record.specs.Lists.{has_key, put}
 use Rattle.quilt_store.specs.Stops.{IsNotDamage}
 use Rattle.quilt_btree.specs.Subtree.{Row, Subtree, AreFreshPages}
 use Rattle.quilt_btree.specs.Trees.{IsRooted, IsTree}
-use Rattle.quilt_btree.specs.Edits.{multiplicity, account, KeepsAccount, Separated, CanInsert, DidInsert, IsWhole}
+use Rattle.quilt_btree.specs.Edits.{Becomes, multiplicity, account, KeepsAccount, Separated, CanInsert, DidInsert, IsWhole}
 use Rattle.quilt_btree.specs.Inserts.{AreFew}
 use Rattle.quilt_btree.specs.declared.outcomes.Inserted.{Inserted}
 use Rattle.quilt_btree.specs.declared.outcomes.Inserted.TheVariants as inserted
@@ -55,7 +55,7 @@ pub root_again : (pages : List (List ℕ)) (root height : ℕ) (rs : List Record
     → Subtree pages height true (root, everywhere) rs used → AreFreshPages used [] → walk_of pages root height ≡ Whole rs (used ++ [])
 unfolding walk_of
 root_again pages root zero rs used some s fresh = absurd (omega arith)
-root_again pages root (suc h) rs used some s fresh = walk_again pages (suc h) true (root, everywhere) [] rs used s fresh
+root_again pages root (suc h) rs used some s fresh = walk_again pages (suc h) true (root, everywhere) [] used s fresh
 
 -- the whole tree as a subtree, and what is free beside it
 pub record IsWholeFrom (told : Option (List (List ℕ))) (free : ℕ → Bool) (size root height : ℕ) (rs : List Record) : Type 0 where
@@ -97,12 +97,12 @@ tree_again news now_told now root height records uses all is some s apart = reco
     once c t h = omega arith
 
 -- A subtree that has come of a whole tree by an edit is the whole tree.
-pub whole_again : {pages news : List (List ℕ)} {now_told : Option (List (List ℕ))} {free now : ℕ → Bool} (size root height records : ℕ)
-    {used uses : List ℕ} (all : List Record) → now_told ≡ Some news → 1 ≤ height → Subtree news height true (root, everywhere) all uses
+pub whole_again : {pages news : List (List ℕ)} {now_told : Option (List (List ℕ))} {free now : ℕ → Bool} {size : ℕ} (root : ℕ) {height records : ℕ}
+    {used uses : List ℕ} {all : List Record} → now_told ≡ Some news → 1 ≤ height → Subtree news height true (root, everywhere) all uses
     → KeepsAccount pages news free now used uses → AreApart free used → ((p : ℕ) → 1 ≤ p → p < size → account free used p ≡ 1) → length all ≡ records
     → IsWhole now_told now size (record { root = root; height = height; records = records }) all
 unfolding tree_again
-whole_again {pages = pages} {news = news} {now_told = now_told} {free = free} {now = now} size root height records {used = used} {uses = uses} all is some s m apart
+whole_again {pages = pages} {news = news} {now_told = now_told} {free = free} {now = now} root {height} {records} {used = used} {uses = uses} {all} is some s m apart
     balance number = record {
       tree = tree_again news now_told now root height records uses all is some s (apart_then pages news free now used uses m apart);
       number = number;
@@ -195,6 +195,13 @@ sound_root e {told = told} {free = free} {size = size} {t = t} k {rs = rs} i ne 
     f true everywhere rs x.used (whole_can told free size t.root t.height k rs i.rooted.height x)
     (few_records size t.records rs w.number i.room i.most)
 
+-- the two halves of a root of height 3 have more records than the quota
+pub two_thirds : {p a b : ℕ} → p ≡ a + b → 1161288 ≤ a → 1161288 ≤ b → 2322576 ≤ p
+two_thirds e f g = omega arith
+
+pub too_many : (n m : ℕ) {p : ℕ} → 2322576 ≤ p → p ≡ m + 1 → m < quota n → n ≤ 30000 → ⊥
+too_many n m h e few most = omega arith
+
 module _ (r : Record) (told now_told : Option (List (List ℕ))) (free now : ℕ → Bool) (size : ℕ) where
   pub whole_there : (t : Tree) (rs : List Record) → IsInserting told free size t → t.height ≢ 0
       → UnderRoot r told now_told free now size t inserted.There → now_told ≡ told → now ≡ free → IsWhole told free size t rs
@@ -213,7 +220,7 @@ module _ (r : Record) (told now_told : Option (List (List ℕ))) (free now : ℕ
       let did = f true everywhere rs x.used (whole_can told free size t.root t.height r.key rs i.rooted.height x) in
       let grown = did.done.1 in (
         sym (ap not did.done.0),
-        whole_again size t.root t.height (t.records + 1) (put r rs) did.is
+        whole_again t.root did.is
             (some_height t.height ne) grown.subtree grown.moves x.apart x.balance (more_records r rs t.records w.number),
       )
 
@@ -229,11 +236,8 @@ module _ (r : Record) (told now_told : Option (List (List ℕ))) (free now : ℕ
       (subst (λ h. Subtree did.news h false (t.root, record { low = None; high = Some key }) separated.first separated.first_uses) tall separated.is_left) in
       let right = third_filled did.news (right, record { low = Some key; high = None }) separated.rest separated.rest_uses
       (subst (λ h. Subtree did.news h false (right, record { low = Some key; high = None }) separated.rest separated.rest_uses) tall separated.is_right) in
-      too_many size (length (put r rs)) (length separated.first) (length separated.rest) t.records
-      (ap length separated.records ∙ length-append separated.first separated.rest) (more_records r rs t.records w.number) left right i.room i.most
-    where
-      too_many : (n p a b m : ℕ) → p ≡ a + b → p ≡ m + 1 → 1161288 ≤ a → 1161288 ≤ b → m < quota n → n ≤ 30000 → ⊥
-      too_many n p a b m e f g h few most = omega arith
+      too_many size t.records (two_thirds (ap length separated.records ∙ length-append separated.first separated.rest) left right)
+      (more_records r rs t.records w.number) i.room i.most
 
   -- a page is left for a new root
   pub root_room : (mid_size : ℕ) (t : Tree) (rs : List Record) → IsInserting told free size t → t.height ≢ 0 → mid_size ≡ size
@@ -282,10 +286,10 @@ pub record IsRegrown (pages : List (List ℕ)) (now_told : Option (List (List �
   pub moves : KeepsAccount pages news free now used uses
 
 pub regrown_split : {told mid_told now_told : Option (List (List ℕ))} {pages mids : List (List ℕ)} {free mid now : ℕ → Bool} {size : ℕ} {t : Tree}
-    {all : List Record} {used : List ℕ} {key : Key} {right new : ℕ} {bytes : List ℕ} (h : ℕ) → IsRooted size t → TellsAll told size → t.height ≡ suc h
+    {all : List Record} {used : List ℕ} {key : Key} {right new : ℕ} {bytes : List ℕ} {h : ℕ} → IsRooted size t → TellsAll told size → t.height ≡ suc h
     → told ≡ Some pages → mid_told ≡ Some mids → Separated pages mids free mid t.root t.height everywhere used all key right → AreApart free used
     → IsNewRoot t mid_told now_told mid now size key right new bytes → IsRegrown pages now_told free now new (t.height + 1) used all
-regrown_split {told = told} {mid_told = mid_told} {now_told = now_told} {pages = pages} {mids = mids} {free = free} {mid = mid} {now = now} {size = size} {t = t} {all = all} {used = used} {key = key} {right = right} {new = new} {bytes = bytes} h rooted many tall was mid_is separated apart is =
+regrown_split {told = told} {mid_told = mid_told} {now_told = now_told} {pages = pages} {mids = mids} {free = free} {mid = mid} {now = now} {size = size} {t = t} {all = all} {used = used} {key = key} {right = right} {new = new} {bytes = bytes} {h} rooted many tall was mid_is separated apart is =
     let some : 1 ≤ t.height = omega arith in
     let S = Subtree mids (suc h) false in
     let U = separated.rest_uses ++ separated.first_uses in
@@ -314,9 +318,14 @@ regrown_split {told = told} {mid_told = mid_told} {now_told = now_told} {pages =
     let taken = moves_order mids mids mid now U (new ∷ U) U (U ++ new ∷ []) (λ p. refl) (λ p. behind_all p new U)
     (moves_taken mids mid now U new is.was_free is.taken) in
     let apart_now = apart_then mids mids mid now U (U ++ new ∷ []) taken apart_mid in
-    let grown = parent_written mids now h new true everywhere inner bytes U all inside
-    (is.is_written (length mids) (two_pages (length mids) size t.root right long (root_in.0, root_in.1) is.right_in)) taller refl refl apart_now row in
     let news = slice_set mids new bytes in
+    let grown : Becomes mids news now now new (suc (suc h)) true everywhere (U ++ new ∷ []) all = parent_written U inside
+    (record {
+      is = is.is_written (length mids) (two_pages (length mids) size t.root right long (root_in.0, root_in.1) is.right_in);
+      is_height = taller;
+      enough = refl;
+      within = refl;
+    }) apart_now row in
     record {
       news = news;
       is = written.1 ∙ ap Some written.2;
@@ -350,11 +359,11 @@ module _ (r : Record) (told now_told : Option (List (List ℕ))) (free now : ℕ
       let x = insert_from told free size t rs i ne w in
       let did = f true everywhere rs x.used (whole_can told free size t.root t.height r.key rs i.rooted.height x) in
       let grown = regrown_split
-      h i.rooted i.many tall did.was did.is did.done.1 x.apart is in
+      i.rooted i.many tall did.was did.is did.done.1 x.apart is in
       let some_now : 1 ≤ t.height + 1 = omega arith in (
         sym (ap not did.done.0),
-        whole_again size new (t.height + 1) (t.records + 1)
-            (put r rs) grown.is some_now grown.subtree grown.moves x.apart x.balance (more_records r rs t.records w.number),
+        whole_again new
+            grown.is some_now grown.subtree grown.moves x.apart x.balance (more_records r rs t.records w.number),
       )
 
   pub whole_first : t.height ≡ 0 → leaf_of bytes ≡ Some (r ∷ []) → (1 ≤ new) × (new < size) → free new ≡ true → FreesOnly new false free now
@@ -376,7 +385,7 @@ module _ (r : Record) (told now_told : Option (List (List ℕ))) (free now : ℕ
       let moves = moves_then (moves_taken pages free now [] new was_free taken)
       (moves_written pages now (new ∷ []) new bytes (used_account now (new ∷ []) new here)) in (
         sym (ap (λ l. not (list_any (has_key r.key) l)) no_rs),
-        whole_again size new 1 1 (put r rs) (written.1 ∙ ap Some written.2) one
+        whole_again new (written.1 ∙ ap Some written.2) one
             (subst (λ l. Subtree news 1 true (new, everywhere) (put r l) (new ∷ [])) (sym no_rs)
             (record { page = ap leaf_of (get_or-set_same pages new bytes [] inside) ∙ leaf; enough = refl; within = refl; is_used = refl }))
             moves apart balance (ap (λ l. length (put r l)) no_rs),

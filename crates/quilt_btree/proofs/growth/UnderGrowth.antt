@@ -29,7 +29,8 @@ use Rattle.quilt_btree.proofs.subtrees.Density.{few_children}
 use Rattle.quilt_btree.proofs.subtrees.Descents.{child_bounds}
 use Rattle.quilt_btree.proofs.lists.Lists.{put_between, any_between}
 use Rattle.quilt_btree.proofs.stores.Moves.{apart_then, moves_then}
-use Rattle.quilt_btree.proofs.growth.NewChild.{two_places, bounded_next, bounds_part, is_fitting}
+use Rattle.quilt_btree.proofs.growth.NewChild.{two_places, bounded_next, is_fitting}
+use Rattle.quilt_btree.proofs.rows.NewKeys.{strictly_above}
 use Rattle.quilt_btree.proofs.rows.Places.{front, from_keys, tail_places, row_one}
 use Rattle.quilt_btree.proofs.lists.Rising.{all_append}
 use Rattle.quilt_btree.proofs.rows.Splices.{RowMoved, middle_moved, parent_stays, becomes_then}
@@ -55,7 +56,7 @@ module _ (told then_told : Option (List (List ℕ))) (free then_free : ℕ → B
   -- what is around that child
   pub insert_below : IsBelow told free page height is_root b k rs used inner i
   insert_below =
-      go_below told free page height is_root b k rs used inner i l.some l.above l.reads l.place can.can_edit
+      go_below told free page height is_root b k inner i l.some l.above l.reads l.place can.can_edit
 
   pub child_can : (x : IsBelow told free page height is_root b k rs used inner i)
       → CanInsert then_told then_free then_size child (height - 1) false (child_bounds inner b i) k x.at.here x.at.here_used
@@ -135,10 +136,10 @@ module _ (r : Record) (told then_told now_told : Option (List (List ℕ))) (free
       let before = front (take i inner.children) (take i inner.keys) b in
       let behind = tail_places (drop (suc i) inner.children) (drop i inner.keys) (from_keys (take i inner.keys) b) in
       let middle : List (ℕ × Bounds) = (c, child_bounds inner b i) ∷ [] in
-      let moved = middle_moved x.pages did.news free now x.below page before middle behind middle rs x.under all grown.uses x.apart x.at
+      let moved = middle_moved x.pages did.news x.below page middle all x.apart x.at
       (row_one (Subtree did.news (suc x.below) false) (c, child_bounds inner b i) all grown.uses grown.subtree) grown.moves in
-      let becomes = parent_stays x.pages did.news free now x.below page is_root b inner x.under
-      (x.at.first ++ (all ++ x.at.last)) x.page_is x.inner_height x.enough x.within
+      let becomes = parent_stays x.pages did.news
+      x.page_is x.inner_height x.enough x.within
       (subst (λ (cs : List (ℕ × Bounds)). RowMoved x.pages did.news free now x.below page cs (x.at.first ++ (all ++ x.at.last)) x.under)
       (sym (cut_at_child inner b i x.in_range x.list.keys)) moved) in
       record {
@@ -181,36 +182,13 @@ pub record IsToTake (r : Record) (told now_told : Option (List (List ℕ))) (fre
   pub moves : KeepsAccount pages news free now used (under ++ page ∷ [])
   pub tall : inner.height ≡ height
 
-has_put : (r : Record) {pages mid : List (List ℕ)} (news : List (List ℕ)) {free between : ℕ → Bool} (now : ℕ → Bool) (page height : ℕ)
-    (is_root : Bool) (b : Bounds) (rs : List Record) {used more : List ℕ} (o : Inserted) → list_any (has_key r.key) rs ≡ false
-    → KeepsAccount pages mid free between used more → HasPut mid news between now page height is_root b more (put r rs) o
-    → HasInserted r pages news free now page height is_root b rs used o
-has_put r news now page height is_root b rs inserted.There none m h = absurd h
-has_put r news now page height is_root b rs inserted.Done none m h =
-    (none, becomes_then m h)
-has_put r news now page height is_root b rs (inserted.Split key right) none m h = (
-  none,
-  record {
-    first = h.first;
-    rest = h.rest;
-    first_uses = h.first_uses;
-    rest_uses = h.rest_uses;
-    is_left = h.is_left;
-    is_right = h.is_right;
-    records = h.records;
-    low = h.low;
-    high = h.high;
-    moves = moves_then m h.moves;
-  },
-)
-
 -- a page of height 3 has a place for another child
 few_under : {told : Option (List (List ℕ))} {free : ℕ → Bool} {size page height : ℕ} {is_root : Bool} {b : Bounds} {k : Key} {rs : List Record}
     {used : List ℕ} (inner : Inner) → ReadsInner told page inner → CanInsert told free size page height is_root b k rs used → AreFew rs → height ≡ 3
     → length inner.children < 254
 few_under {page = page} {is_root = is_root} {b = b} {rs = rs} {used = used} inner reads can few three =
     let e = can.can_edit in
-    few_children e.pages is_root (page, b) rs used inner (subst (λ h. Subtree e.pages h is_root (page, b) rs used) three e.subtree)
+    few_children e.pages (page, b) inner (subst (λ h. Subtree e.pages h is_root (page, b) rs used) three e.subtree)
     (reads e.pages e.is_told) few
 
 module _ (r : Record) (told then_told : Option (List (List ℕ))) (free then_free : ℕ → Bool) (size then_size page height child i : ℕ) (inner : Inner)
@@ -243,12 +221,12 @@ module _ (r : Record) (told then_told : Option (List (List ℕ))) (free then_fre
         records = separated.records;
         is_used = refl;
       } in
-      let moved = middle_moved x.pages did.news free now x.below page before ((c, cb) ∷ []) behind places rs x.under all
-      (separated.rest_uses ++ separated.first_uses) x.apart x.at row separated.moves in
+      let moved = middle_moved x.pages did.news x.below page places all
+      x.apart x.at row separated.moves in
       let next = subst (λ (cs : List (ℕ × Bounds)). RowMoved x.pages did.news free now x.below page cs (x.at.first ++ (all ++ x.at.last)) x.under)
       (sym (bounded_next inner b i key right x.in_range x.list.keys)) moved in
       let fitting = is_fitting inner b i key x.list.ascends x.within
-      (λ low e. bounds_part did.news (suc x.below) false c low key cb.low separated.first separated.first_uses e separated.is_left)
+      (strictly_above did.news (suc x.below) c cb.low key separated.first separated.first_uses separated.is_left)
       separated.low separated.high in
       let long : length did.news ≡ size = moved.moves.size ∙ if_some_at (λ pages. length pages ≡ size) told x.pages many x.is_told in
       let children_more : length (insert inner.children (suc i) right) ≡ length inner.children + 1 =
@@ -310,10 +288,31 @@ module _ (r : Record) (told then_told : Option (List (List ℕ))) (free then_fre
         news = did.news;
         was = x.was;
         is = did.is;
-        done = has_put r did.news now page height is_root b rs o x.not_there x.moves
+        done = has_put is_root b rs did.news o x.not_there x.moves
             (subst (λ p. HasPut p did.news mid now page height is_root b (x.under ++ page ∷ []) (put r rs) o) same
             (subst (λ n. HasPut did.pages did.news mid now page n is_root b (x.under ++ page ∷ []) (put r rs) o) x.tall did.done));
       }
+    where
+      has_put : (is_root : Bool) (b : Bounds) (rs : List Record) {pages mids : List (List ℕ)} (news : List (List ℕ)) {used more : List ℕ} (o : Inserted)
+          → list_any (has_key r.key) rs ≡ false → KeepsAccount pages mids free mid used more
+          → HasPut mids news mid now page height is_root b more (put r rs) o → HasInserted r pages news free now page height is_root b rs used o
+      has_put is_root b rs news inserted.There none m h = absurd h
+      has_put is_root b rs news inserted.Done none m h = (none, becomes_then m h)
+      has_put is_root b rs news (inserted.Split key right) none m h = (
+        none,
+        record {
+          first = h.first;
+          rest = h.rest;
+          first_uses = h.first_uses;
+          rest_uses = h.rest_uses;
+          is_left = h.is_left;
+          is_right = h.is_right;
+          records = h.records;
+          low = h.low;
+          high = h.high;
+          moves = moves_then m h.moves;
+        },
+      )
 
   -- where the page does not take it, no page is damaged
   pub sound_child : (result : Result Inserted Stop) (mid_told : Option (List (List ℕ))) (mid : ℕ → Bool) (mid_size : ℕ) → mid_size ≡ size
@@ -337,13 +336,13 @@ module _ (r : Record) (told then_told : Option (List (List ℕ))) (free then_fre
       left c d h some e f = omega arith
 
 -- an error of the child
-pub sound_under : (e : Stop) {told : Option (List (List ℕ))} (then_told : Option (List (List ℕ))) {free : ℕ → Bool} (then_free : ℕ → Bool) {size : ℕ}
-    (then_size : ℕ) {page height : ℕ} (child i : ℕ) {k : Key} (inner : Inner) {is_root : Bool} {b : Bounds} {rs : List Record} {used : List ℕ}
+pub sound_under : (e : Stop) {told : Option (List (List ℕ))} {then_told : Option (List (List ℕ))} {free : ℕ → Bool} {then_free : ℕ → Bool} {size : ℕ}
+    {then_size : ℕ} {page height : ℕ} {child i : ℕ} {k : Key} {inner : Inner} {is_root : Bool} {b : Bounds} {rs : List Record} {used : List ℕ}
     → LeadsToChild told then_told free then_free size then_size page height child i k inner
     → ((is_root : Bool) (b : Bounds) (rs : List Record) (used : List ℕ) → CanInsert then_told then_free then_size child (height - 1) is_root b k rs used → AreFew rs
     → IsNotDamage e)
     → CanInsert told free size page height is_root b k rs used → AreFew rs → IsNotDamage e
-sound_under e {told = told} then_told {free = free} then_free {size = size} then_size {page = page} {height = height} child i {k = k} inner {is_root = is_root} {b = b} {rs = rs} {used = used} l f can few =
+sound_under e {told = told} {then_told} {free = free} {then_free} {size = size} {then_size} {page = page} {height = height} {child} {i} {k = k} {inner} {is_root = is_root} {b = b} {rs = rs} {used = used} l f can few =
     let x = insert_below told then_told free then_free size then_size page height child i k inner is_root b rs used l can in
     f false (child_bounds inner b i) x.at.here x.at.here_used
     (child_can told then_told free then_free size then_size page height child i k inner is_root b rs used l can x)

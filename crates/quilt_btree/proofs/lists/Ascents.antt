@@ -39,11 +39,11 @@ keys_length [] = refl
 keys_length (r ∷ rs) = ap suc (keys_length rs)
 
 -- records of two leaves
-pub leaves_test : (l r : List Record) (x y : Record) (i : ℕ) → i ≡ length l - 1 → slice_get l i ≡ Some x → slice_get r 0 ≡ Some y
+pub leaves_test : (l r : List Record) {x y : Record} {i : ℕ} → i ≡ length l - 1 → slice_get l i ≡ Some x → slice_get r 0 ≡ Some y
     → is_ascending (keys_of l) ≡ true → is_ascending (keys_of r) ≡ true
     → is_lt (key_cmp x.key y.key) ≡ is_ascending (keys_of (l ++ r))
-leaves_test l [] x y i n h g a b = cc
-leaves_test l (z ∷ r) x y i n h g a b =
+leaves_test l [] n h g a b = cc
+leaves_test l (z ∷ r) {x} {y} {i} n h g a b =
     let same : z ≡ y = cc in
     let last : slice_get (keys_of l) (length (keys_of l) - 1) ≡ Some x.key =
     subst (λ m. slice_get (keys_of l) m ≡ Some x.key) (n ∙ ap (λ m. m - 1) (sym (keys_length l))) (key_at_place l i x h) in
@@ -52,11 +52,11 @@ leaves_test l (z ∷ r) x y i n h g a b =
     ∙ ap (λ (t : Record). is_lt (key_cmp x.key t.key)) same)
 
 -- keys of two inner pages with one between
-pub inners_test : (l r : List Key) (k x y : Key) → slice_get l (length l - 1) ≡ Some x → slice_get r 0 ≡ Some y → is_ascending l ≡ true
+pub inners_test : (l r : List Key) (k : Key) {x y : Key} → slice_get l (length l - 1) ≡ Some x → slice_get r 0 ≡ Some y → is_ascending l ≡ true
     → is_ascending r ≡ true
     → is_ascending (l ++ k ∷ r) ≡ (is_lt (key_cmp x k) && is_lt (key_cmp k y))
-inners_test l [] k x y h g a b = cc
-inners_test l (z ∷ r) k x y h g a b =
+inners_test l [] k h g a b = cc
+inners_test l (z ∷ r) k {x} {y} h g a b =
     let same : z ≡ y = cc in
     ascending_cat l (z ∷ r) x k h a
     ∙ ap (λ c. is_lt (key_cmp x k) && c) (true_end (is_lt (key_cmp k z)) (is_ascending (z ∷ r)) b ∙ ap (λ t. is_lt (key_cmp k t)) same)

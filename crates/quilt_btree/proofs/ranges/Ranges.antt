@@ -15,7 +15,7 @@ use Rattle.quilt_node.specs.Tree.{is_below}
 use Rattle.quilt_btree.specs.Trees.{LeadsToLeaf, IsAsFar, is_past}
 use Rattle.quilt_record.proofs.Orders.{lt_le, le_le, lt_to_le, not_le}
 use Rattle.quilt_btree.proofs.lists.Rising.{all_follow, all_append}
-use Rattle.quilt_btree.proofs.lists.Lists.{AreBelow, filter_all, filter_none, filter_cond, gt_not_le}
+use Rattle.quilt_btree.proofs.lists.Lists.{AreBelow, filter_none, filter_cond, gt_not_le}
 
 pub take_next : {X : Type 0} (xs : List X) (i : ℕ) (x : X) → slice_get xs i ≡ Some x → take (i + 1) xs ≡ take i xs ++ x ∷ []
 take_next xs i x h = ap (λ n. take n xs) (add-one i) ∙ next xs i x h
@@ -74,26 +74,37 @@ full_list p n i old items leaf is full =
     is ∙ sym (ap (take n) (ap (λ l. old ++ l) whole ∙ sym (append_assoc old (filter p (take i leaf)) (filter p (drop i leaf))))
     ∙ take_full n (old ++ filter p (take i leaf)) (filter p (drop i leaf)) (subst (λ l. length l ≡ n) is full))
 
--- two cuts of a list at one key are the same
-pub same_cut : (k : Key) (rs a b c d : List Record) → rs ≡ a ++ b → rs ≡ c ++ d → AreBelow k a
-    → list_all (λ (r : Record). is_le (key_cmp k r.key)) b ≡ true → AreBelow k c → list_all (λ (r : Record). is_le (key_cmp k r.key)) d ≡ true → a ≡ c
-same_cut k rs a b c d e f la hb lc hd = sym (cut k rs a b e la hb) ∙ cut k rs c d f lc hd
-  where
-    not_lt : (k l : Key) → is_le (key_cmp k l) ≡ true → is_lt (key_cmp l k) ≡ false
-    not_lt k l h = false_of (is_lt (key_cmp l k)) (is_le (key_cmp k l)) (λ g. gt_not_le l k g) h
-      where
-        false_of : (x y : Bool) → (x ≡ true → y ≡ false) → y ≡ true → x ≡ false
-        false_of true y f h = let g = f refl in cc
-        false_of false y f h = refl
+-- a key stands between the records of two lists
+abbrev pub StandsBetween : Key → List Record → List Record → Type 0
+StandsBetween k before behind = AreBelow k before × (list_all (λ (r : Record). is_le (key_cmp k r.key)) behind ≡ true)
 
-    cut : (k : Key) (rs a b : List Record) → rs ≡ a ++ b → AreBelow k a → list_all (λ (r : Record). is_le (key_cmp k r.key)) b ≡ true
-        → filter (λ (r : Record). is_lt (key_cmp r.key k)) rs ≡ a
-    cut k rs a b e la hb =
-        ap (filter (λ (r : Record). is_lt (key_cmp r.key k))) e ∙ filter-append (λ (r : Record). is_lt (key_cmp r.key k)) a b
-        ∙ ap (λ l. l ++ filter (λ (r : Record). is_lt (key_cmp r.key k)) b) (filter_all (λ (r : Record). is_lt (key_cmp r.key k)) a la)
-        ∙ ap (λ l. a ++ l) (filter_none (λ (r : Record). is_lt (key_cmp r.key k)) b
-        (all_follow (λ (r : Record). is_le (key_cmp k r.key)) (λ r. not (is_lt (key_cmp r.key k))) (λ r h. ap not (not_lt k r.key h)) b hb))
-        ∙ append-nil a
+pub no_both : (a b : Key) → is_lt (key_cmp a b) ≡ true → is_le (key_cmp b a) ≡ true → ⊥
+no_both a b h g = no (is_le (key_cmp b a)) g (gt_not_le a b h)
+  where
+    no : (c : Bool) → c ≡ true → c ≡ false → ⊥
+    no true h g = cc
+    no false h g = cc
+
+-- a key parts a list at one place
+pub parts_same : (k : Key) (xs ys us vs : List Record) → xs ++ ys ≡ us ++ vs → StandsBetween k xs ys → StandsBetween k us vs → (xs ≡ us) × (ys ≡ vs)
+parts_same k [] ys [] vs e p q = (refl, e)
+parts_same k [] [] (u ∷ us) vs e p q = cc
+parts_same k [] (y ∷ ys) (u ∷ us) vs e p q =
+    let same : y ≡ u = cc in
+    absurd (no_both u.key k (and_parts (is_lt (key_cmp u.key k)) (list_all (λ (r : Record). is_lt (key_cmp r.key k)) us) q.0).0
+    (subst (λ (r : Record). is_le (key_cmp k r.key) ≡ true) same (and_parts (is_le (key_cmp k y.key)) (list_all (λ (r : Record). is_le (key_cmp k r.key)) ys) p.1).0))
+parts_same k (x ∷ xs) ys [] [] e p q = cc
+parts_same k (x ∷ xs) ys [] (v ∷ vs) e p q =
+    let same : v ≡ x = cc in
+    absurd (no_both x.key k (and_parts (is_lt (key_cmp x.key k)) (list_all (λ (r : Record). is_lt (key_cmp r.key k)) xs) p.0).0
+    (subst (λ (r : Record). is_le (key_cmp k r.key) ≡ true) same (and_parts (is_le (key_cmp k v.key)) (list_all (λ (r : Record). is_le (key_cmp k r.key)) vs) q.1).0))
+parts_same k (x ∷ xs) ys (u ∷ us) vs e p q =
+    let same : x ≡ u = cc in
+    let tails : xs ++ ys ≡ us ++ vs = cc in
+    let h = parts_same k xs ys us vs tails
+    ((and_parts (is_lt (key_cmp x.key k)) (list_all (λ (r : Record). is_lt (key_cmp r.key k)) xs) p.0).1, p.1)
+    ((and_parts (is_lt (key_cmp u.key k)) (list_all (λ (r : Record). is_lt (key_cmp r.key k)) us) q.0).1, q.1) in
+    (cc, h.1)
 
 filter_same : (p q t : Record → Bool) → ((r : Record) → t r ≡ true → p r ≡ q r) → (rs : List Record) → list_all t rs ≡ true
     → filter p rs ≡ filter q rs
@@ -137,8 +148,8 @@ module _ (low from high : Key) (most : ℕ) (rs leaf new : List Record) (start :
       → new ≡ take most (old ++ filter (is_from_to from high) leaf) → new ≡ range_of low high most (l.before ++ leaf)
   unfolding range_of
   range_more old up l starts le far is =
-      let same = same_cut from rs far.done far.rest l.before (leaf ++ l.behind) far.records l.records far.lower far.from_here l.lower
-      (all_from from rs leaf start up l starts) in
+      let same = (parts_same from far.done far.rest l.before (leaf ++ l.behind) (sym far.records ∙ l.records) (far.lower, far.from_here)
+      (l.lower, all_from from rs leaf start up l starts)).0 in
       let P = is_from_to low high in
       is ∙ ap (λ x. take most (x ++ filter (is_from_to from high) leaf)) (far.items_are ∙ ap (λ d. take most (filter P d)) same)
       ∙ take_again most (filter P l.before) (filter (is_from_to from high) leaf)
@@ -203,17 +214,22 @@ below_most n xs items e ne =
     let m : length items ≡ min n (length xs) = ap length e ∙ length-take n xs in
     omega arith
 
--- a leaf from one key on and below another adds to the list where there is room
-pub adds_some : (from high next : Key) (n : ℕ) (old new leaf : List Record) → new ≡ take n (old ++ filter (is_from_to from high) leaf)
-    → 1 ≤ length leaf → list_all (λ (r : Record). is_le (key_cmp from r.key)) leaf ≡ true
-    → list_all (λ (r : Record). is_lt (key_cmp r.key next)) leaf ≡ true → is_le (key_cmp next high) ≡ true → length old ≤ n → (length new ≡ n → ⊥)
-    → length new ≡ length old → ⊥
-adds_some from high next n old new [] e some starts ends le room ne same = omega arith
-adds_some from high next n old new (r ∷ leaf) e some starts ends le room ne same =
-    let a = (and_parts (is_le (key_cmp from r.key)) (list_all (λ (s : Record). is_le (key_cmp from s.key)) leaf) starts).0 in
-    let b = (and_parts (is_lt (key_cmp r.key next)) (list_all (λ (s : Record). is_lt (key_cmp s.key next)) leaf) ends).0 in
+-- a leaf of some records lies from one key on and below another, which is at most a third
+pub record LiesBetween (from next high : Key) (leaf : List Record) : Type 0 where
+  pub some : 1 ≤ length leaf
+  pub starts : list_all (λ (r : Record). is_le (key_cmp from r.key)) leaf ≡ true
+  pub ends : list_all (λ (r : Record). is_lt (key_cmp r.key next)) leaf ≡ true
+  pub in_range : is_le (key_cmp next high) ≡ true
+
+-- so it adds to the list where there is room
+pub adds_some : {from high next : Key} (n : ℕ) {new : List Record} (old leaf : List Record) → LiesBetween from next high leaf
+    → new ≡ take n (old ++ filter (is_from_to from high) leaf) → length old ≤ n → (length new ≡ n → ⊥) → length new ≡ length old → ⊥
+adds_some n old [] l e room ne same = let some = l.some in omega arith
+adds_some {from} {high} {next} n {new} old (r ∷ leaf) l e room ne same =
+    let a = (and_parts (is_le (key_cmp from r.key)) (list_all (λ (s : Record). is_le (key_cmp from s.key)) leaf) l.starts).0 in
+    let b = (and_parts (is_lt (key_cmp r.key next)) (list_all (λ (s : Record). is_lt (key_cmp s.key next)) leaf) l.ends).0 in
     let passes : is_from_to from high r ≡ true =
-    and_from (is_le (key_cmp from r.key)) (is_le (key_cmp r.key high)) a (lt_to_le (key_cmp r.key high) (lt_le r.key next high b le)) in
+    and_from (is_le (key_cmp from r.key)) (is_le (key_cmp r.key high)) a (lt_to_le (key_cmp r.key high) (lt_le r.key next high b l.in_range)) in
     let more : filter (is_from_to from high) (r ∷ leaf) ≡ r ∷ filter (is_from_to from high) leaf =
     filter_cond (is_from_to from high) r (filter (is_from_to from high) leaf) (filter (is_from_to from high) leaf) true passes in
     let m : length new ≡ min n (length (old ++ r ∷ filter (is_from_to from high) leaf)) =

@@ -34,14 +34,14 @@ module _ (told : Option (List (List ℕ))) (t : Tree) (from high : Key) where
   leaf_added most leaf old new rs up c s = c.added ∙ ap (λ l. take most (old ++ l)) (c.same rs s)
 
   -- each leaf but the first adds a record, where the range goes on
-  pub rest_adds : (next : Key) (most : ℕ) (leaf old new rs : List Record) (up : Option Key) (c : CameTo told t from high most leaf old new up)
-      (is : IsTree told t rs) (pages : List (List ℕ)) → told ≡ Some pages → Divides pages t.height t.root from → up ≡ Some next
-      → is_le (key_cmp next high) ≡ true → 1 ≤ length leaf → length old ≤ most → (length new ≡ most → ⊥) → length new ≡ length old → ⊥
-  rest_adds next most leaf old new rs up c is pages is_told d e le some room ne same =
+  pub rest_adds : {low next : Key} {most : ℕ} {leaf old new rs : List Record} {up : Option Key} → CameTo told t from high most leaf old new up
+      → IsTree told t rs → Before told t low high most from rs old → (up ≡ Some next) × (is_le (key_cmp next high) ≡ true) → 1 ≤ length leaf
+      → length old ≤ most → (length new ≡ most → ⊥) → length new ≡ length old → ⊥
+  rest_adds {most} {leaf} {old} {new} {rs} {up} c is b on some room ne same =
       let s = tree_spells told t rs c.some is in
-      let l = subst (λ o. LeadsToLeaf from rs leaf None o) e (c.leads rs s.0 s.1) in
-      adds_some from high next most old new leaf (leaf_added most leaf old new rs up c s.0) some
-      (c.cut.starts pages rs is_told s.0 s.1 d) l.here_under le room ne same
+      let l = subst (λ o. LeadsToLeaf from rs leaf None o) on.0 (c.leads rs s.0 s.1) in
+      adds_some most old leaf (record { some = some; starts = c.cut.starts b.0 rs b.1 s.0 s.1 b.2; ends = l.here_under; in_range = on.1 })
+      (leaf_added most leaf old new rs up c s.0) room ne same
 
 module _ (told : Option (List (List ℕ))) (t : Tree) (low from high : Key) (most : ℕ) (leaf old new rs : List Record) (up : Option Key)
     (c : CameTo told t from high most leaf old new up) (is : IsTree told t rs) (b : Before told t low high most from rs old) where
@@ -72,10 +72,10 @@ later low from next h g = lt_to_le (key_cmp low next) (le_lt low from next h g)
 
 module _ (told : Option (List (List ℕ))) (t : Tree) (low : Key) where
   -- and it goes on from the next key
-  pub rest_goes_on : (from high next : Key) (most : ℕ) (leaf old new rs : List Record) (up : Option Key)
+  pub rest_goes_on : {from high next : Key} {most : ℕ} {leaf old new rs : List Record} {up : Option Key}
       (c : CameTo told t from high most leaf old new up) (is : IsTree told t rs) (l : LeadsToLeaf from rs leaf None up)
       → new ≡ range_of low high most (l.before ++ leaf) → is_le (key_cmp low from) ≡ true → up ≡ Some next → Before told t low high most next rs new
-  rest_goes_on from high next most leaf old new rs up c is l so_far le e =
+  rest_goes_on {from} {high} {next} {most} {leaf} {new} {rs} {up} c is l so_far le e =
       let s = tree_spells told t rs c.some is in
       let on = subst (λ o. (l : LeadsToLeaf from rs leaf None o) × (new ≡ range_of low high most (l.before ++ leaf))) e (l, so_far) in (
         is.pages,
@@ -104,18 +104,18 @@ module _ (told : Option (List (List ℕ))) (t : Tree) (low high : Key) where
   first_fills most leaf new rs up c is full =
       let l = first_so_far told t low high most leaf new rs up c is in range_fills low low high most rs leaf new None up l.0 full l.1
 
-  pub first_goes_on : (next : Key) (most : ℕ) (leaf new rs : List Record) (up : Option Key) (c : CameTo told t low high most leaf [] new up)
+  pub first_goes_on : {next : Key} {most : ℕ} {leaf new rs : List Record} {up : Option Key} (c : CameTo told t low high most leaf [] new up)
       (is : IsTree told t rs) → up ≡ Some next → Before told t low high most next rs new
-  first_goes_on next most leaf new rs up c is e =
+  first_goes_on {most} {leaf} {new} {rs} {up} c is e =
       let l = first_so_far told t low high most leaf new rs up c is in
-      rest_goes_on told t low low high next most leaf [] new rs up c is l.0 l.1 (same_le low) e
+      rest_goes_on told t low c is l.0 l.1 (same_le low) e
 
-pub rest_next : {told : Option (List (List ℕ))} {t : Tree} (low from high : Key) {next : Key} (most : ℕ) (leaf old new : List Record)
+pub rest_next : {told : Option (List (List ℕ))} {t : Tree} (low : Key) {from high : Key} {next : Key} {most : ℕ} {leaf old new : List Record}
     {rs : List Record} {up : Option Key} (c : CameTo told t from high most leaf old new up) (is : IsTree told t rs)
     → Before told t low high most from rs old → up ≡ Some next → Before told t low high most next rs new
-rest_next {told = told} {t = t} low from high {next = next} most leaf old new {rs = rs} {up = up} c is b e =
+rest_next {told = told} {t = t} low {from} {high} {next = next} {most} {leaf} {old} {new} {rs = rs} {up = up} c is b e =
     let l = rest_so_far told t low from high most leaf old new rs up c is b in
-    rest_goes_on told t low from high next most leaf old new rs up c is l.0 l.1 b.3 e
+    rest_goes_on told t low c is l.0 l.1 b.3 e
 
 pub from_not_err : {T E P : Type 0} (r : Result T E) (b : Bool) → b ≡ is_err r → b ≡ false → OnOk r P → P
 from_not_err (Ok x) b e f p = p
@@ -144,43 +144,59 @@ pub none_is : (o : Option Key) → ((k : Key) → o ≡ Some k → ⊥) → o �
 none_is None f = refl
 none_is (Some k) f = absurd (f k refl)
 
+-- what the list is before one key makes it what it is before another
+abbrev pub GoesAsFar : Option (List (List ℕ)) → Tree → Key → ℕ → Key → List Record → Key → List Record → Type 0
+GoesAsFar told t high most from old next new =
+    (low : Key) (rs : List Record) → IsTree told t rs → Before told t low high most from rs old → Before told t low high most next rs new
+
+-- what the list is before a key makes it the whole range
+abbrev pub GoesToEnd : Option (List (List ℕ)) → Tree → Key → ℕ → Key → List Record → List Record → Type 0
+GoesToEnd told t high most from old new =
+    (low : Key) (rs : List Record) → IsTree told t rs → Before told t low high most from rs old → new ≡ range_of low high most rs
+
+-- an end is no damage, where the list is what it is to be before a key
+abbrev pub StopsSound : Option (List (List ℕ)) → Tree → Key → ℕ → Key → List Record → Stop → Type 0
+StopsSound told t high most from old e =
+    (low : Key) (rs : List Record) → IsTree told t rs → Before told t low high most from rs old → IsNotDamage e
+
 -- one leaf after those so far, of which the first is the one at `start`
-pub loop_goes_on : {o : Option Key} {told now : Option (List (List ℕ))} (t : Tree) (high start from : Key) {next : Key} (most : ℕ)
-    (first old new : List Record) → now ≡ told → o ≡ Some next
-    → ((low : Key) (rs : List Record) → IsTree told t rs → Before told t low high most start rs first → Before told t low high most from rs old)
-    → IfSome o (λ k. (low : Key) (rs : List Record) → IsTree now t rs → Before now t low high most from rs old → Before now t low high most k rs new)
-    → (low : Key) (rs : List Record) → IsTree told t rs → Before told t low high most start rs first → Before told t low high most next rs new
-loop_goes_on {o = None} t high start from most first old new same is s f = cc
-loop_goes_on {o = (Some k)} {told = told} {now = now} t high start from {next = next} most first old new same is s f = λ low rs tree b.
+pub loop_goes_on : {o : Option Key} {told now : Option (List (List ℕ))} {t : Tree} {high start from next : Key} {most : ℕ} {first old : List Record}
+    (new : List Record) → now ≡ told → o ≡ Some next → GoesAsFar told t high most start first from old
+    → IfSome o (λ k. GoesAsFar now t high most from old k new) → GoesAsFar told t high most start first next new
+loop_goes_on {o = None} new same is s f = cc
+loop_goes_on {o = (Some k)} {told} {now} {t} {high} {from = from} {next = next} {most} {old = old} new same is s f = λ low rs tree b.
     let e : k ≡ next = cc in
     subst (λ n. Before told t low high most n rs new) e
     (along_before now told t low high most k rs new (sym same)
     (f low rs (along_tree told now t rs same tree) (along_before told now t low high most from rs old same (s low rs tree b))))
 
-pub loop_ends : {o : Option Key} {told now : Option (List (List ℕ))} (t : Tree) (high start from : Key) (most : ℕ) (first old new : List Record)
-    → now ≡ told → o ≡ None
-    → ((low : Key) (rs : List Record) → IsTree told t rs → Before told t low high most start rs first → Before told t low high most from rs old)
-    → (o ≡ None → (low : Key) (rs : List Record) → IsTree now t rs → Before now t low high most from rs old → new ≡ range_of low high most rs)
-    → (low : Key) (rs : List Record) → IsTree told t rs → Before told t low high most start rs first → new ≡ range_of low high most rs
-loop_ends {told = told} {now = now} t high start from most first old new same is s f = λ low rs tree b.
+pub loop_ends : {o : Option Key} {told now : Option (List (List ℕ))} {t : Tree} {high start from : Key} {most : ℕ} {first old : List Record}
+    (new : List Record) → now ≡ told → o ≡ None → GoesAsFar told t high most start first from old → (o ≡ None → GoesToEnd now t high most from old new)
+    → GoesToEnd told t high most start first new
+loop_ends {told = told} {now = now} {t} {high} {from = from} {most} {old = old} new same is s f = λ low rs tree b.
     f is low rs (along_tree told now t rs same tree) (along_before told now t low high most from rs old same (s low rs tree b))
 
-pub loop_sound : (e : Stop) (told now : Option (List (List ℕ))) (t : Tree) (high start from : Key) (most : ℕ) (first old : List Record) → now ≡ told
-    → ((low : Key) (rs : List Record) → IsTree told t rs → Before told t low high most start rs first → Before told t low high most from rs old)
-    → ((low : Key) (rs : List Record) → IsTree now t rs → Before now t low high most from rs old → IsNotDamage e)
-    → (low : Key) (rs : List Record) → IsTree told t rs → Before told t low high most start rs first → IsNotDamage e
-loop_sound e told now t high start from most first old same s f = λ low rs tree b.
+pub loop_sound : (e : Stop) {told now : Option (List (List ℕ))} {t : Tree} {high start from : Key} {most : ℕ} {first old : List Record} → now ≡ told
+    → GoesAsFar told t high most start first from old → StopsSound now t high most from old e → StopsSound told t high most start first e
+loop_sound e {told} {now} {t} {high} {from = from} {most} {old = old} same s f = λ low rs tree b.
     f low rs (along_tree told now t rs same tree) (along_before told now t low high most from rs old same (s low rs tree b))
 
 -- three reads more, for at least one record more
-pub loop_reads : (a b c : Option ℕ) (first old new : ℕ) → old < new → Goes (λ x y. y + 3 * first ≤ x + 3 * old) a b → Goes (λ x y. y ≤ x + 3) b c
-    → Goes (λ x y. y + 3 * first ≤ x + 3 * new) a c
-loop_reads (Some a) (Some b) (Some c) first old new more f g = omega arith
-loop_reads (Some a) (Some b) None first old new more f g = g
-loop_reads (Some a) None c first old new more f g = absurd f
-loop_reads None (Some b) c first old new more f g = absurd f
-loop_reads None None (Some c) first old new more f g = g
-loop_reads None None None first old new more f g = f
+pub loop_reads : (a b c : Option ℕ) (first old : ℕ) → Goes (λ x y. y + 3 * first ≤ x + 3 * old) a b → Goes (λ x y. y ≤ x + 3) b c
+    → Goes (λ x y. y + 3 * first ≤ x + 3 * (old + 1)) a c
+loop_reads (Some a) (Some b) (Some c) first old f g = omega arith
+loop_reads (Some a) (Some b) None first old f g = g
+loop_reads (Some a) None c first old f g = absurd f
+loop_reads None (Some b) c first old f g = absurd f
+loop_reads None None (Some c) first old f g = g
+loop_reads None None None first old f g = f
+
+pub more_reads : (a b : Option ℕ) (first old new : ℕ) → old < new → Goes (λ x y. y + 3 * first ≤ x + 3 * (old + 1)) a b
+    → Goes (λ x y. y + 3 * first ≤ x + 3 * new) a b
+more_reads (Some a) (Some b) first old new more f = omega arith
+more_reads (Some a) None first old new more f = f
+more_reads None (Some b) first old new more f = f
+more_reads None None first old new more f = f
 
 module _ (told now : Option (List (List ℕ))) (t : Tree) (low high next : Key) (most : ℕ) (leaf new : List Record) where
   pub first_sound : (up : Option Key) (e : Stop) → now ≡ told → CameTo told t low high most leaf [] new up → up ≡ Some next
@@ -188,14 +204,14 @@ module _ (told now : Option (List (List ℕ))) (t : Tree) (low high next : Key) 
       → IsNotDamage e
   first_sound up e same c is f = λ rs tree.
       f low rs (along_tree told now t rs same tree)
-      (along_before told now t low high most next rs new same (first_goes_on told t low high next most leaf new rs up c tree is))
+      (along_before told now t low high most next rs new same (first_goes_on told t low high c tree is))
 
   pub first_result : (last : List Record) (up : Option Key) → now ≡ told → CameTo told t low high most leaf [] new up → up ≡ Some next
       → ((l : Key) (rs : List Record) → IsTree now t rs → Before now t l high most next rs new → last ≡ range_of l high most rs) → (rs : List Record)
       → IsTree told t rs → last ≡ range_of low high most rs
   first_result last up same c is f = λ rs tree.
       f low rs (along_tree told now t rs same tree)
-      (along_before told now t low high most next rs new same (first_goes_on told t low high next most leaf new rs up c tree is))
+      (along_before told now t low high most next rs new same (first_goes_on told t low high c tree is))
 
 pub no_range : (told : Option (List (List ℕ))) (t : Tree) (rs : List Record) (low high : Key) (most : ℕ) → t.height ≡ 0 → IsTree told t rs
     → [] ≡ range_of low high most rs

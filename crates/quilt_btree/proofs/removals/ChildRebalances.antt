@@ -19,7 +19,7 @@ use Rattle.quilt_btree.proofs.stores.Moves.{AreApart, apart_then, used_not_free}
 use Rattle.quilt_btree.proofs.rows.Splices.{parent_written, becomes_then}
 use Rattle.quilt_btree.proofs.rows.Places.{front, row_one, one_row}
 use Rattle.quilt_btree.proofs.removals.LeafRemovals.{few_root, not_root, many_enough, one_fewer}
-use Rattle.quilt_btree.proofs.rows.Middles.{rear, gap_bounds, bounded_one, bounded_two, middle_changed, row_two, remove_middle, remove_second, set_middle}
+use Rattle.quilt_btree.proofs.rows.Middles.{rear, gap_bounds, bounded_one, bounded_two, StandsAround, middle_changed, row_two, remove_middle, remove_second, set_middle}
 use Rattle.quilt_btree.proofs.rows.NewKeys.{FitsBetween, fits_between, within_less, strictly_above}
 use Rattle.quilt_btree.proofs.removals.Underfulls.{Neighbours}
 
@@ -66,9 +66,16 @@ module _ (told mid : Option (List (List ℕ))) (free between : ℕ → Bool) (pa
       let m = rebalances n.pages n.is_told d in
       let apart = subst (AreApart free) n.is_used n.apart in
       let S = Subtree m.news (suc below) false in
-      let changed = middle_changed S below page (same_subtree m.news below) (front n.cut.ca n.cut.ka b) ((left, gap) ∷ [])
-      (rear n.cut.cb n.cut.kb b.high) n.first n.here n.last
-      n.first_used n.last_used apart n.is_under n.row_before n.row_behind
+      let beside : StandsAround (Subtree n.pages (suc below) false) free page (front n.cut.ca n.cut.ka b) (rear n.cut.cb n.cut.kb b.high) n.first n.last
+      n.here_used n.under = record {
+        first_used = n.first_used;
+        last_used = n.last_used;
+        row_before = n.row_before;
+        row_behind = n.row_behind;
+        is_under = n.is_under;
+        apart = apart;
+      } in
+      let changed = middle_changed S below (same_subtree m.news below) ((left, gap) ∷ []) n.here beside
       (row_one S (left, gap) n.here m.done.uses m.done.subtree) m.done.moves in
       let kids : remove inner.children (suc j) ≡ n.cut.ca ++ left ∷ n.cut.cb =
       ap (λ x. remove x (suc j)) n.cut.children ∙ remove_second n.cut.ca left right n.cut.cb j (n.cut.before ∙ n.cut.place) in
@@ -127,10 +134,16 @@ module _ (told : Option (List (List ℕ))) (free : ℕ → Bool) (page below : �
           records = m.done.records;
           is_used = refl;
         }) in
-        let changed = middle_changed S below page (same_subtree m.news below) (front n.cut.ca n.cut.ka b)
-        (low ∷ high ∷ [])
-        (rear n.cut.cb n.cut.kb b.high) n.first n.here n.last
-        n.first_used n.last_used apart n.is_under n.row_before n.row_behind two m.done.moves in
+        let beside : StandsAround (Subtree n.pages (suc below) false) free page (front n.cut.ca n.cut.ka b) (rear n.cut.cb n.cut.kb b.high) n.first n.last
+        n.here_used n.under = record {
+          first_used = n.first_used;
+          last_used = n.last_used;
+          row_before = n.row_before;
+          row_behind = n.row_behind;
+          is_under = n.is_under;
+          apart = apart;
+        } in
+        let changed = middle_changed S below (same_subtree m.news below) (low ∷ high ∷ []) n.here beside two m.done.moves in
         let keys = set_is in
         let fits = separated_ascends told mid free between page below inner j left key right is_root b rs used separator n d in
         let row = subst (λ x. Row S x (n.first ++ (n.here ++ n.last)) changed.uses)
@@ -168,7 +181,8 @@ module _ (mid : Option (List (List ℕ))) (free between : ℕ → Bool) (page be
       let w = writes m.news m.is in
       let there : page < length m.news = subst (λ n. page < n) (sym m.moves.size) inside in
       let news = slice_set m.news page w.bytes in
-      let becomes = parent_written m.news between below page r b inner w.bytes m.uses rs there w.inner_is m.is_height enough m.within m.apart m.row in
+      let becomes : Becomes m.news news between between page (suc (suc below)) r b (m.uses ++ page ∷ []) rs =
+      parent_written m.uses there (record { is = w.inner_is; is_height = m.is_height; enough = enough; within = m.within }) m.apart m.row in
       record {
         news = news;
         is = w.is;
@@ -195,13 +209,13 @@ module _ (told mid now_told : Option (List (List ℕ))) (free between now : ℕ 
     (right : ℕ) (is_root : Bool) (b : Bounds) (rs : List Record) (used : List ℕ) where
   -- what is left of the page after a join
   pub left_joined : (o : Removed) → height ≡ suc (suc below) → (n : Neighbours told free page below inner j left key right is_root b rs used)
-      → ChildrenRebalanced mid free between page below n.pages (without_child inner j) b rs used → length inner.children ≡ length inner.keys + 1
-      → j < length inner.keys → page < length n.pages → now ≡ between → HasDropped page inner j mid now_told o
+      → ChildrenRebalanced mid free between page below n.pages (without_child inner j) b rs used
+      → (length inner.children ≡ length inner.keys + 1) × (j < length inner.keys) → page < length n.pages → now ≡ between → HasDropped page inner j mid now_told o
       → DidLeave told now_told free now page height is_root b used rs o
-  left_joined removed.Missing e n m many place inside f d = absurd d
-  left_joined removed.Emptied e n m many place inside f d = absurd d
-  left_joined removed.Done e n m many place inside f d =
-      let there : suc j < length inner.children = omega arith in
+  left_joined removed.Missing e n m counts inside f d = absurd d
+  left_joined removed.Emptied e n m counts inside f d = absurd d
+  left_joined removed.Done e n m counts inside f d =
+      let there : suc j < length inner.children = let many = counts.0 in let place = counts.1 in omega arith in
       let fewer = one_fewer inner.children (suc j) there in
       let enough =
       many_enough is_root 127 (length (remove inner.children (suc j)))
@@ -212,8 +226,8 @@ module _ (told mid now_told : Option (List (List ℕ))) (free between now : ℕ 
     where
       less : (a c : ℕ) → suc a ≡ c → 128 ≤ c → 127 ≤ a
       less a c g h = omega arith
-  left_joined removed.Underfull e n m many place inside f d =
-      let there : suc j < length inner.children = omega arith in
+  left_joined removed.Underfull e n m counts inside f d =
+      let there : suc j < length inner.children = let many = counts.0 in let place = counts.1 in omega arith in
       let fewer = one_fewer inner.children (suc j) there in
       let p = page_rebalanced mid free between page below n.pages (without_child inner j) b rs used now_told now true m d.1 f inside refl in
       let nearly : is_root ≡ false → IsNearlyFull p.news (suc (suc below)) page = λ root i is.
@@ -228,12 +242,12 @@ module _ (told mid now_told : Option (List (List ℕ))) (free between now : ℕ 
 
       less_one : (a c : ℕ) → suc a ≡ c → 127 ≤ c → 126 ≤ a
       less_one a c g h = omega arith
-  left_joined (removed.Only child) e n m many place inside f d =
-      let there : suc j < length inner.children = omega arith in
+  left_joined (removed.Only child) e n m counts inside f d =
+      let there : suc j < length inner.children = let many = counts.0 in let place = counts.1 in omega arith in
       let kids : length (remove inner.children (suc j)) ≡ 1 =
       one (length (remove inner.children (suc j))) (length inner.children) (one_fewer inner.children (suc j) there) d.0 in
       let keys : length (remove inner.keys j) ≡ 0 =
-      none (length (remove inner.keys j)) (length inner.keys) (length inner.children) (one_fewer inner.keys j place) many d.0 in
+      none (length (remove inner.keys j)) (length inner.keys) (length inner.children) (one_fewer inner.keys j counts.1) counts.0 d.0 in
       let only = one_child (remove inner.children (suc j)) (remove inner.keys j) b child kids keys (d.1 ∙ sym (first_stays inner.children j there)) in
       let S = Subtree m.news (suc below) false in
       let root = few_root is_root 127 (length inner.children) n.enough (two_few (length inner.children) d.0) in

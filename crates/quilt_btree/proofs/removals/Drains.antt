@@ -21,7 +21,7 @@ use Rattle.quilt_btree.specs.Edits.{CanEdit}
 use Rattle.quilt_btree.specs.Trees.{is_past}
 use Rattle.quilt_btree.proofs.growth.Below.{IsBelow, go_below}
 use Rattle.quilt_btree.proofs.subtrees.Descending.{head_high}
-use Rattle.quilt_btree.proofs.subtrees.Descents.{child_bounds, keys_behind, tail_past, behind_many}
+use Rattle.quilt_btree.proofs.subtrees.Descents.{child_bounds, keys_behind, tail_past, tail_many}
 use Rattle.quilt_btree.proofs.growth.Fills.{nearer, one_less, below_past}
 use Rattle.quilt_btree.proofs.ways.Leaves.{same_le}
 use Rattle.quilt_btree.proofs.lists.Lists.{IsAmong, filter_cond}
@@ -107,7 +107,7 @@ pub at_run : {told then_told : Option (List (List ℕ))} {free then_free : ℕ �
     → b.high ≡ high → CanEdit told free page height is_root b rs used
     → AtRun told then_told free then_free page height child i k inner next is_root b rs used
 at_run {told = told} {free = free} {page = page} {height = height} {child = child} {i = i} {k = k} {inner = inner} high next {is_root = is_root} {b = b} {rs = rs} {used = used} l is_next top can =
-    let x = go_below told free page height is_root b k rs used inner i l.some l.above l.reads l.place can in
+    let x = go_below told free page height is_root b k inner i l.some l.above l.reads l.place can in
     let ka = take i inner.keys in
     let kb = drop i inner.keys in
     let cb = child_bounds inner b i in
@@ -115,8 +115,9 @@ at_run {told = told} {free = free} {page = page} {height = height} {child = chil
     let rises : Rises S = λ c ss u t. subtree_rises x.pages (suc x.below) false c ss u t in
     let order = keys_behind ka kb b (subst (λ l. is_ascending l ≡ true) (sym (take-append-drop i inner.keys)) x.list.ascends)
     (subst (λ l. are_within b l ≡ true) (sym (take-append-drop i inner.keys)) x.within) in
-    let past : list_all (λ (r : Record). is_past cb.high r.key) x.at.last ≡ true = tail_past S rises (drop (suc i) inner.children) kb
-    (from_keys ka b) x.at.last x.at.last_used (behind_many inner.children inner.keys i x.list.keys) order.ascend order.within x.at.row_behind in
+    let past : list_all (λ (r : Record). is_past cb.high r.key) x.at.last ≡ true = tail_past rises (drop (suc i) inner.children) kb
+    (from_keys ka b) x.at.last x.at.last_used
+    (record { many = tail_many inner.children inner.keys i x.list.keys; ascends = order.ascend; within = order.within }) x.at.row_behind in
     let child_top : cb.high ≡ next =
     head_high inner.keys i (from_keys ka b) ∙ ap (λ o. option_or (slice_get inner.keys i) o) (high_from ka b ∙ top) ∙ sym is_next in
     record {

@@ -16,10 +16,10 @@ module _ (told now_told : Option (List (List ℕ))) (size page : ℕ) where
       let long : length pages ≡ size = subst (λ o. IfSome o (λ l. length l ≡ size)) e many in
       record { bytes = bytes; is = on.1 ∙ ap Some on.2; inner_is = written (length pages) (subst (λ n. are_pages n inner.children ≡ true) (sym long) children) }
 
-  pub dropped_written : (j : ℕ) (inner less : Inner) (bytes : List ℕ) → IfSome told (λ l. length l ≡ size)
+  pub dropped_written : (j : ℕ) (inner : Inner) {less : Inner} (bytes : List ℕ) → IfSome told (λ l. length l ≡ size)
       → Goes (λ old new. new ≡ slice_set old page bytes) told now_told → are_pages size inner.children ≡ true → less ≡ without_child inner j
       → ((n : ℕ) → are_pages n less.children ≡ true → inner_of n bytes ≡ Some less) → WritesInner page (without_child inner j) told now_told
-  dropped_written j inner less bytes many tells children is written =
+  dropped_written j inner {less} bytes many tells children is written =
       subst (λ (i : Inner). WritesInner page i told now_told) is
       (inner_written less bytes many tells
       (subst (λ (i : Inner). are_pages size i.children ≡ true) (sym is) (all_removed (λ c. nat_le 1 c && nat_lt c size) inner.children (suc j) children)) written)

@@ -38,13 +38,16 @@ two_above (suc (suc n)) h = (n, refl)
 pair_count : (p : ℕ) (late early : List ℕ) (left right : ℕ)
     → multiplicity p ((late ++ right ∷ []) ++ (early ++ left ∷ [])) ≡ multiplicity p (late ++ early) + multiplicity p (right ∷ left ∷ [])
 pair_count p late early left right =
-    sums (multiplicity p ((late ++ right ∷ []) ++ (early ++ left ∷ []))) (multiplicity p (late ++ right ∷ [])) (multiplicity p (early ++ left ∷ [])) (multiplicity p late)
-    (multiplicity p (right ∷ [])) (multiplicity p early) (multiplicity p (left ∷ [])) (multiplicity p (late ++ early)) (multiplicity p (right ∷ left ∷ []))
-    (times-append p (late ++ right ∷ []) (early ++ left ∷ [])) (times-append p late (right ∷ [])) (times-append p early (left ∷ []))
+    sums (multiplicity p late) (multiplicity p (right ∷ [])) (multiplicity p early) (multiplicity p (left ∷ []))
+    (parts (multiplicity p late) (multiplicity p (right ∷ [])) (multiplicity p early) (multiplicity p (left ∷ []))
+    (times-append p (late ++ right ∷ []) (early ++ left ∷ [])) (times-append p late (right ∷ [])) (times-append p early (left ∷ [])))
     (times-append p late early) (times-append p (right ∷ []) (left ∷ []))
   where
-    sums : (all x y l r e f m t : ℕ) → all ≡ x + y → x ≡ l + r → y ≡ e + f → m ≡ l + e → t ≡ r + f → all ≡ m + t
-    sums all x y l r e f m t a b c d g = omega arith
+    parts : {all x y : ℕ} (l r e f : ℕ) → all ≡ x + y → x ≡ l + r → y ≡ e + f → all ≡ (l + r) + (e + f)
+    parts l r e f a b c = omega arith
+
+    sums : {all m t : ℕ} (l r e f : ℕ) → all ≡ (l + r) + (e + f) → m ≡ l + e → t ≡ r + f → all ≡ m + t
+    sums l r e f a b c = omega arith
 
 -- the two inner pages, as they were read
 pub record AreInners (told : Option (List (List ℕ))) (free : ℕ → Bool) (h left : ℕ) (key : Key) (right : ℕ) (b : Bounds) (rs : List Record)
@@ -57,10 +60,10 @@ pub record AreInners (told : Option (List (List ℕ))) (free : ℕ → Bool) (h 
   pub pair : ArePair left right under used
   pub apart : AreApart free (right ∷ left ∷ [])
 
-pub are_inners : (told : Option (List (List ℕ))) (free : ℕ → Bool) (h left : ℕ) (key : Key) (right : ℕ) (b : Bounds) (rs : List Record)
-    (used : List ℕ) (m : CanRebalance told free (suc (suc h)) left key right b rs used) (l r : Inner)
+pub are_inners : {told : Option (List (List ℕ))} {free : ℕ → Bool} {h left : ℕ} {key : Key} {right : ℕ} {b : Bounds} {rs : List Record}
+    {used : List ℕ} (m : CanRebalance told free (suc (suc h)) left key right b rs used) (l r : Inner)
     → ReadsInner told left l → ReadsInner told right r → AreInners told free h left key right b rs used m l r
-are_inners told free h left key right b rs used m l r reads also =
+are_inners {free} {h} {left} {key} {right} {b} {rs} {used} m l r reads also =
     let S = Subtree m.pages (suc h) false in
     let below : Bounds = record { low = b.low; high = Some key } in
     let above : Bounds = record { low = Some key; high = b.high } in
@@ -77,7 +80,8 @@ are_inners told free h left key right b rs used m l r reads also =
     let within_l = subst (λ (i : Inner). are_within below i.keys ≡ true) first s.within in
     let within_r = subst (λ (i : Inner). are_within above i.keys ≡ true) rest t.within in
     let from : is_ascending (key ∷ r.keys) ≡ true =
-    ascends_from m.pages h r.children r.keys key b.high m.rest t.under (let n = list_too.least in omega arith) list_too.ascends row_r in
+    ascends_from m.pages h r.children r.keys key b.high {rs = m.rest} (let n = list_too.least in omega arith, list_too.ascends)
+    (record { used = t.under; row = row_r }) in
     let pair : ArePair left right (t.under ++ s.under) used = record {
       count = λ p. ap (multiplicity p) (m.is_used ∙ ap (λ u. u ++ m.first_used) t.is_used ∙ ap (λ u. (t.under ++ right ∷ []) ++ u) s.is_used)
           ∙ pair_count p t.under s.under left right;
@@ -115,12 +119,12 @@ are_inners told free h left key right b rs used m l r reads also =
     one_more : (m n : ℕ) → m ≡ n + 1 → m ≡ suc n
     one_more m n e = omega arith
 
-one_inner : (pages : List (List ℕ)) (h page : ℕ) (bytes : List ℕ) (b : Bounds) (inner : Inner) (all : List Record) (under : List ℕ)
+one_inner : {pages : List (List ℕ)} {h : ℕ} (page : ℕ) {bytes : List ℕ} {b : Bounds} {inner : Inner} {all : List Record} (under : List ℕ)
     → slice_index_or pages page [] ≡ bytes → inner_of (length pages) bytes ≡ Some inner → inner.height ≡ suc (suc h)
     → 127 ≤ length inner.children → are_within b inner.keys ≡ true →
     Row (Subtree pages (suc h) false) (bounded inner.children inner.keys b) all under → Subtree pages (suc (suc h)) false (page, b) all
     (under ++ page ∷ [])
-one_inner pages h page bytes b inner all under here is height many within row = record {
+one_inner {pages} page {inner} under here is height many within row = record {
   inner = inner;
   page = ap (inner_of (length pages)) here ∙ is;
   is_height = height;
@@ -187,7 +191,7 @@ module _ (told mid now_told : Option (List (List ℕ))) (free now : ℕ → Bool
       let n = two_above height c.above in
       let h = n.0 in
       let m = subst (λ x. CanRebalance told free x left key right b rs used) n.1 can in
-      let a = are_inners told free h left key right b rs used m l r c.reads c.also in
+      let a = are_inners m l r c.reads c.also in
       let on = tells_on (λ old new. HasGiven right (slice_set old left bytes) new) mid now_told m.pages (c.is_mid ∙ m.is_told) c.tells in
       let news = on.0 in
       let j = is_joined m.pages free left right bytes news now a.apart (has_many told m.pages size left c.many m.is_told c.inside) on.2
@@ -212,7 +216,7 @@ module _ (told mid now_told : Option (List (List ℕ))) (free now : ℕ → Bool
         is = on.1;
         done = record {
           uses = a.under ++ left ∷ [];
-          subtree = one_inner news h left bytes b all rs a.under j.here is (ap (λ (i : Inner). i.height) c.all_is ∙ c.is_height ∙ n.1) many
+          subtree = one_inner left a.under j.here is (ap (λ (i : Inner). i.height) c.all_is ∙ c.is_height ∙ n.1) many
               (subst (λ x. are_within b x ≡ true) (sym keys) a.rises.within) there;
           moves = pair_moves m.pages news free now left right (left ∷ []) a.under used (a.under ++ left ∷ []) a.pair
               (λ p. times-append p a.under (left ∷ [])) j.moves;
@@ -230,7 +234,7 @@ module _ (told mid now_told : Option (List (List ℕ))) (free now : ℕ → Bool
       let n = two_above height c.above in
       let h = n.0 in
       let m = subst (λ x. CanRebalance told free x left key right b rs used) n.1 can in
-      let a = are_inners told free h left key right b rs used m l r c.reads c.also in
+      let a = are_inners m l r c.reads c.also in
       let on = tells_on (λ old new. new ≡ slice_set (slice_set old left bytes) right others) mid now_told m.pages (c.is_mid ∙ m.is_told) c.tells in
       let w = are_written m.pages free left right bytes others a.apart (has_many told m.pages size left c.many m.is_told c.inside)
       (has_many told m.pages size right c.many m.is_told c.inside_too) in
@@ -267,9 +271,9 @@ module _ (told mid now_told : Option (List (List ℕ))) (free now : ℕ → Bool
           first_uses = two.first_used ++ left ∷ [];
           rest_uses = two.rest_used ++ right ∷ [];
           is_left =
-              one_inner news h left bytes below first two.first two.first_used w.here is (c.heights.0 ∙ c.is_height ∙ n.1) enough.0
+              one_inner left two.first_used w.here is (c.heights.0 ∙ c.is_height ∙ n.1) enough.0
               parts.before.within two.here;
-          is_right = one_inner news h right others above rest two.rest two.rest_used w.there is_too
+          is_right = one_inner right two.rest_used w.there is_too
               (c.heights.1 ∙ c.is_height ∙ n.1) enough.1 parts.behind.within two.after;
           records = two.records;
           low = parts.low;
@@ -284,7 +288,7 @@ module _ (told : Option (List (List ℕ))) (free : ℕ → Bool) (height left : 
       → test ≡ false → CanRebalance told free height left key right b rs used → ⊥
   not_inners test above reads also e fails can =
       let n = two_above height above in
-      let a = are_inners told free n.0 left key right b rs used (subst (λ x. CanRebalance told free x left key right b rs used) n.1 can) l r reads
+      let a = are_inners (subst (λ x. CanRebalance told free x left key right b rs used) n.1 can) l r reads
       also in
       never test (is_ascending (l.keys ++ key ∷ r.keys)) e fails a.rises.ascends
     where
@@ -295,6 +299,6 @@ module _ (told : Option (List (List ℕ))) (free : ℕ → Bool) (height left : 
       → CanRebalance told free height left key right b rs used → (was left ≡ false) × (was right ≡ false)
   inners_taken was above reads also e can =
       let n = two_above height above in
-      let a = are_inners told free n.0 left key right b rs used (subst (λ x. CanRebalance told free x left key right b rs used) n.1 can) l r reads
+      let a = are_inners (subst (λ x. CanRebalance told free x left key right b rs used) n.1 can) l r reads
       also in
       (ap (λ f. f left) e ∙ left_taken free left right a.apart, ap (λ f. f right) e ∙ right_taken free left right a.apart)

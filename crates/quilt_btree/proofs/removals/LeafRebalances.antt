@@ -67,10 +67,10 @@ module _ (told : Option (List (List ℕ))) (free : ℕ → Bool) (left : ℕ) (k
       let a = are_leaves in
       subst (λ x. is_ascending (keys_of x) ≡ true) a.records a.rises.ascends
 
-one_leaf : (pages : List (List ℕ)) (page : ℕ) (bytes : List ℕ) (b : Bounds) (all : List Record) → slice_index_or pages page [] ≡ bytes
+one_leaf : (pages : List (List ℕ)) (page : ℕ) {bytes : List ℕ} (b : Bounds) {all : List Record} → slice_index_or pages page [] ≡ bytes
     → leaf_of bytes ≡ Some all → 72 ≤ length all → are_within b (keys_of all) ≡ true
     → Subtree pages 1 false (page, b) all (page ∷ [])
-one_leaf pages page bytes b all here is many within =
+one_leaf pages page b {all} here is many within =
     record { page = ap leaf_of here ∙ is; enough = many_enough false 72 (length all) many; within = within; is_used = refl }
 
 -- what is known of a call that joins two leaves
@@ -129,7 +129,7 @@ module _ (told mid now_told : Option (List (List ℕ))) (free now : ℕ → Bool
         done = record {
           uses = left ∷ [];
           subtree = subst (λ x. Subtree on.0 1 false (left, b) x (left ∷ [])) same
-              (one_leaf on.0 left bytes b all j.here c.written many (subst (λ x. are_within b (keys_of x) ≡ true) (sym same) a.rises.within));
+              (one_leaf on.0 left b j.here c.written many (subst (λ x. are_within b (keys_of x) ≡ true) (sym same) a.rises.within));
           moves = subst (λ u. KeepsAccount m.pages on.0 free now u (left ∷ [])) (sym a.pages) j.moves;
         };
       })
@@ -165,8 +165,8 @@ module _ (told mid now_told : Option (List (List ℕ))) (free now : ℕ → Bool
           rest = rest;
           first_uses = left ∷ [];
           rest_uses = right ∷ [];
-          is_left = one_leaf news left bytes (record { low = b.low; high = Some start.key }) first w.here c.written enough.0 parts.before.within;
-          is_right = one_leaf news right others (record { low = Some start.key; high = b.high }) rest w.there c.written_too enough.1
+          is_left = one_leaf news left (record { low = b.low; high = Some start.key }) w.here c.written enough.0 parts.before.within;
+          is_right = one_leaf news right (record { low = Some start.key; high = b.high }) w.there c.written_too enough.1
               (subst (λ x. are_within (record { low = Some start.key; high = b.high }) (keys_of x) ≡ true) (sym from.1) parts.from_here.within);
           records = all;
           low = parts.low;
@@ -202,10 +202,10 @@ module _ (told : Option (List (List ℕ))) (free : ℕ → Bool) where
         subtree = m.is_right.subtree;
       }
 
-  pub not_leaves : (left : ℕ) (key : Key) (right height : ℕ) (b : Bounds) (rs : List Record) (used : List ℕ) (l r : List Record) (test : Bool)
+  pub not_leaves : {left : ℕ} {key : Key} {right height : ℕ} {b : Bounds} {rs : List Record} {used : List ℕ} {l r : List Record} {test : Bool}
       → height ≡ 1 → ReadsLeaf told left l → ReadsLeaf told right r → test ≡ is_ascending (keys_of (l ++ r)) → test ≡ false
       → CanRebalance told free height left key right b rs used → ⊥
-  not_leaves left key right height b rs used l r test one reads also e fails can =
+  not_leaves {left} {key} {right} {b} {rs} {used} {l} {r} {test} one reads also e fails can =
       let t = leaves_ascend told free left key right b rs used (subst (λ h. CanRebalance told free h left key right b rs used) one can) l r reads
       also in
       never test (is_ascending (keys_of (l ++ r))) e fails t
@@ -213,9 +213,9 @@ module _ (told : Option (List (List ℕ))) (free : ℕ → Bool) where
       never : (x y : Bool) → x ≡ y → x ≡ false → y ≡ true → ⊥
       never x y e f g = cc
 
-  pub leaves_taken : (was : ℕ → Bool) (left : ℕ) (key : Key) (right height : ℕ) (b : Bounds) (rs : List Record) (used : List ℕ) → height ≡ 1
+  pub leaves_taken : {was : ℕ → Bool} {left : ℕ} {key : Key} {right height : ℕ} {b : Bounds} {rs : List Record} {used : List ℕ} → height ≡ 1
       → was ≡ free → CanRebalance told free height left key right b rs used → (was left ≡ false) × (was right ≡ false)
-  leaves_taken was left key right height b rs used one e can =
+  leaves_taken {left} {key} {right} {b} {rs} {used} one e can =
       let m = subst (λ h. CanRebalance told free h left key right b rs used) one can in
       let s : Subtree m.pages 1 true (left, record { low = b.low; high = Some key }) m.first m.first_used = m.is_left.subtree in
       let t : Subtree m.pages 1 true (right, record { low = Some key; high = b.high }) m.rest m.rest_used = m.is_right.subtree in

@@ -3,7 +3,6 @@ use Rattle.std.proofs.Common.{◌≡◌, ℕ, zero, suc, ◌<◌, ◌≤◌, Boo
 use Rattle.std.proofs.lemmas.Bool.{leb-true, le-leb}
 use Rattle.std.proofs.Common.{IfSome, slice_index_or, slice_set, refl, sym, ◌∙◌, ap, subst, arith, get_or-set_same, take-append-drop}
 use Rattle.std.specs.List.{list_any, list_all, remove}
-use Rattle.std.proofs.lemmas.Bool.Decides.{nat_tests}
 use Rattle.quilt_record.specs.declared.key.Key.{Key}
 use Rattle.quilt_record.specs.declared.record.Record.{Record}
 use Rattle.quilt_node.specs.Pages.{leaf_of}
@@ -67,11 +66,11 @@ removed_within b rs i h =
     (all_removed (λ k. is_above b.low k && is_below b.high k) (map (λ r. r.key) rs) i h)
 
 -- a leaf is written with other records
-pub leaf_becomes : (pages : List (List ℕ)) (free : ℕ → Bool) (page : ℕ) (is_root r : Bool) (b : Bounds) (rs all : List Record) (used bytes : List ℕ)
+pub leaf_becomes : {pages : List (List ℕ)} (free : ℕ → Bool) {page : ℕ} {is_root : Bool} (r : Bool) {b : Bounds} {rs all : List Record} {used : List ℕ} (bytes : List ℕ)
     → Subtree pages 1 is_root (page, b) rs used → page < length pages → leaf_of bytes ≡ Some all → (r || nat_le 72 (length all)) ≡ true
     → are_within b (map (λ r. r.key) all) ≡ true
     → Becomes pages (slice_set pages page bytes) free free page 1 r b used all
-leaf_becomes pages free page is_root r b rs all used bytes s inside is enough within = record {
+leaf_becomes {pages} free {page} r {used} bytes s inside is enough within = record {
   uses = used;
   subtree = record {
     page = ap leaf_of (get_or-set_same pages page bytes [] inside) ∙ is;
@@ -85,9 +84,9 @@ leaf_becomes pages free page is_root r b rs all used bytes s inside is enough wi
     some : (page : ℕ) → 1 ≤ multiplicity page (page ∷ [])
     some page = let e = times_here page [] in omega arith
 
-pub leaf_same : (told : Option (List (List ℕ))) (free : ℕ → Bool) (page : ℕ) (is_root : Bool) (b : Bounds) (rs leaf : List Record) (used : List ℕ)
+pub leaf_same : {told : Option (List (List ℕ))} {free : ℕ → Bool} {page : ℕ} {is_root : Bool} {b : Bounds} {rs leaf : List Record} {used : List ℕ}
     → CanEdit told free page 1 is_root b rs used → ReadsLeaf told page leaf → leaf ≡ rs
-leaf_same told free page is_root b rs leaf used can reads =
+leaf_same {page} {is_root} {b} {rs} {used} can reads =
     let s : Subtree can.pages 1 is_root (page, b) rs used = can.subtree in
     let there = reads can.pages can.is_told in
     let mine = s.page in
@@ -106,13 +105,13 @@ module _ (k : Key) (told now_told : Option (List (List ℕ))) (free now : ℕ �
       → DidRemove k told now_told free now page height is_root b rs used removed.Missing
   leaf_missing gap can =
       subst (λ l. list_any (has_key k) l ≡ false)
-      (leaf_same told free page is_root b rs leaf used (subst (λ h. CanEdit told free page h is_root b rs used) one can) reads) (gap_any k leaf i gap)
+      (leaf_same (subst (λ h. CanEdit told free page h is_root b rs used) one can) reads) (gap_any k leaf i gap)
 
   pub leaf_emptied : IsFound k leaf i → length leaf ≡ 1 → now_told ≡ told → now ≡ free → CanEdit told free page height is_root b rs used
       → DidRemove k told now_told free now page height is_root b rs used removed.Emptied
   leaf_emptied found alone t f can =
       let can1 = subst (λ h. CanEdit told free page h is_root b rs used) one can in
-      let same = leaf_same told free page is_root b rs leaf used can1 reads in
+      let same = leaf_same can1 reads in
       let s : Subtree can1.pages 1 is_root (page, b) rs used = can1.subtree in
       let few : length rs < 72 = subst (λ l. length l < 72) same (one_few (length leaf) alone) in (
         subst (λ l. list_any (has_key k) l ≡ true) same (found_any k leaf i found.found found found.here),
@@ -164,14 +163,14 @@ pub leaf_after : {k : Key} {told mid now_told : Option (List (List ℕ))} {free 
     → (r || nat_le 72 (length all)) ≡ true → CanEdit told free page 1 is_root b rs used
     → LeafAfter k told now_told free now page is_root r b rs all used bytes
 leaf_after {k = k} {told = told} {mid = mid} {now_told = now_told} {free = free} {page = page} {size = size} {i = i} {is_root = is_root} r {b = b} {rs = rs} {leaf = leaf} {all = all} {used = used} {bytes = bytes} c enough can =
-    let same = leaf_same told free page is_root b rs leaf used can c.reads in
+    let same = leaf_same can c.reads in
     let s : Subtree can.pages 1 is_root (page, b) rs used = can.subtree in
     let on = tells_on (λ old new. new ≡ slice_set old page bytes) mid now_told can.pages (c.is_mid ∙ can.is_told) c.tells in
     let inside = has_many told can.pages size page c.many can.is_told c.inside in
     let is_all : all ≡ without k rs = c.all_is ∙ without_found k leaf i c.found.found c.found c.found.here ∙ ap (without k) same in
     let within : are_within b (map (λ r. r.key) all) ≡ true =
     subst (λ l. are_within b (map (λ r. r.key) l) ≡ true) (sym (c.all_is ∙ ap (λ l. remove l i) same)) (removed_within b rs i s.within) in
-    let becomes = leaf_becomes can.pages free page is_root r b rs all used bytes s inside c.written enough within in
+    let becomes = leaf_becomes free r bytes s inside c.written enough within in
     record {
       pages = can.pages;
       news = slice_set can.pages page bytes;
@@ -203,7 +202,7 @@ module _ (k : Key) (told mid now_told : Option (List (List ℕ))) (free now : �
   leaf_underfull can =
       let can1 = subst (λ h. CanEdit told free page h is_root b rs used) one can in
       let a = leaf_after true c refl can1 in
-      let same = leaf_same told free page is_root b rs leaf used can1 c.reads in
+      let same = leaf_same can1 c.reads in
       let s : Subtree can1.pages 1 is_root (page, b) rs used = can1.subtree in
       let fewer : suc (length all) ≡ length rs = ap (λ l. suc (length l)) c.all_is ∙ one_fewer leaf i c.found.in_range ∙ ap length same in
       let nearly : is_root ≡ false → IsNearlyFull a.news 1 page = λ r ss e.

@@ -24,7 +24,7 @@ use Rattle.quilt_btree.proofs.subtrees.Trees.{IsInnerList, inner_list}
 use Rattle.quilt_btree.proofs.rows.Places.{front, from_keys, tail_places, bounded_at, row_one, one_row}
 use Rattle.quilt_btree.proofs.subtrees.Descents.{child_bounds, LeadsDown, leads_down, place_in, cut_children, as_long}
 use Rattle.quilt_btree.proofs.subtrees.Descending.{height_above}
-use Rattle.quilt_btree.proofs.rows.Middles.{middle_changed}
+use Rattle.quilt_btree.proofs.rows.Middles.{around, middle_changed}
 use Rattle.quilt_btree.proofs.removals.Underfulls.{any_root}
 
 -- a subtree above the leaves, with the child to which the key leads
@@ -64,10 +64,10 @@ total : (p : ℕ) {used under : List ℕ} (l h f : List ℕ) (page : ℕ) → us
 total p {under = under} l h f page e g = ap (multiplicity p) e ∙ times-append p under (page ∷ []) ∙ ap (λ n. n + multiplicity p (page ∷ [])) (ap (multiplicity p) g ∙ times-three p l h f)
 
 module _ (told : Option (List (List ℕ))) (free : ℕ → Bool) (page height : ℕ) where
-  pub at_inner : (inner : Inner) (i : ℕ) (k : Key) (is_root : Bool) (b : Bounds) (rs : List Record) (used : List ℕ) → 1 ≤ height → height ≢ 1
+  pub at_inner : (inner : Inner) (i : ℕ) (k : Key) {is_root : Bool} {b : Bounds} {rs : List Record} {used : List ℕ} → 1 ≤ height → height ≢ 1
       → ReadsInner told page inner → IsPlace inner.keys k i → CanEdit told free page height is_root b rs used
       → AtInner told free page height inner i k is_root b rs used
-  at_inner inner i k is_root b rs used some ne reads place can =
+  at_inner inner i k {is_root} {b} {rs} {used} some ne reads place can =
       let e = height_above height some ne in
       let s = subst (λ n. Subtree can.pages n is_root (page, b) rs used) e.1 can.subtree in
       let there = reads can.pages can.is_told in
@@ -142,7 +142,7 @@ module _ (told mid : Option (List (List ℕ))) (free was : ℕ → Bool) (page h
       → ((is_root : Bool) (b : Bounds) (rs : List Record) (used : List ℕ) → CanEdit mid was child (height - 1) is_root b rs used → IsNotDamage e)
       → (is_root : Bool) (b : Bounds) (rs : List Record) (used : List ℕ) → CanEdit told free page height is_root b rs used → IsNotDamage e
   sound_child e c f is_root b rs used can =
-      let a = at_inner told free page height inner i k is_root b rs used c.some c.above c.reads c.place can in
+      let a = at_inner told free page height inner i k c.some c.above c.reads c.place can in
       f false (child_bounds inner b i) a.down.at.here a.down.at.here_used
       (child_edit is_root b rs used a c.is_mid c.is_free c.is_child)
 
@@ -156,12 +156,12 @@ pub record ChildLeft (k : Key) (between : Option (List (List ℕ))) (free then :
   pub subtree : Subtree news (suc a.below) r (slice_index inner.children i, child_bounds inner b i) (without k a.down.at.here) uses
   pub moves : KeepsAccount a.pages news free then a.down.at.here_used uses
 
-child_left : (k : Key) (told mid between : Option (List (List ℕ))) (free was then : ℕ → Bool) (page height child i : ℕ) (inner : Inner)
-    (is_root r : Bool) (b : Bounds) (rs : List Record) (used : List ℕ) → (a : AtInner told free page height inner i k is_root b rs used)
-    → mid ≡ told → was ≡ free → child ≡ slice_index inner.children i → (pages news : List (List ℕ)) → mid ≡ Some pages → between ≡ Some news
+child_left : {k : Key} {told mid between : Option (List (List ℕ))} {free was then : ℕ → Bool} {page height child i : ℕ} {inner : Inner}
+    {is_root r : Bool} {b : Bounds} {rs : List Record} {used : List ℕ} → (a : AtInner told free page height inner i k is_root b rs used)
+    → mid ≡ told → was ≡ free → child ≡ slice_index inner.children i → {pages news : List (List ℕ)} → mid ≡ Some pages → between ≡ Some news
     → Becomes pages news was then child (height - 1) r (child_bounds inner b i) a.down.at.here_used (without k a.down.at.here)
     → ChildLeft k between free then page height i inner is_root r b rs used told a
-child_left k told mid between free was then page height child i inner is_root r b rs used a t f c pages news e g becomes =
+child_left {k} {was} {then} {height} {child} {i} {inner} {r} {b} a t f c {pages} {news} e g becomes =
     let same : pages ≡ a.pages = some_same pages a.pages (sym e ∙ t ∙ a.is_told) in
     record {
       news = news;
@@ -186,7 +186,7 @@ module _ (k : Key) (told mid between : Option (List (List ℕ))) (free was then 
   pub missing_child : Removes k mid between was then child (height - 1) removed.Missing → (is_root : Bool) (b : Bounds) (rs : List Record)
       (used : List ℕ) → CanEdit told free page height is_root b rs used → list_any (has_key k) rs ≡ false
   missing_child f is_root b rs used can =
-      let a = at_inner told free page height inner i k is_root b rs used c.some c.above c.reads c.place can in
+      let a = at_inner told free page height inner i k c.some c.above c.reads c.place can in
       any_between k a.down.at.first a.down.at.here a.down.at.last rs (among_child told free page height i inner k is_root b rs used a)
       ∙ f false (child_bounds inner b i) a.down.at.here a.down.at.here_used
       (child_edit told mid free was page height child i inner k is_root b rs used a c.is_mid c.is_free c.is_child)
@@ -194,24 +194,20 @@ module _ (k : Key) (told mid between : Option (List (List ℕ))) (free was then 
   pub done_child : Removes k mid between was then child (height - 1) removed.Done → (is_root : Bool) (b : Bounds) (rs : List Record) (used : List ℕ)
       → CanEdit told free page height is_root b rs used → DidRemove k told between free then page height is_root b rs used removed.Done
   done_child f is_root b rs used can =
-      let a = at_inner told free page height inner i k is_root b rs used c.some c.above c.reads c.place can in
+      let a = at_inner told free page height inner i k c.some c.above c.reads c.place can in
       let at = a.down.at in
       let among = among_child told free page height i inner k is_root b rs used a in
       let did = f false (child_bounds inner b i) at.here at.here_used
       (child_edit told mid free was page height child i inner k is_root b rs used a c.is_mid c.is_free c.is_child) in
-      let l = child_left k told mid between free was
-      then page height child i inner is_root false b rs used a c.is_mid c.is_free c.is_child did.1.pages did.1.news did.1.was did.1.is did.1.left in
+      let l = child_left
+      a c.is_mid c.is_free c.is_child did.1.was did.1.is did.1.left in
       let S = Subtree l.news (suc a.below) false in
-      let changed = middle_changed S
-      a.below page (same_subtree l.news a.below) (front (take i inner.children) (take i inner.keys) b)
-      ((slice_index inner.children i, child_bounds inner b i) ∷ [])
-      (tail_places (drop (suc i) inner.children) (drop i inner.keys) (from_keys (take i inner.keys) b)) at.first
-      (without k at.here) at.last at.first_used at.last_used (subst (AreApart free) a.is_used a.apart) at.is_used
-      at.row_before at.row_behind (row_one S (slice_index inner.children i, child_bounds inner b i) (without k at.here) l.uses l.subtree) l.moves in
+      let changed = middle_changed S a.below (same_subtree l.news a.below) ((slice_index inner.children i, child_bounds inner b i) ∷ []) (without k at.here)
+      (around free page at (subst (AreApart free) a.is_used a.apart)) (row_one S (slice_index inner.children i, child_bounds inner b i) (without k at.here) l.uses l.subtree) l.moves in
       let row = subst (λ x. Row S x (at.first ++ (without k at.here ++ at.last)) changed.uses) (sym (places_cut inner b i a.in_range a.list.keys))
       changed.row in
-      let becomes = parent_stays a.pages l.news free
-      then a.below page is_root b inner a.under (at.first ++ (without k at.here ++ at.last)) a.page_is a.inner_height a.enough a.within
+      let becomes = parent_stays a.pages l.news
+      a.page_is a.inner_height a.enough a.within
       (record { uses = changed.uses; row = row; moves = changed.moves; page_stays = changed.page_stays }) in (
         any_between k at.first at.here at.last rs among ∙ did.0,
         record {
@@ -241,45 +237,32 @@ pub record UnderfullChild (k : Key) (between : Option (List (List ℕ))) (free t
   pub moves : KeepsAccount pages mids free then used more
 
 -- what is left behind two edits
-left_then : {pages mids : List (List ℕ)} (news : List (List ℕ)) {free then : ℕ → Bool} (now : ℕ → Bool) (page height : ℕ) (is_root : Bool)
-    (b : Bounds) {used more : List ℕ} (all : List Record) (o : Removed) → height ≢ 1 → KeepsAccount pages mids free then used more
-    → HasLeft mids news then now page height is_root b more all o → HasLeft pages news free now page height is_root b used all o
-left_then news now page height is_root b all removed.Missing ne m l = l
-left_then news now page height is_root b all removed.Done ne m l = becomes_then
-    m l
-left_then news now page height is_root b all removed.Underfull ne m l =
-    (l.0, becomes_then m l.1)
-left_then news now page height is_root b all removed.Emptied ne m l = absurd (ne l.is_leaf)
-left_then news now page height is_root b all (removed.Only child) ne m l =
-    let c = l.1 in (
-      l.0,
-      record {
-        below = c.below;
-        is_height = c.is_height;
-        uses = c.uses;
-        subtree = c.subtree;
-        moves = moves_then
-            m c.moves;
-      },
-    )
-
 did_leave : (told : Option (List (List ℕ))) {between now_told : Option (List (List ℕ))} {free then now : ℕ → Bool} {page height : ℕ} {is_root : Bool}
     {b : Bounds} {used more : List ℕ} {all : List Record} {o : Removed} {pages mids : List (List ℕ)} → height ≢ 1 → told ≡ Some pages
     → between ≡ Some mids → KeepsAccount pages mids free then used more → DidLeave between now_told then now page height is_root b more all o
     → DidLeave told now_told free now page height is_root b used all o
-did_leave told {then = then} {now = now} {page = page} {height = height} {is_root = is_root} {b = b} {more = more} {all = all} {o = o} {pages = pages} {mids = mids} ne e g m d =
-    let same : d.pages ≡ mids = some_same d.pages mids (sym d.was ∙ g) in
+did_leave told {free = free} {then = then} {now = now} {page = page} {height = height} {is_root = is_root} {b = b} {used = used} {more = more} {all = all} {o = o} {pages = pages} {mids = mids} ne e g m d =
+    let same : mids ≡ d.pages = some_same mids d.pages (sym g ∙ d.was) in
     record {
       pages = pages;
       news = d.news;
       was = e;
       is = d.is;
-      left = left_then d.news
-          now page height is_root b all o ne m (subst (λ p. HasLeft p d.news then now page height is_root b more all o) same d.left);
+      left = left o (subst (λ p. KeepsAccount pages p free then used more) same m) d.left;
     }
   where
     some_same : (x y : List (List ℕ)) → Some x ≡ Some y → x ≡ y
     some_same x y e = cc
+
+    left : (o : Removed) → KeepsAccount pages d.pages free then used more → HasLeft d.pages d.news then now page height is_root b more all o
+        → HasLeft pages d.news free now page height is_root b used all o
+    left removed.Missing k l = l
+    left removed.Done k l = becomes_then k l
+    left removed.Underfull k l = (l.0, becomes_then k l.1)
+    left removed.Emptied k l = absurd (ne l.is_leaf)
+    left (removed.Only child) k l =
+        let c = l.1 in
+        (l.0, record { below = c.below; is_height = c.is_height; uses = c.uses; subtree = c.subtree; moves = moves_then k c.moves })
 
 -- what became of it
 removed_as : (k : Key) {told now_told : Option (List (List ℕ))} {free now : ℕ → Bool} {page height : ℕ} {is_root : Bool} {b : Bounds}
@@ -297,27 +280,23 @@ module _ (k : Key) (told mid between : Option (List (List ℕ))) (free was then 
       (can : CanEdit told free page height is_root b rs used) → UnderfullChild k between free then page height i inner is_root b rs used can.pages
   unfolding child_left
   underfull_child c f is_root b rs used can =
-      let a = at_inner told free page height inner i k is_root b rs used c.some c.above c.reads c.place can in
+      let a = at_inner told free page height inner i k c.some c.above c.reads c.place can in
       let at = a.down.at in
       let among = among_child told free page height i inner k is_root b rs used a in
       let underfull = slice_index inner.children i in
       let did = f false (child_bounds inner b i) at.here at.here_used
       (child_edit told mid free was page height child i inner k is_root b rs used a c.is_mid c.is_free c.is_child) in
       let left = did.1.left in
-      let l = child_left k told mid between free was
-      then page height child i inner is_root true b rs used a c.is_mid c.is_free c.is_child did.1.pages did.1.news did.1.was did.1.is left.1 in
+      let l = child_left
+      a c.is_mid c.is_free c.is_child did.1.was did.1.is left.1 in
       let nearly : IsNearlyFull l.news (suc a.below) underfull = subst (λ n. IsNearlyFull l.news (suc a.below) n) c.is_child
       (subst (λ n. IsNearlyFull l.news n child) (one_less height a.below a.is_height) (left.0 refl)) in
       let T = Partly l.news (suc a.below) underfull in
       let here : T (underfull, child_bounds inner b i) (without k at.here) l.uses =
       subst (λ r. Subtree l.news (suc a.below) r (underfull, child_bounds inner b i) (without k at.here) l.uses) (sym (self_test underfull))
       l.subtree in
-      let changed = middle_changed T
-      a.below page (to_partly l.news a.below underfull) (front (take i inner.children) (take i inner.keys) b)
-      ((underfull, child_bounds inner b i) ∷ [])
-      (tail_places (drop (suc i) inner.children) (drop i inner.keys) (from_keys (take i inner.keys) b)) at.first
-      (without k at.here) at.last at.first_used at.last_used (subst (AreApart free) a.is_used a.apart) at.is_used
-      at.row_before at.row_behind (row_one T (underfull, child_bounds inner b i) (without k at.here) l.uses here) l.moves in
+      let changed = middle_changed T a.below (to_partly l.news a.below underfull) ((underfull, child_bounds inner b i) ∷ []) (without k at.here)
+      (around free page at (subst (AreApart free) a.is_used a.apart)) (row_one T (underfull, child_bounds inner b i) (without k at.here) l.uses here) l.moves in
       let row = subst (λ x. Row T x (at.first ++ (without k at.here ++ at.last)) changed.uses) (sym (places_cut inner b i a.in_range a.list.keys))
       changed.row in
       let same : a.pages ≡ can.pages = some_same a.pages can.pages (sym a.is_told ∙ can.is_told) in
@@ -378,7 +357,7 @@ module _ (k : Key) (told mid between : Option (List (List ℕ))) (free was then 
       → Removes k mid between was then child (height - 1) removed.Emptied → (is_root : Bool) (b : Bounds) (rs : List Record) (used : List ℕ)
       → CanEdit told free page height is_root b rs used → IsNotDamage e
   emptied_child e c f is_root b rs used can =
-      let a = at_inner told free page height inner i k is_root b rs used c.some c.above c.reads c.place can in
+      let a = at_inner told free page height inner i k c.some c.above c.reads c.place can in
       let did = f false (child_bounds inner b i) a.down.at.here a.down.at.here_used
       (child_edit told mid free was page height child i inner k is_root b rs used a c.is_mid c.is_free c.is_child) in
       absurd (never did.1.left.root)
@@ -391,7 +370,7 @@ pub only_child : (only : ℕ) (e : Stop) {k : Key} {told mid between : Option (L
     (removed.Only only) → {is_root : Bool} {b : Bounds} {rs : List Record} {used : List ℕ} → CanEdit told free page height is_root b rs used
     → IsNotDamage e
 only_child only e {k = k} {told = told} {mid = mid} {free = free} {was = was} {page = page} {height = height} {child = child} i inner c f {is_root = is_root} {b = b} {rs = rs} {used = used} can =
-    let a = at_inner told free page height inner i k is_root b rs used c.some c.above c.reads c.place can in
+    let a = at_inner told free page height inner i k c.some c.above c.reads c.place can in
     let did = f false (child_bounds inner b i) a.down.at.here a.down.at.here_used
     (child_edit told mid free was page height child i inner k is_root b rs used a c.is_mid c.is_free c.is_child) in
     absurd (never did.1.left.0)

@@ -86,7 +86,7 @@ module _ (k : Key) (told now_told : Option (List (List ℕ))) (free now : ℕ �
       (without k rs)
   root_became a pages news ne had is becomes = (
     sym had,
-    whole_again size t.root t.height (t.records - 1) (without k rs) is
+    whole_again t.root is
         (some_height t.height ne) becomes.subtree becomes.moves a.can.apart a.balance (a.fewer k had),
   )
 
@@ -108,9 +108,9 @@ module _ (k : Key) (told now_told : Option (List (List ℕ))) (free now : ℕ �
       root_became a did.1.pages did.1.news i.above did.0 did.1.is left.1
 
 -- a record is left
-pub two_left : (news : List (List ℕ)) (height : ℕ) (r : Bool) (at : ℕ × Bounds) (rs : List Record) (used : List ℕ) (n : ℕ)
+pub two_left : (news : List (List ℕ)) (height : ℕ) (r : Bool) (at : ℕ × Bounds) (rs : List Record) (used : List ℕ) {n : ℕ}
     → Subtree news height r at rs used → suc (length rs) ≡ n → 2 ≤ n
-two_left news height r at rs used n s e = let some = subtree_some news height r at rs used s in many (length rs) (length some.more) n (ap length some.is) e
+two_left news height r at rs used {n} s e = let some = subtree_some news height r at rs used s in many (length rs) (length some.more) n (ap length some.is) e
   where
     many : (a m n : ℕ) → a ≡ suc m → suc a ≡ n → 2 ≤ n
     many a m n e f = omega arith
@@ -121,14 +121,14 @@ module _ (k : Key) (told now_told : Option (List (List ℕ))) (free now : ℕ �
   many_done f w =
       let a = at_root told free size t rs i w in
       let did = f true everywhere rs a.used a.can in
-      two_left did.1.news t.height true (t.root, everywhere) (without k rs) did.1.left.uses t.records did.1.left.subtree (a.exact k did.0)
+      two_left did.1.news t.height true (t.root, everywhere) (without k rs) did.1.left.uses did.1.left.subtree (a.exact k did.0)
 
   pub many_underfull : UnderRoot k told now_told free now t removed.Underfull → IsWhole told free size t rs → 2 ≤ t.records
   many_underfull f w =
       let a = at_root told free size t rs i w in
       let did = f true everywhere rs a.used a.can in
       let left = did.1.left in
-      two_left did.1.news t.height true (t.root, everywhere) (without k rs) left.1.uses t.records left.1.subtree (a.exact k did.0)
+      two_left did.1.news t.height true (t.root, everywhere) (without k rs) left.1.uses left.1.subtree (a.exact k did.0)
 
   -- the root's one record was taken out
   pub one_emptied : UnderRoot k told now_told free now t removed.Emptied → IsWhole told free size t rs → (now t.root ≡ false) × (t.records ≡ 1)
@@ -238,7 +238,7 @@ module _ (k : Key) (told mid now_told : Option (List (List ℕ))) (free between 
       let grown = regrown_only told now_told t did.1.is only a.can.apart tells
       frees in (
         sym did.0,
-        whole_again size child (t.height - 1) (t.records - 1) (without k rs) grown.is
+        whole_again child grown.is
             (tall_above did.1.news t.height child (without k rs) only.below only.uses only.is_height only.subtree)
             grown.subtree grown.moves a.can.apart a.balance (a.fewer k did.0),
       )
@@ -276,7 +276,7 @@ module _ (told : Option (List (List ℕ))) (free : ℕ → Bool) (size : ℕ) (t
       let apart = apart_then did.1.pages did.1.news free now a.used (only.uses ++ t.root ∷ []) only.moves a.can.apart in (
         used_not_free now (only.uses ++ t.root ∷ []) t.root apart
             (some (multiplicity t.root (only.uses ++ t.root ∷ [])) (multiplicity t.root only.uses) (last_used t.root only.uses)),
-        two_left did.1.news only.below false (child, everywhere) (without k rs) only.uses t.records only.subtree (a.exact k did.0),
+        two_left did.1.news only.below false (child, everywhere) (without k rs) only.uses only.subtree (a.exact k did.0),
         λ e. no_subtree did.1.news only.below false (child, everywhere) (without k rs) only.uses (down t.height only.below only.is_height e)
             only.subtree,
       )

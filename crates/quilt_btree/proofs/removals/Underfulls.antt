@@ -191,13 +191,13 @@ module _ (left right : ℕ) where
   which_underfull cs i j next (inr e) n l r = let f : i ≡ next = omega arith in inr (ap (slice_index cs) f ∙ sym r)
 
 pub neighbours : {told : Option (List (List ℕ))} {free : ℕ → Bool} {page height : ℕ} {inner : Inner} {i : ℕ} {is_root : Bool} {b : Bounds}
-    {rs : List Record} {used : List ℕ} (s : HasUnderfull told free page height inner i is_root b rs used) (j : ℕ) {next left : ℕ} (key : Key)
+    {rs : List Record} {used : List ℕ} (s : HasUnderfull told free page height inner i is_root b rs used) (j : ℕ) {next left : ℕ} {key : Key}
     {right : ℕ} → j + 1 < length inner.children → (j ≡ i) ⊎ (j + 1 ≡ i) → next ≡ suc j → left ≡ slice_index inner.children j
     → right ≡ slice_index inner.children next → slice_get inner.keys j ≡ Some key
     → Neighbours told free page s.below inner j left key right is_root b rs used
-neighbours {free = free} {page = page} {inner = inner} {i = i} {b = b} {rs = rs} {used = used} s j {next = next} {left = left} key {right = right} lt one nx l r k =
+neighbours {free = free} {page = page} {inner = inner} {i = i} {b = b} {rs = rs} {used = used} s j {next = next} {left = left} {key} {right = right} lt one nx l r k =
     let list = inner_list (length s.pages) (slice_index_or s.pages page []) inner s.page_is in
-    let cut = cut_two inner.children inner.keys j key list.keys lt nx l r k in
+    let cut = cut_two inner.children inner.keys list.keys lt nx l r k in
     let underfull = slice_index inner.children i in
     let P = Partly s.pages (suc s.below) underfull in
     let gap = gap_bounds cut.ka cut.kb b in

@@ -13,7 +13,7 @@ use Rattle.quilt_btree.proofs.lists.Counts.{times-append, times-three}
 use Rattle.quilt_btree.proofs.stores.Moves.{AreApart, moves_among, stays_on}
 use Rattle.quilt_btree.proofs.lists.Rows.{is_in, SameOn, row_stays, subtree_stays}
 use Rattle.quilt_btree.proofs.ways.Leaves.{cut_at}
-use Rattle.quilt_btree.proofs.rows.Places.{front, from_keys, bounded_front, high_from, place_back}
+use Rattle.quilt_btree.proofs.rows.Places.{AtPlace, front, from_keys, bounded_front, high_from, place_back}
 use Rattle.quilt_btree.proofs.subtrees.Descents.{cut_children}
 
 -- the first of these keys, or else the bound
@@ -67,9 +67,9 @@ pub record CutTwo (cs : List ℕ) (ks : List Key) (j left : ℕ) (key : Key) (ri
   pub behind : length cb ≡ length kb
   pub place : length ka ≡ j
 
-pub cut_two : (cs : List ℕ) (ks : List Key) (j : ℕ) {next left : ℕ} (key : Key) {right : ℕ} → length cs ≡ length ks + 1 → j + 1 < length cs
+pub cut_two : (cs : List ℕ) (ks : List Key) {j : ℕ} {next left : ℕ} {key : Key} {right : ℕ} → length cs ≡ length ks + 1 → j + 1 < length cs
     → next ≡ suc j → left ≡ slice_index cs j → right ≡ slice_index cs next → slice_get ks j ≡ Some key → CutTwo cs ks j left key right
-cut_two cs ks j {left = left} key n lt nx l r k =
+cut_two cs ks {j} {left = left} {key} n lt nx l r k =
     let here : j < length cs = omega arith in
     let there : suc j < length cs = omega arith in
     let low : j ≤ length cs = omega arith in
@@ -158,14 +158,39 @@ pub record RowChanged (T : Reading) (pages news : List (List ℕ)) (free now : �
   pub moves : KeepsAccount pages news free now (under ++ page ∷ []) (uses ++ page ∷ [])
   pub page_stays : slice_index_or news page [] ≡ slice_index_or pages page []
 
+-- what stands before and behind the children in the middle of a page, all of whose pages are used once
+pub record StandsAround (S : Reading) (free : ℕ → Bool) (page : ℕ) (before behind : List (ℕ × Bounds)) (first last : List Record)
+    (here_used under : List ℕ) : Type 0 where
+  pub first_used : List ℕ
+  pub last_used : List ℕ
+  pub row_before : Row S before first first_used
+  pub row_behind : Row S behind last last_used
+  pub is_under : under ≡ (last_used ++ here_used) ++ first_used
+  pub apart : AreApart free (under ++ page ∷ [])
+
+pub around : {S : Reading} (free : ℕ → Bool) (page : ℕ) {before middle behind : List (ℕ × Bounds)} {rs : List Record} {under : List ℕ}
+    (at : AtPlace S before middle behind rs under) → AreApart free (under ++ page ∷ [])
+    → StandsAround S free page before behind at.first at.last at.here_used under
+around free page at apart = record {
+  first_used = at.first_used;
+  last_used = at.last_used;
+  row_before = at.row_before;
+  row_behind = at.row_behind;
+  is_under = at.is_used;
+  apart = apart;
+}
+
 -- The children before and behind stay, and those in the middle become others by an edit of their pages.
-pub middle_changed : (T : Reading) {pages news : List (List ℕ)} {free now : ℕ → Bool} (h page : ℕ)
-    → ((c : ℕ × Bounds) (ss : List Record) (u : List ℕ) → Subtree news (suc h) false c ss u → T c ss u) → (before others behind : List (ℕ × Bounds))
-    (first all last : List Record) (fu : List ℕ) {hu : List ℕ} (lu : List ℕ) {uses under : List ℕ} → AreApart free (under ++ page ∷ [])
-    → under ≡ (lu ++ hu) ++ fu → Row (Subtree pages (suc h) false) before first fu → Row (Subtree pages (suc h) false) behind last lu
-    → Row T others all uses → KeepsAccount pages news free now hu uses → RowChanged T pages news free now page (before ++ (others ++ behind))
-    (first ++ (all ++ last)) under
-middle_changed T {pages = pages} {news = news} {free = free} {now = now} h page embed before others behind first all last fu {hu = hu} lu {uses = uses} {under = under} apart is row_before row_behind row moves =
+pub middle_changed : (T : Reading) {pages news : List (List ℕ)} {free now : ℕ → Bool} (h : ℕ) {page : ℕ}
+    → ((c : ℕ × Bounds) (ss : List Record) (u : List ℕ) → Subtree news (suc h) false c ss u → T c ss u) → {before : List (ℕ × Bounds)}
+    (others : List (ℕ × Bounds)) {behind : List (ℕ × Bounds)} {first : List Record} (all : List Record) {last : List Record} {hu uses under : List ℕ}
+    → StandsAround (Subtree pages (suc h) false) free page before behind first last hu under → Row T others all uses
+    → KeepsAccount pages news free now hu uses → RowChanged T pages news free now page (before ++ (others ++ behind)) (first ++ (all ++ last)) under
+middle_changed T {pages = pages} {news = news} {free = free} {now = now} h {page} embed {before} others {behind} {first} all {last} {hu = hu} {uses = uses} {under = under} beside row moves =
+    let fu = beside.first_used in
+    let lu = beside.last_used in
+    let is = beside.is_under in
+    let apart = beside.apart in
     let total : (p : ℕ) → multiplicity p (under ++ page ∷ []) ≡ multiplicity p lu + multiplicity p hu + multiplicity p fu + multiplicity p (page ∷ []) =
     λ p. times-append p under (page ∷ []) ∙ ap (λ n. n + multiplicity p (page ∷ [])) (ap (multiplicity p) is ∙ times-three p lu hu fu) in
     let total_now : (p : ℕ) → multiplicity p (((lu ++ uses) ++ fu) ++ page ∷ []) ≡ multiplicity p lu + multiplicity p uses + multiplicity p fu + multiplicity p (page ∷ []) =
@@ -180,9 +205,20 @@ middle_changed T {pages = pages} {news = news} {free = free} {now = now} h page 
     λ c ss u e t. embed c ss u (subtree_stays pages news moves.size (suc h) false c ss u e t) in
     record {
       uses = (lu ++ uses) ++ fu;
-      row = place_back T before others behind first all last fu uses lu
-          (row_stays pages news (Subtree pages (suc h) false) T one before first fu same_first row_before) row
-          (row_stays pages news (Subtree pages (suc h) false) T one behind last lu same_last row_behind);
+      row = place_back T before others behind (first ++ (all ++ last)) ((lu ++ uses) ++ fu)
+          (record {
+            first = first;
+            here = all;
+            last = last;
+            first_used = fu;
+            here_used = uses;
+            last_used = lu;
+            row_before = row_stays pages news (Subtree pages (suc h) false) T one before first fu same_first beside.row_before;
+            row_here = row;
+            row_behind = row_stays pages news (Subtree pages (suc h) false) T one behind last lu same_last beside.row_behind;
+            records = refl;
+            is_used = refl;
+          });
       moves =
           moves_among pages news free now hu uses (under ++ page ∷ []) (((lu ++ uses) ++ fu) ++ page ∷ [])
           (λ p. multiplicity p lu + multiplicity p fu + multiplicity p (page ∷ []))

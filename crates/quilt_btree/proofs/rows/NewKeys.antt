@@ -91,10 +91,14 @@ module _ (ka : List Key) (old : Key) where
       all_append (λ m. is_above b.low m && is_below b.high m) ka kb parts.0
       (and_parts (is_above b.low old && is_below b.high old) (are_within b kb) parts.1).1
 
+-- a key lies above a bound, where there is one
+abbrev pub LiesAbove : Option Key → Key → Type 0
+LiesAbove low k = (l : Key) → low ≡ Some l → is_lt (key_cmp l k) ≡ true
+
 -- a subtree lies between its bounds, which are not the same
 pub strictly_above : (pages : List (List ℕ)) (height page : ℕ) (low : Option Key) (k : Key) (rs : List Record) (used : List ℕ)
-    → Subtree pages height false (page, record { low = low; high = Some k }) rs used → (l : Key) → low ≡ Some l → is_lt (key_cmp l k) ≡ true
-strictly_above pages height page low k rs used s l e =
+    → Subtree pages height false (page, record { low = low; high = Some k }) rs used → LiesAbove low k
+strictly_above pages height page low k rs used s = λ l e.
     let rises = subtree_rises pages height false (page, record { low = low; high = Some k }) rs used s in
     low_strict l k rs (subtree_some pages height false (page, record { low = low; high = Some k }) rs used s)
     (subst (λ o. are_within (record { low = o; high = Some k }) (map (λ (r : Record). r.key) rs) ≡ true) e rises.within)

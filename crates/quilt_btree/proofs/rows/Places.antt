@@ -7,12 +7,11 @@ use Rattle.std.proofs.lemmas.List.{append-nil}
 use Rattle.quilt_record.specs.declared.key.Key.{Key}
 use Rattle.quilt_record.specs.declared.record.Record.{Record}
 use Rattle.quilt_record.specs.Records.{key_cmp}
-use Rattle.quilt_node.specs.Pages.{is_ascending}
-use Rattle.quilt_node.specs.Tree.{Bounds, bounded, is_above, is_below, are_within}
+use Rattle.quilt_node.specs.Tree.{Bounds, bounded, is_above, is_below}
 use Rattle.quilt_btree.specs.Subtree.{Reading, Row}
 use Rattle.quilt_btree.proofs.lists.Rising.{IsRising, all_follow, all_append, all_map}
 use Rattle.quilt_btree.proofs.lists.Rows.{row_parts, row_join}
-use Rattle.quilt_btree.proofs.subtrees.Trees.{row_rises, ascending_rest, within_rest}
+use Rattle.quilt_btree.proofs.subtrees.Trees.{KeysFit, row_rises, ascending_rest, within_rest}
 
 -- children that each have a key behind them, with their bounds
 abbrev pub front : List ℕ → List Key → Bounds → List (ℕ × Bounds)
@@ -93,28 +92,27 @@ at_place S before middle behind rs used row =
     }
 
 -- other places in its stead
-pub place_back : (S : Reading) (before middle behind : List (ℕ × Bounds)) (first here last : List Record) (first_used here_used last_used : List ℕ)
-    → Row S before first first_used → Row S middle here here_used → Row S behind last last_used
-    → Row S (before ++ (middle ++ behind)) (first ++ (here ++ last)) ((last_used ++ here_used) ++ first_used)
-place_back S before middle behind first here last first_used here_used last_used p q r =
-    row_join S before (middle ++ behind) (first ++ (here ++ last)) ((last_used ++ here_used) ++ first_used) (record {
-      first = first;
-      rest = here ++ last;
-      first_used = first_used;
-      rest_used = last_used ++ here_used;
-      here = p;
-      after = row_join S middle behind (here ++ last) (last_used ++ here_used) (record {
-        first = here;
-        rest = last;
-        first_used = here_used;
-        rest_used = last_used;
-        here = q;
-        after = r;
+pub place_back : (S : Reading) (before middle behind : List (ℕ × Bounds)) (rs : List Record) (used : List ℕ) → AtPlace S before middle behind rs used
+    → Row S (before ++ (middle ++ behind)) rs used
+place_back S before middle behind rs used at =
+    row_join S before (middle ++ behind) rs used (record {
+      first = at.first;
+      rest = at.here ++ at.last;
+      first_used = at.first_used;
+      rest_used = at.last_used ++ at.here_used;
+      here = at.row_before;
+      after = row_join S middle behind (at.here ++ at.last) (at.last_used ++ at.here_used) (record {
+        first = at.here;
+        rest = at.last;
+        first_used = at.here_used;
+        rest_used = at.last_used;
+        here = at.row_here;
+        after = at.row_behind;
         records = refl;
         is_used = refl;
       });
-      records = refl;
-      is_used = refl;
+      records = at.records;
+      is_used = at.is_used;
     })
 
 -- a row of one place
@@ -155,18 +153,18 @@ module _ (S : Reading) (one : Rises S) (past before : Key → Bool) (side : IsSi
       (front_before ca ka (record { low = Some k; high = b.high }) row.rest row.rest_used t.1 row.after))
 
   -- records behind keys that are not passed
-  pub tail_behind : (cs : List ℕ) (ks : List Key) (b : Bounds) (rs : List Record) (used : List ℕ) → length cs ≡ length ks → is_ascending ks ≡ true
-      → are_within b ks ≡ true → list_all (λ l. not (past l)) ks ≡ true → Row S (tail_places cs ks b) rs used
+  pub tail_behind : (cs : List ℕ) (ks : List Key) (b : Bounds) (rs : List Record) (used : List ℕ) → KeysFit (suc (length cs)) ks b
+      → list_all (λ l. not (past l)) ks ≡ true → Row S (tail_places cs ks b) rs used
       → list_all (λ r. not (past r.key)) rs ≡ true
-  tail_behind [] [] b rs used n a w h row = subst (λ l. list_all (λ (r : Record). not (past r.key)) l ≡ true) (sym row.0) refl
-  tail_behind (c ∷ cs) [] b rs used n a w h row = absurd (omega arith)
-  tail_behind cs (k ∷ ks) b rs used n a w h row =
+  tail_behind [] [] b rs used f h row = subst (λ l. list_all (λ (r : Record). not (past r.key)) l ≡ true) (sym row.0) refl
+  tail_behind (c ∷ cs) [] b rs used f h row = absurd (let n = f.many in omega arith)
+  tail_behind cs (k ∷ ks) b rs used f h row =
       let t = and_parts (not (past k)) (list_all (λ l. not (past l)) ks) h in
-      let rises = row_rises S one cs ks (record { low = Some k; high = b.high }) rs used (more (length cs) (length ks) n) (ascending_rest k ks a)
-      (within_rest b k ks a w) row in
+      let rises = row_rises one cs ks (record { low = Some k; high = b.high }) rs used
+      (record { many = more (length cs) (length ks) f.many; ascends = ascending_rest k ks f.ascends; within = within_rest b k ks f.ascends f.within }) row in
       all_map (λ (r : Record). r.key) (λ m. not (past m)) rs
       (all_follow (λ m. is_le (key_cmp k m) && is_below b.high m) (λ m. not (past m))
       (λ m g. ap not (side.up k m (not-true (past k) t.0) (and_parts (is_le (key_cmp k m)) (is_below b.high m) g).0)) (map (λ r. r.key) rs) rises.within)
     where
-      more : (m n : ℕ) → m ≡ suc n → m ≡ n + 1
+      more : (m n : ℕ) → suc m ≡ suc n + 1 → m ≡ n + 1
       more m n h = omega arith

@@ -42,12 +42,12 @@ module _ (pages news : List (List ℕ)) where
       (λ c ss u e t. subtree_stays pages news size (suc h) false c ss u e t) cs rs used same row
 
   -- Children in the middle of a row become others by an edit of their pages.
-  pub middle_moved : (free now : ℕ → Bool) (h page : ℕ) (before middle behind others : List (ℕ × Bounds)) (rs : List Record) (under : List ℕ)
-      (all : List Record) (uses : List ℕ) → AreApart free (under ++ page ∷ [])
+  pub middle_moved : {free now : ℕ → Bool} (h page : ℕ) {before middle behind : List (ℕ × Bounds)} (others : List (ℕ × Bounds)) {rs : List Record}
+      {under : List ℕ} (all : List Record) {uses : List ℕ} → AreApart free (under ++ page ∷ [])
       → (at : AtPlace (Subtree pages (suc h) false) before middle behind rs under) → Row (Subtree news (suc h) false) others all uses
       → KeepsAccount pages news free now at.here_used uses → RowMoved pages news free now h page (before ++ (others ++ behind))
       (at.first ++ (all ++ at.last)) under
-  middle_moved free now h page before middle behind others rs under all uses apart at row moves =
+  middle_moved {free} {now} h page {before} {behind = behind} others {under = under} all {uses} apart at row moves =
       let total : (p : ℕ) → multiplicity p (under ++ page ∷ []) ≡ multiplicity p at.last_used + multiplicity p at.here_used + multiplicity p at.first_used + multiplicity p (page ∷ []) =
       λ p. times-append p under (page ∷ [])
       ∙ ap (λ n. n + multiplicity p (page ∷ [])) (ap (multiplicity p) at.is_used ∙ times-three p at.last_used at.here_used at.first_used) in
@@ -65,9 +65,20 @@ module _ (pages news : List (List ℕ)) where
       (λ p. in_page (multiplicity p (under ++ page ∷ [])) (multiplicity p at.last_used) (multiplicity p at.here_used) (multiplicity p at.first_used) (multiplicity p (page ∷ [])) (total p)) in
       record {
         uses = (at.last_used ++ uses) ++ at.first_used;
-        row = place_back (Subtree news (suc h) false) before others behind at.first all at.last at.first_used uses at.last_used
-            (rows_stay h moves.size before at.first at.first_used same_first at.row_before) row
-            (rows_stay h moves.size behind at.last at.last_used same_last at.row_behind);
+        row = place_back (Subtree news (suc h) false) before others behind (at.first ++ (all ++ at.last)) ((at.last_used ++ uses) ++ at.first_used)
+            (record {
+              first = at.first;
+              here = all;
+              last = at.last;
+              first_used = at.first_used;
+              here_used = uses;
+              last_used = at.last_used;
+              row_before = rows_stay h moves.size before at.first at.first_used same_first at.row_before;
+              row_here = row;
+              row_behind = rows_stay h moves.size behind at.last at.last_used same_last at.row_behind;
+              records = refl;
+              is_used = refl;
+            });
         moves = moves_among pages news free now at.here_used uses (under ++ page ∷ []) (((at.last_used ++ uses) ++ at.first_used) ++ page ∷ [])
             (λ p. multiplicity p at.last_used + multiplicity p at.first_used + multiplicity p (page ∷ []))
             (λ p. order (multiplicity p (under ++ page ∷ [])) (multiplicity p at.last_used) (multiplicity p at.here_used) (multiplicity p at.first_used) (multiplicity p (page ∷ [])) (total p))
@@ -92,12 +103,12 @@ module _ (pages news : List (List ℕ)) where
       self p = grind arith
 
   -- The page is as it was, and so a subtree whose children have become others.
-  pub parent_stays : (free now : ℕ → Bool) (h page : ℕ) (is_root : Bool) (b : Bounds) (inner : Inner) (under : List ℕ) (all : List Record)
+  pub parent_stays : {free now : ℕ → Bool} {h page : ℕ} {is_root : Bool} {b : Bounds} {inner : Inner} {under : List ℕ} {all : List Record}
       → inner_of (length pages) (slice_index_or pages page []) ≡ Some inner → inner.height ≡ suc (suc h)
       → (is_root || nat_le 127 (length inner.children)) ≡ true → are_within b inner.keys ≡ true
       → RowMoved pages news free now h page (bounded inner.children inner.keys b) all under
       → Becomes pages news free now page (suc (suc h)) is_root b (under ++ page ∷ []) all
-  parent_stays free now h page is_root b inner under all is height enough within moved = record {
+  parent_stays {page} {inner} {under} is height enough within moved = record {
     uses = moved.uses ++ page ∷ [];
     subtree = record {
       inner = inner;
@@ -138,22 +149,28 @@ apart_above free under page apart =
     none : (a t u m : ℕ) → t ≤ a → t ≡ u + m → m ≡ 1 + 0 → a ≤ 1 → u ≡ 0
     none a t u m e f g h = omega arith
 
+-- the bytes are an inner page of a height, whose keys lie within bounds
+pub record IsInnerPage (size : ℕ) (bytes : List ℕ) (height : ℕ) (is_root : Bool) (b : Bounds) (inner : Inner) : Type 0 where
+  pub is : inner_of size bytes ≡ Some inner
+  pub is_height : inner.height ≡ height
+  pub enough : (is_root || nat_le 127 (length inner.children)) ≡ true
+  pub within : are_within b inner.keys ≡ true
+
 -- The page is written anew, with other children and keys.
-pub parent_written : (pages : List (List ℕ)) (free : ℕ → Bool) (h page : ℕ) (is_root : Bool) (b : Bounds) (inner : Inner)
-    (bytes under : List ℕ) (all : List Record)
-    → page < length pages → inner_of (length pages) bytes ≡ Some inner → inner.height ≡ suc (suc h)
-    → (is_root || nat_le 127 (length inner.children)) ≡ true → are_within b inner.keys ≡ true
-    → AreApart free (under ++ page ∷ []) → Row (Subtree pages (suc h) false) (bounded inner.children inner.keys b) all under
+pub parent_written : {pages : List (List ℕ)} {free : ℕ → Bool} {h page : ℕ} {is_root : Bool} {b : Bounds} {inner : Inner} {bytes : List ℕ}
+    (under : List ℕ) {all : List Record}
+    → page < length pages → IsInnerPage (length pages) bytes (suc (suc h)) is_root b inner → AreApart free (under ++ page ∷ [])
+    → Row (Subtree pages (suc h) false) (bounded inner.children inner.keys b) all under
     → Becomes pages (slice_set pages page bytes) free free page (suc (suc h)) is_root b (under ++ page ∷ []) all
-parent_written pages free h page is_root b inner bytes under all inside is height enough within apart row = record {
+parent_written {pages} {free} {h} {page} {b = b} {inner = inner} {bytes = bytes} under {all} inside i apart row = record {
   uses = under ++ page ∷ [];
   subtree = record {
     inner = inner;
     page = ap (λ n. inner_of n (slice_index_or (slice_set pages page bytes) page [])) (length-set pages page bytes)
-        ∙ ap (inner_of (length pages)) (get_or-set_same pages page bytes [] inside) ∙ is;
-    is_height = height;
-    enough = enough;
-    within = within;
+        ∙ ap (inner_of (length pages)) (get_or-set_same pages page bytes [] inside) ∙ i.is;
+    is_height = i.is_height;
+    enough = i.enough;
+    within = i.within;
     under = under;
     children = rows_stay pages (slice_set pages page bytes) h (length-set pages page bytes) (bounded inner.children inner.keys b) all under
         (written_same pages page bytes under (apart_above free under page apart)) row;

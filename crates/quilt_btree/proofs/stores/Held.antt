@@ -196,6 +196,20 @@ part_free ps qs rest None a b e f = f
 part_free ps qs rest (Some held) a b e f = λ h.
     f (record { each = part_first qs rest held (subst (λ l. all_first l held ≡ true) e h.each) })
 
+-- a page comes to the front of those that are held, and the device below is not read where it was held
+pub record IsTouched (page : ℕ) (held now : Option (List ℕ)) (a b : Option ℕ) : Type 0 where
+  pub touched : Goes (Touches page) held now
+  pub free : OneFree page held a b
+
+-- so do some pages, one after the other
+pub record AreTouched (ps : List ℕ) (held now : Option (List ℕ)) (a b : Option ℕ) : Type 0 where
+  pub touched : Goes (TouchesEach ps) held now
+  pub free : Free ps held a b
+
+pub one_touched : {page : ℕ} {held now : Option (List ℕ)} {a b : Option ℕ} → IsTouched page held now a b → AreTouched (page ∷ []) held now a b
+one_touched {page} {held} {now} {a} {b} t =
+    record { touched = one_turn (page ∷ []) page held now refl t.touched; free = one_free (page ∷ []) [] page held a b refl t.free }
+
 module _ (ps qs rest : List ℕ) where
   pub more_turns : (a b c : Option (List ℕ)) → ps ≡ qs ++ rest → Goes (TouchesEach qs) a b → Goes (TouchesEach rest) b c → Goes (TouchesEach ps) a c
   more_turns (Some a) (Some b) (Some c) e s t = subst (λ l. TouchesEach l a c) (sym e) (turns_append qs rest a b c s t)
@@ -205,11 +219,11 @@ module _ (ps qs rest : List ℕ) where
   more_turns None None (Some c) e s t = t
   more_turns None None None e s t = t
 
-  pub more_free : (held now : Option (List ℕ)) (a b c : Option ℕ) → ps ≡ qs ++ rest → Goes (TouchesEach qs) held now → Free qs held a b
-      → Free rest now b c → Free ps held a c
-  more_free None None a b c e t f g = f
-  more_free None (Some now) a b c e t f g = absurd t
-  more_free (Some held) None a b c e t f g = absurd t
-  more_free (Some held) (Some now) a b c e t f g = λ h.
+  pub more_free : {held now : Option (List ℕ)} {a b : Option ℕ} (c : Option ℕ) → ps ≡ qs ++ rest → AreTouched qs held now a b → Free rest now b c
+      → Free ps held a c
+  more_free {held = None} {now = None} c e t g = t.free
+  more_free {held = None} {now = (Some now)} c e t g = absurd t.touched
+  more_free {held = (Some held)} {now = None} c e t g = absurd t.touched
+  more_free {held = (Some held)} {now = (Some now)} {a} {b} c e t g = λ h.
       let all = subst (λ l. all_first l held ≡ true) e h.each in
-      no_more a b c (f (record { each = part_first qs rest held all })) (g (record { each = rest_first qs rest held now t all }))
+      no_more a b c (t.free (record { each = part_first qs rest held all })) (g (record { each = rest_first qs rest held now t.touched all }))

@@ -14,7 +14,7 @@ use Rattle.quilt_btree.specs.Rebalancing.{LeavesRemoved, LeavesRebalanced}
 use Rattle.quilt_btree.specs.Edits.{HasPageIn}
 use Rattle.quilt_btree.specs.declared.outcomes.Inserted.{Inserted}
 use Rattle.quilt_btree.specs.declared.outcomes.Removed.{Removed}
-use Rattle.quilt_btree.proofs.stores.Reads.{reads_then, reads_more}
+use Rattle.quilt_world.proofs.ReadCounts.{reads_then, reads_more}
 
 module _ {S : Type 0} (g : Ghosts S) where
   -- a call that only reads is one that edits nothing
@@ -42,9 +42,9 @@ module _ {S : Type 0} (g : Ghosts S) where
       same x h = cc
 
   -- another answer, which is no fault of the device
-  pub edits_free : {T U : Type 0} {s t : S} {first : Result T Stop} (m n k l : ℕ) (result : Result U Stop) → m ≤ k → n ≤ l
+  pub edits_free : {T U : Type 0} {s t : S} {first : Result T Stop} {m n : ℕ} (k l : ℕ) (result : Result U Stop) → m ≤ k → n ≤ l
       → (IsErrOf result Device → ⊥) → EditsWithin g m n s t first → EditsWithin g k l s t result
-  edits_free m n k l result le fe never a = record {
+  edits_free {n} k l result le fe never a = record {
     cause = record { later = a.cause.later; device = λ is. absurd (never is) };
     size = a.size;
     later = a.later;
@@ -54,9 +54,9 @@ module _ {S : Type 0} (g : Ghosts S) where
 
   module _ (goes_on : (s t u : S) → g.later s t → g.later t u → g.later s u) where
     -- two calls, whose answer is the second's
-    pub edits_then : {T U : Type 0} {s t u : S} {first : Result T Stop} {result : Result U Stop} (m n i j k l : ℕ) → m + i ≤ k → n + j ≤ l
+    pub edits_then : {T U : Type 0} {s t u : S} {first : Result T Stop} {result : Result U Stop} {m n i j : ℕ} (k l : ℕ) → m + i ≤ k → n + j ≤ l
         → EditsWithin g m n s t first → EditsWithin g i j t u result → EditsWithin g k l s u result
-    edits_then {s = s} {t = t} {u = u} m n i j k l le fe a b = record {
+    edits_then {s = s} {t = t} {u = u} {n} {j} k l le fe a b = record {
       cause = record {
         later = let x = a.cause.later in let y = b.cause.later in omega arith;
         device = λ is. rose_since a.cause.later (b.cause.device is);
@@ -72,7 +72,7 @@ module _ {S : Type 0} (g : Ghosts S) where
         → Goes (λ old new. new ≤ old + 1) (g.reads s) (g.reads t) → EditsWithin g (2 * (height - 1)) (3 * (height - 1) - 2) t u result
         → EditsWithin g (2 * height) (3 * height - 2) s u result
     removes_below height some a r b =
-        edits_then 0 1 (2 * (height - 1)) (3 * (height - 1) - 2) (2 * height) (3 * height - 2) (omega arith) (omega arith) (looked 1 a r) b
+        edits_then (2 * height) (3 * height - 2) (omega arith) (omega arith) (looked 1 a r) b
 
     -- a look, and an edit whose reads are bounded where it answers
     pub edits_behind : {T U : Type 0} {s t u : S} {first : Result T Stop} {result : Result U Stop} (k m n l : ℕ) → k + n ≤ l → OnlyReads g s t first

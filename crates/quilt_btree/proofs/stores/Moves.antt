@@ -86,15 +86,14 @@ module _ (pages news : List (List ℕ)) (free now : ℕ → Bool) (used uses all
   moves_among more e f m = record {
     size = m.size;
     others = λ p none. m.others p (fewer (cond {A = ℕ} (free p) 1 0) (multiplicity p used) (multiplicity p all) (more p) (e p) none);
-    balance = λ p. summed (cond {A = ℕ} (now p) 1 0) (cond {A = ℕ} (free p) 1 0) (multiplicity p uses) (multiplicity p used) (multiplicity p alls) (multiplicity p all) (more p)
-        (f p) (e p) (m.balance p);
+    balance = λ p. summed (cond {A = ℕ} (now p) 1 0) (cond {A = ℕ} (free p) 1 0) (multiplicity p uses) (multiplicity p used) (more p) (f p) (e p) (m.balance p);
   }
     where
       fewer : (c u a m : ℕ) → a ≡ m + u → c + a ≡ 0 → c + u ≡ 0
       fewer c u a m e h = omega arith
 
-      summed : (n c v u b a m : ℕ) → b ≡ m + v → a ≡ m + u → n + v ≡ c + u → n + b ≡ c + a
-      summed n c v u b a m e f h = omega arith
+      summed : (n c v u : ℕ) {b a : ℕ} (m : ℕ) → b ≡ m + v → a ≡ m + u → n + v ≡ c + u → n + b ≡ c + a
+      summed n c v u m e f h = omega arith
 
   -- the used pages in another order
   pub moves_order : ((p : ℕ) → multiplicity p all ≡ multiplicity p used) → ((p : ℕ) → multiplicity p alls ≡ multiplicity p uses) → KeepsAccount pages news free now used uses

@@ -46,28 +46,27 @@ times_in_range p a (suc n) low high = first_or_later p a n low high (λ above un
 freed : (page : ℕ) (old new : ℕ → Bool) → FreesOnly page false old new → old page ≡ true → (xs : List ℕ)
     → length (filter new xs) + multiplicity page xs ≡ length (filter old xs)
 freed page old new f t [] = refl
-freed page old new f t (x ∷ xs) = step page old new f t x xs (freed page old new f t xs) (x == page) refl
+freed page old new f t (x ∷ xs) = step (freed page old new f t xs) (x == page) refl
   where
-    here : (a b c d m n : ℕ) → a ≡ 0 + c → b ≡ 1 + d → m ≡ 1 + n → c + n ≡ d → a + m ≡ b
-    here a b c d m n e g h k = omega arith
+    here : {a b : ℕ} (c : ℕ) {d m : ℕ} (n : ℕ) → a ≡ 0 + c → b ≡ 1 + d → m ≡ 1 + n → c + n ≡ d → a + m ≡ b
+    here c n e g h k = omega arith
 
-    other : (a b c d m n k : ℕ) → a ≡ k + c → b ≡ k + d → m ≡ n → c + n ≡ d → a + m ≡ b
-    other a b c d m n k e g h l = omega arith
+    other : {a b : ℕ} (c : ℕ) {d m n : ℕ} (k : ℕ) → a ≡ k + c → b ≡ k + d → m ≡ n → c + n ≡ d → a + m ≡ b
+    other c k e g h l = omega arith
 
-    step : (page : ℕ) (old new : ℕ → Bool) → FreesOnly page false old new → old page ≡ true → (x : ℕ) (xs : List ℕ)
-        → length (filter new xs) + multiplicity page xs ≡ length (filter old xs)
+    step : length (filter new xs) + multiplicity page xs ≡ length (filter old xs)
         → (b : Bool) → (x == page) ≡ b → length (filter new (x ∷ xs)) + multiplicity page (x ∷ xs) ≡ length (filter old (x ∷ xs))
-    step page old new f t x xs more true e =
+    step more true e =
         let same : x ≡ page = equal_pages x page e in
-        here (length (filter new (x ∷ xs))) (length (filter old (x ∷ xs))) (length (filter new xs)) (length (filter old xs))
-        (multiplicity page (x ∷ xs)) (multiplicity page xs)
+        here (length (filter new xs))
+        (multiplicity page xs)
         (filter_length new x xs false (ap new same ∙ f.here)) (filter_length old x xs true (ap old same ∙ t))
         (subst (λ q. multiplicity page (q ∷ xs) ≡ 1 + multiplicity page xs) (sym same) (times_here page xs)) more
-    step page old new f t x xs more false e =
+    step more false e =
         let ne : page ≢ x = other_pages x page e in
         let turned : x ≢ page = λ g. ne (sym g) in
-        other (length (filter new (x ∷ xs))) (length (filter old (x ∷ xs))) (length (filter new xs)) (length (filter old xs)) (multiplicity page (x ∷ xs))
-        (multiplicity page xs) (cond {A = ℕ} (old x) 1 0)
+        other (length (filter new xs))
+        (cond {A = ℕ} (old x) 1 0)
         (filter_length new x xs (old x) (f.others x turned)) (filter_length old x xs (old x) refl) (times_other page x xs ne) more
 
 -- one page fewer is free where one was taken
@@ -96,22 +95,22 @@ total_more q used (x ∷ xs) =
     let more = total_more q used xs in
     step (q == x) refl more
   where
-    here : (a b t u v w : ℕ) → a ≡ 1 + t → b ≡ 1 + v → u ≡ v + w → a + u ≡ b + (t + w)
-    here a b t u v w e f g = omega arith
+    here : {a b : ℕ} (t : ℕ) {u : ℕ} (v w : ℕ) → a ≡ 1 + t → b ≡ 1 + v → u ≡ v + w → a + u ≡ b + (t + w)
+    here t v w e f g = omega arith
 
-    other : (a b t u v w : ℕ) → a ≡ t → b ≡ v → u ≡ v + w → a + u ≡ b + (t + w)
-    other a b t u v w e f g = omega arith
+    other : {a b : ℕ} (t : ℕ) {u : ℕ} (v w : ℕ) → a ≡ t → b ≡ v → u ≡ v + w → a + u ≡ b + (t + w)
+    other t v w e f g = omega arith
 
     step : (b : Bool) → (q == x) ≡ b → total (q ∷ used) xs ≡ multiplicity q xs + total used xs
         → multiplicity x (q ∷ used) + total (q ∷ used) xs ≡ multiplicity q (x ∷ xs) + (multiplicity x used + total used xs)
     step true e more =
         let same : q ≡ x = equal_pages q x e in
-        here (multiplicity x (q ∷ used)) (multiplicity q (x ∷ xs)) (multiplicity x used) (total (q ∷ used) xs) (multiplicity q xs) (total used xs)
+        here (multiplicity x used) (multiplicity q xs) (total used xs)
         (subst (λ p. multiplicity x (p ∷ used) ≡ 1 + multiplicity x used) (sym same) (times_here x used))
         (subst (λ p. multiplicity q (p ∷ xs) ≡ 1 + multiplicity q xs) same (times_here q xs)) more
     step false e more =
         let ne : x ≢ q = other_pages q x e in
-        other (multiplicity x (q ∷ used)) (multiplicity q (x ∷ xs)) (multiplicity x used) (total (q ∷ used) xs) (multiplicity q xs) (total used xs) (times_other x q used ne)
+        other (multiplicity x used) (multiplicity q xs) (total used xs) (times_other x q used ne)
         (times_other q x xs (λ g. ne (sym g))) more
 
 once_in_range : (q a n : ℕ) → multiplicity q (range_with_len a n) ≤ 1
@@ -149,13 +148,13 @@ accounted free used a zero f = refl
 accounted free used a (suc n) f =
     let self : a ≤ a = omega arith in
     let inside : a < a + suc n = omega arith in
-    summed (length (filter free (a ∷ range_with_len (a + 1) n))) (cond {A = ℕ} (free a) 1 0) (length (filter free (range_with_len (a + 1) n)))
-    (multiplicity a used) (total used (range_with_len (a + 1) n)) n
+    summed (cond {A = ℕ} (free a) 1 0) (length (filter free (range_with_len (a + 1) n)))
+    (multiplicity a used) (total used (range_with_len (a + 1) n))
     (filter_length free a (range_with_len (a + 1) n) (free a) refl) (f a self inside)
     (accounted free used (a + 1) n (λ p low high. f p (later a p low) (sooner a n p high)))
   where
-    summed : (l c m t u n : ℕ) → l ≡ c + m → c + t ≡ 1 → m + u ≡ n → l + (t + u) ≡ suc n
-    summed l c m t u n e f g = omega arith
+    summed : {l : ℕ} (c m t u : ℕ) {n : ℕ} → l ≡ c + m → c + t ≡ 1 → m + u ≡ n → l + (t + u) ≡ suc n
+    summed c m t u e f g = omega arith
 
     later : (a p : ℕ) → a + 1 ≤ p → a ≤ p
     later a p h = omega arith

@@ -24,6 +24,21 @@ pub all_told : (told : Option (List (List ℕ))) (size page : ℕ) (pages : List
     → page < size → page < length pages
 all_told told size page pages many e lt = subst (λ n. page < n) (sym (if_some_at (λ pages. length pages ≡ size) told pages many e)) lt
 
+-- the bytes are written to a page of a store of so many
+pub record WritesPage (told now_told : Option (List (List ℕ))) (size page : ℕ) (bytes : List ℕ) : Type 0 where
+  pub inside : page < size
+  pub many : TellsAll told size
+  pub wrote : Goes (λ old new. new ≡ slice_set old page bytes) told now_told
+
+-- two pages of a store of so many are written, of which the second was free
+pub record WritesBoth (told now_told : Option (List (List ℕ))) (free now : ℕ → Bool) (size page new : ℕ) (left right : List ℕ) : Type 0 where
+  pub inside : page < size
+  pub inside_new : new < size
+  pub many : TellsAll told size
+  pub was_free : free new ≡ true
+  pub taken : FreesOnly new false free now
+  pub wrote : Goes (λ old now. now ≡ slice_set (slice_set old page left) new right) told now_told
+
 -- a page and one that was free are written
 pub record IsBoth (pages news : List (List ℕ)) (free now : ℕ → Bool) (used : List ℕ) (page new : ℕ) (left right : List ℕ) : Type 0 where
   pub is_left : slice_index_or news page [] ≡ left

@@ -31,13 +31,13 @@ module _ (told then_told : Option (List (List ℕ))) (free then_free : ℕ → B
       (subst (λ f. DidInsert r then_told now_told f now page height is_root b rs used o) is.same_free did)
 
 -- an error behind a call that changed nothing
-pub sound_along : {T : Type 0} (result : Result T Stop) (told then_told : Option (List (List ℕ))) (free then_free : ℕ → Bool)
-    (size then_size page height : ℕ) (k : Key)
+pub sound_along : {T : Type 0} (result : Result T Stop) {told then_told : Option (List (List ℕ))} {free then_free : ℕ → Bool}
+    {size then_size : ℕ} (page height : ℕ) (k : Key)
     → IsSame told then_told free then_free size then_size
     → IfErr result (λ e. (is_root : Bool) (b : Bounds) (rs : List Record) (used : List ℕ)
     → CanInsert then_told then_free then_size page height is_root b k rs used → IsNotDamage e)
     → IfErr result (λ e. (is_root : Bool) (b : Bounds) (rs : List Record) (used : List ℕ)
     → CanInsert told free size page height is_root b k rs used → IsNotDamage e)
-sound_along (Ok x) told then_told free then_free size then_size page height k is f = f
-sound_along (Err e) told then_told free then_free size then_size page height k is f =
+sound_along (Ok x) page height k is f = f
+sound_along (Err e) {told} {then_told} {free} {then_free} {size} {then_size} page height k is f =
     λ is_root b rs used can. f is_root b rs used (can_along told then_told free then_free size then_size page height is_root b rs used k is can)

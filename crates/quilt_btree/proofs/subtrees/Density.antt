@@ -22,11 +22,11 @@ row_filled S least one [] rs used row = nothing (length rs) least
     nothing r l = omega arith
 row_filled S least one (c ∷ cs) rs used row =
     let all : length rs ≡ length row.first + length row.rest = ap length row.records ∙ length-append row.first row.rest in
-    one_more (suc (length cs) * least) (length cs * least) (length rs) (length row.first) (length row.rest) least (suc-mul (length cs) least) all
+    one_more (length cs * least) (length row.first) (length row.rest) least (suc-mul (length cs) least) all
     (one c row.first row.first_used row.here) (row_filled S least one cs row.rest row.rest_used row.after)
   where
-    one_more : (n m r s t l : ℕ) → n ≡ m + l → r ≡ s + t → l ≤ s → m ≤ t → n ≤ r
-    one_more n m r s t l e p q h = omega arith
+    one_more : {n : ℕ} (m : ℕ) {r : ℕ} (s t l : ℕ) → n ≡ m + l → r ≡ s + t → l ≤ s → m ≤ t → n ≤ r
+    one_more m s t l e p q h = omega arith
 
 length_bounded : (cs : List ℕ) (ks : List Key) (b : Bounds) → length (bounded cs ks b) ≡ length cs
 length_bounded [] ks b = refl
@@ -58,10 +58,10 @@ third_filled pages at rs used s =
     filled p c r e h g = omega arith
 
 -- a page of height 3 with few records below it has a place for another child
-pub few_children : (pages : List (List ℕ)) (is_root : Bool) (at : ℕ × Bounds) (rs : List Record) (used : List ℕ) (inner : Inner)
+pub few_children : (pages : List (List ℕ)) {is_root : Bool} (at : ℕ × Bounds) {rs : List Record} {used : List ℕ} (inner : Inner)
     → Subtree pages 3 is_root at rs used → inner_of (length pages) (slice_index_or pages at.0 []) ≡ Some inner → length rs < 2322576
     → length inner.children < 254
-few_children pages is_root at rs used inner s is few =
+few_children pages at {rs} inner s is few =
     let row = row_filled (Subtree pages 2 false) 9144 (second_filled pages) (bounded s.inner.children s.inner.keys at.1) rs s.under s.children in
     let places = length_bounded s.inner.children s.inner.keys at.1 in
     let page = s.page in
@@ -101,10 +101,10 @@ row_is_dense S one (c ∷ cs) rs used row =
     let rest = row_is_dense S one cs row.rest row.rest_used row.after in
     let all : length rs ≡ length row.first + length row.rest = ap length row.records ∙ length-append row.first row.rest in
     let both : length used ≡ length row.rest_used + length row.first_used = ap length row.is_used ∙ length-append row.rest_used row.first_used in
-    summed (length used) (length row.rest_used) (length row.first_used) (length rs) (length row.first) (length row.rest) both all first rest
+    summed (length row.rest_used) (length row.first_used) (length row.first) (length row.rest) both all first rest
   where
-    summed : (u v w r s t : ℕ) → u ≡ v + w → r ≡ s + t → 9144 * w ≤ 128 * s → 9144 * v ≤ 128 * t → 9144 * u ≤ 128 * r
-    summed u v w r s t p q g h = omega arith
+    summed : {u : ℕ} (v w : ℕ) {r : ℕ} (s t : ℕ) → u ≡ v + w → r ≡ s + t → 9144 * w ≤ 128 * s → 9144 * v ≤ 128 * t → 9144 * u ≤ 128 * r
+    summed v w s t p q g h = omega arith
 
 pub leaf_is_dense : (pages : List (List ℕ)) (at : ℕ × Bounds) (rs : List Record) (used : List ℕ) → Subtree pages 1 false at rs used → IsDense rs used
 leaf_is_dense pages at rs used s =
@@ -120,11 +120,11 @@ inner_is_dense pages at rs used s =
     let filled = row_filled (Subtree pages 1 false) 72 (leaf_filled pages) cs rs s.under s.children in
     let many = row_of_leaves pages cs rs s.under s.children in
     let all : length used ≡ length s.under + 1 = ap length s.is_used ∙ length-append s.under (at.0 ∷ []) in
-    dense (length used) (length s.under) (length rs) (length cs) (length s.inner.children) all many filled
+    dense (length rs) all many filled
     (length_bounded s.inner.children s.inner.keys at.1) (le_test 127 (length s.inner.children) s.enough)
   where
-    dense : (u v r p c : ℕ) → u ≡ v + 1 → v ≡ p → p * 72 ≤ r → p ≡ c → 127 ≤ c → 9144 * u ≤ 128 * r
-    dense u v r p c a b d e f = omega arith
+    dense : {u v : ℕ} (r : ℕ) {p c : ℕ} → u ≡ v + 1 → v ≡ p → p * 72 ≤ r → p ≡ c → 127 ≤ c → 9144 * u ≤ 128 * r
+    dense r a b d e f = omega arith
 
 -- a whole tree: all but its root are dense
 pub root_is_dense : (pages : List (List ℕ)) (height : ℕ) (at : ℕ × Bounds) (rs : List Record) (used : List ℕ) → height ≤ 3

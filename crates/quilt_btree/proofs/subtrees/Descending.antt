@@ -20,10 +20,10 @@ use Rattle.quilt_btree.specs.Subtree.{Reading, Row, Subtree}
 use Rattle.quilt_btree.specs.declared.step.Found.{Found}
 use Rattle.quilt_btree.specs.Trees.{SpellsSubtree, ReadsLeaf, ReadsInner, LeadsToLeaf, is_past}
 use Rattle.quilt_btree.proofs.lists.Rising.{all_append, all_follow, all_map}
-use Rattle.quilt_btree.proofs.subtrees.Trees.{IsInnerList, inner_list, subtree_rises}
+use Rattle.quilt_btree.proofs.subtrees.Trees.{SpellsRow, IsInnerList, inner_list, subtree_rises}
 use Rattle.quilt_btree.proofs.rows.Places.{front, from_keys, head_bounds, tail_places, Rises, one_row, high_from}
 use Rattle.quilt_btree.proofs.lists.Lists.{IsAmong, floor_between, last_append}
-use Rattle.quilt_btree.proofs.subtrees.Descents.{child_bounds, AtChild, at_child, leads_down, keys_behind, tail_past, head_nearer, behind_many, place_in}
+use Rattle.quilt_btree.proofs.subtrees.Descents.{child_bounds, AtChild, at_child, leads_down, keys_behind, tail_past, head_nearer, tail_many, place_in}
 
 -- at height 1 the page is a leaf
 pub leaf_spells : (told : Option (List (List ℕ))) (page height : ℕ) (rs leaf : List Record) → height ≡ 1 → SpellsSubtree told page height rs
@@ -107,19 +107,21 @@ head_high (k ∷ ks) zero b = refl
 head_high (k ∷ ks) (suc i) b = head_high ks i b
 
 -- the last of some children that each have a key behind them
-front_last : (S : Reading) (cs : List ℕ) (ks : List Key) (b : Bounds) (j : ℕ) (rs : List Record) (used : List ℕ) → j < length cs → j < length ks
-    → Row S (front (take (suc j) cs) (take (suc j) ks) b) rs used
+front_last : {S : Reading} (cs : List ℕ) (ks : List Key) (b : Bounds) (j : ℕ) {rs : List Record} → j < length cs → j < length ks
+    → SpellsRow S (front (take (suc j) cs) (take (suc j) ks) b) rs
     → (earlier : List Record) × (prior : List Record) × (bounds : Bounds) × (pages : List ℕ) × (rs ≡ earlier ++ prior)
     × S (slice_index cs j, bounds) prior pages
-front_last S [] ks b j rs used lt lk row = absurd (omega arith)
-front_last S (c ∷ cs) [] b j rs used lt lk row = absurd (omega arith)
-front_last S (c ∷ cs) (k ∷ ks) b zero rs used lt lk row =
+front_last [] ks b j lt lk r = absurd (omega arith)
+front_last (c ∷ cs) [] b j lt lk r = absurd (omega arith)
+front_last (c ∷ cs) (k ∷ ks) b zero lt lk r =
+    let row = r.row in
     let none = row.after in
     ([], row.first, record { low = b.low; high = Some k }, row.first_used, row.records ∙ ap (λ l. row.first ++ l) none.0 ∙ append-nil row.first, row.here)
-front_last S (c ∷ cs) (k ∷ ks) b (suc j) rs used lt lk row =
+front_last {S} (c ∷ cs) (k ∷ ks) b (suc j) lt lk r =
+    let row = r.row in
     let more =
-    front_last S cs ks (record { low = Some k; high = b.high }) j row.rest row.rest_used (nearer j (length cs) lt) (nearer j (length ks) lk)
-    row.after in
+    front_last {S = S} cs ks (record { low = Some k; high = b.high }) j {rs = row.rest} (nearer j (length cs) lt) (nearer j (length ks) lk)
+    (record { used = row.rest_used; row = row.after }) in
     (row.first ++ more.0, more.1, more.2, more.3, row.records ∙ ap (λ l. row.first ++ l) more.4 ∙ sym (append_assoc row.first more.0 more.1), more.5)
   where
     nearer : (i n : ℕ) → suc i < suc n → i < n
@@ -145,10 +147,10 @@ along_told old new page height rs e s =
     record { pages = s.pages; is_told = e ∙ s.is_told; is_root = s.is_root; bounds = s.bounds; used = s.used; subtree = s.subtree }
 
 module _ (told : Option (List (List ℕ))) (page height : ℕ) where
-  pub leads_below : (rs : List Record) (inner : Inner) (i : ℕ) (k : Key) → 1 ≤ height → height ≢ 1 → (s : SpellsSubtree told page height rs)
+  pub leads_below : {rs : List Record} (inner : Inner) (i : ℕ) (k : Key) → 1 ≤ height → height ≢ 1 → (s : SpellsSubtree told page height rs)
       → ReadsInner told page inner → IsPlace inner.keys k i → LeadsBelow told height inner i k rs s.bounds.high
   unfolding child_spells
-  leads_below rs inner i k some ne s reads p =
+  leads_below {rs} inner i k some ne s reads p =
       let up = inner_spells told page height rs inner some ne s reads in
       let S = Subtree s.pages (suc up.h) false in
       let rises : Rises S = λ c ss u t. subtree_rises s.pages (suc up.h) false c ss u t in
@@ -167,8 +169,8 @@ module _ (told : Option (List (List ℕ))) (page height : ℕ) where
         high = (child_bounds inner s.bounds i).high;
         is_high = refl;
         is_next = head_high inner.keys i (from_keys ka s.bounds) ∙ ap (λ o. option_or (slice_get inner.keys i) o) (high_from ka s.bounds);
-        past = tail_past S rises (drop (suc i) inner.children) kb (from_keys ka s.bounds) at.last at.last_used
-            (behind_many inner.children inner.keys i up.list.keys) behind.ascend behind.within at.row_behind;
+        past = tail_past rises (drop (suc i) inner.children) kb (from_keys ka s.bounds) at.last at.last_used
+            (record { many = tail_many inner.children inner.keys i up.list.keys; ascends = behind.ascend; within = behind.within }) at.row_behind;
         nearer = λ m h. head_nearer kb (from_keys ka s.bounds) behind.within m (subst (λ o. is_past o m ≡ true) (sym (high_from ka s.bounds)) h);
         key_under = λ h. key_below kb (from_keys ka s.bounds) k p.behind (subst (λ o. is_below o k ≡ true) (sym (high_from ka s.bounds)) h);
         ascend = up.list.ascends;
@@ -189,8 +191,9 @@ module _ (told : Option (List (List ℕ))) (page height : ℕ) where
         before = λ j e.
             let lt : j < length inner.children = let q = place_in inner k i p up.list.keys in omega arith in
             let lk : j < length inner.keys = let q = p.in_range in omega arith in
-            let f = front_last S inner.children inner.keys s.bounds j at.first at.first_used lt lk
-            (subst (λ n. Row S (front (take n inner.children) (take n inner.keys) s.bounds) at.first at.first_used) e at.row_before) in
+            let f = front_last inner.children inner.keys s.bounds j lt lk
+            (subst (λ n. SpellsRow S (front (take n inner.children) (take n inner.keys) s.bounds) at.first) e
+            (record { used = at.first_used; row = at.row_before })) in
             let n : height - 1 ≡ suc up.h = let z = up.is_h in omega arith in (
               f.0,
               f.1,
@@ -227,10 +230,10 @@ module _ (told : Option (List (List ℕ))) (page height : ℕ) where
             (λ m h. (and_parts (is_above s.bounds.low m) (is_below s.bounds.high m) h).1) (map (λ r. r.key) rs) rises.within)));
       }
 
-leads_on : (told : Option (List (List ℕ))) (height i : ℕ) (k : Key) (inner : Inner) (rs : List Record) (start : Option Key)
+leads_on : {told : Option (List (List ℕ))} {height i : ℕ} {k : Key} {inner : Inner} {rs : List Record} {start : Option Key}
     (at : LeadsBelow told height inner i k rs start) (leaf : List Record) (high : Option Key)
     → LeadsToLeaf k at.here leaf at.high high → LeadsToLeaf k rs leaf start high
-leads_on told height i k inner rs start at leaf high l = record {
+leads_on {k} at leaf high l = record {
   before = at.first ++ l.before;
   behind = l.behind ++ at.last;
   records = at.among.records ∙ ap (λ m. at.first ++ (m ++ at.last)) l.records
@@ -245,30 +248,29 @@ leads_on told height i k inner rs start at leaf high l = record {
   here_under = l.here_under;
 }
 
-pub leads_up : (r : Result Found Stop) (leaf : List Record) {old new : Option (List (List ℕ))} (page height : ℕ) {child i : ℕ} {k : Key}
-    (inner : Inner) (start : Option Key) {high : Option Key} → new ≡ old → 1 ≤ height → height ≢ 1 → ReadsInner old page inner
-    → IsPlace inner.keys k i → child ≡ slice_index inner.children i → high ≡ option_or (slice_get inner.keys i) start
+-- the floor is under the child, or else the last record before it
+pub record AtFloor (old new : Option (List (List ℕ))) (page height child i : ℕ) (k : Key) (inner : Inner) : Type 0 where
+  pub told : new ≡ old
+  pub some : 1 ≤ height
+  pub above : height ≢ 1
+  pub reads : ReadsInner old page inner
+  pub place : IsPlace inner.keys k i
+  pub is_child : child ≡ slice_index inner.children i
+
+pub leads_up : (r : Result Found Stop) (leaf : List Record) {old new : Option (List (List ℕ))} {page height child i : ℕ} {k : Key} {inner : Inner}
+    (start : Option Key) {high : Option Key} → AtFloor old new page height child i k inner → high ≡ option_or (slice_get inner.keys i) start
     → IfOk r (λ f. (rs : List Record) (s : SpellsSubtree new child (height - 1) rs) → s.bounds.high ≡ high → LeadsToLeaf k rs leaf high f.high)
     → IfOk r (λ f. (rs : List Record) (s : SpellsSubtree old page height rs) → s.bounds.high ≡ start → LeadsToLeaf k rs leaf start f.high)
-leads_up (Err e) leaf page height inner start t some ne reads p e1 e2 f = f
-leads_up (Ok v) leaf {old = old} {new = new} page height {i = i} {k = k} inner start {high = high} t some ne reads p e1 e2 f = λ rs s h.
-    let at = subst (λ o. LeadsBelow old height inner i k rs o) h (leads_below old page height rs inner i k some ne s reads p) in
-    let same : at.high ≡ high = at.is_next ∙ sym e2 in
-    let here : SpellsSubtree new (slice_index inner.children i) (height - 1) at.here =
-    record {
-      pages = at.spells.pages;
-      is_told = t ∙ at.spells.is_told;
-      is_root = at.spells.is_root;
-      bounds = at.spells.bounds;
-      used = at.spells.used;
-      subtree = at.spells.subtree;
-    } in
-    let g = subst (λ (c : ℕ). (rs : List Record) (s : SpellsSubtree new c (height - 1) rs) → s.bounds.high ≡ high → LeadsToLeaf k rs leaf high v.high) e1 f in
-    leads_on old height i k inner rs start at leaf v.high
+leads_up (Err e) leaf start a is f = f
+leads_up (Ok v) leaf {old = old} {new = new} {page} {height} {i = i} {k = k} {inner} start {high = high} a is f = λ rs s h.
+    let at = subst (λ o. LeadsBelow old height inner i k rs o) h (leads_below old page height inner i k a.some a.above s a.reads a.place) in
+    let same : at.high ≡ high = at.is_next ∙ sym is in
+    let g = subst (λ (c : ℕ). (rs : List Record) (s : SpellsSubtree new c (height - 1) rs) → s.bounds.high ≡ high → LeadsToLeaf k rs leaf high v.high) a.is_child f in
+    leads_on at leaf v.high
     (subst (λ o. LeadsToLeaf k at.here leaf o v.high) (sym same)
     (g at.here (record {
       pages = at.spells.pages;
-      is_told = t ∙ at.spells.is_told;
+      is_told = a.told ∙ at.spells.is_told;
       is_root = at.spells.is_root;
       bounds = at.spells.bounds;
       used = at.spells.used;
@@ -319,21 +321,12 @@ module _ (page height child n : ℕ) (inner : Inner) (some : 1 ≤ height) (ne :
       ap (last_or None) end.records ∙ last_append None end.first end.here
       ∙ last_late (last_or None end.first) end.here x (f end.here (along_told old new child (height - 1) end.here t end.spells))
 
--- the floor is under the child, or else the last record before it
-pub record AtFloor (old new : Option (List (List ℕ))) (page height child i : ℕ) (k : Key) (inner : Inner) : Type 0 where
-  pub told : new ≡ old
-  pub some : 1 ≤ height
-  pub above : height ≢ 1
-  pub reads : ReadsInner old page inner
-  pub place : IsPlace inner.keys k i
-  pub is_child : child ≡ slice_index inner.children i
-
 module _ (old new : Option (List (List ℕ))) (page height child i : ℕ) (k : Key) (inner : Inner) where
   pub floor_here : (r : Record) → AtFloor old new page height child i k inner
       → ((rs : List Record) → SpellsSubtree new child (height - 1) rs → Some r ≡ floor_of k rs) → (rs : List Record) → SpellsSubtree old page height rs
       → Some r ≡ floor_of k rs
   floor_here r a f rs s =
-      let at = leads_below old page height rs inner i k a.some a.above s a.reads a.place in
+      let at = leads_below old page height inner i k a.some a.above s a.reads a.place in
       let here =
       f at.here (subst (λ c. SpellsSubtree new c (height - 1) at.here) (sym a.is_child)
       (along_told old new (slice_index inner.children i) (height - 1) at.here a.told at.spells)) in
@@ -343,7 +336,7 @@ module _ (old new : Option (List (List ℕ))) (page height child i : ℕ) (k : K
       → ((rs : List Record) → SpellsSubtree new child (height - 1) rs → None ≡ floor_of k rs) → (rs : List Record) → SpellsSubtree old page height rs
       → None ≡ floor_of k rs
   floor_none a zero_place f rs s =
-      let at = leads_below old page height rs inner i k a.some a.above s a.reads a.place in
+      let at = leads_below old page height inner i k a.some a.above s a.reads a.place in
       let here =
       f at.here (subst (λ c. SpellsSubtree new c (height - 1) at.here) (sym a.is_child)
       (along_told old new (slice_index inner.children i) (height - 1) at.here a.told at.spells)) in
@@ -356,7 +349,7 @@ pub floor_before : {old new newer : Option (List (List ℕ))} {page height child
     → ((rs : List Record) → SpellsSubtree newer prior (height - 1) rs → last_or None rs ≡ Some r) → {rs : List Record} → SpellsSubtree old page height rs
     → Some r ≡ floor_of k rs
 floor_before {old = old} {new = new} {newer = newer} {page = page} {height = height} {i = i} {k = k} {inner = inner} r a some t is f g {rs = rs} s =
-    let at = leads_below old page height rs inner i k a.some a.above s a.reads a.place in
+    let at = leads_below old page height inner i k a.some a.above s a.reads a.place in
     let here =
     f at.here (subst (λ c. SpellsSubtree new c (height - 1) at.here) (sym a.is_child)
     (along_told old new (slice_index inner.children i) (height - 1) at.here a.told at.spells)) in

@@ -1,5 +1,5 @@
 -- The child to which a key leads, and what stands before and behind it.
-use Rattle.std.proofs.Common.{◌≡◌, ℕ, suc, ◌+◌, ◌-◌, ◌<◌, ◌≤◌, Bool, true, false, ◌&&◌, not, List, [], ◌∷◌, ◌++◌, length, map, take, drop, Option, Some, None}
+use Rattle.std.proofs.Common.{◌≡◌, ℕ, suc, ◌+◌, ◌-◌, ◌<◌, ◌≤◌, true, false, ◌&&◌, not, List, [], ◌∷◌, ◌++◌, length, map, take, drop, Option, Some, None}
 use Rattle.std.proofs.lemmas.Bool.{and_parts, not-true}
 use Rattle.std.proofs.Common.{slice_index, refl, sym, ◌∙◌, ap, subst, arith, take-append-drop, length-take-le, length-drop, drop-cons}
 use Rattle.std.specs.List.{list_all}
@@ -14,7 +14,7 @@ use Rattle.quilt_btree.specs.Subtree.{Reading, Row, Subtree}
 use Rattle.quilt_btree.specs.Trees.{is_past}
 use Rattle.quilt_record.proofs.Orders.{lt_le, lt_to_le, not_le}
 use Rattle.quilt_btree.proofs.lists.Rising.{all_follow, all_map}
-use Rattle.quilt_btree.proofs.subtrees.Trees.{IsInnerList, subtree_rises, row_rises, ascending_rest, within_rest}
+use Rattle.quilt_btree.proofs.subtrees.Trees.{KeysFit, IsInnerList, subtree_rises, row_rises, ascending_rest, within_rest}
 use Rattle.quilt_btree.proofs.rows.Places.{front, from_keys, head_bounds, tail_places, bounded_at, AtPlace, at_place, IsSide, Rises, front_before, tail_behind}
 use Rattle.quilt_btree.proofs.lists.Lists.{AreBelow, AreAbove, gt_not_le}
 
@@ -74,6 +74,12 @@ behind_many cs ks i n = length-drop (suc i) cs ∙ less (length cs) (length ks) 
     less : (m n i : ℕ) → m ≡ n + 1 → m - suc i ≡ n - i
     less m n i e = omega arith
 
+pub tail_many : (cs : List ℕ) (ks : List Key) (i : ℕ) → length cs ≡ length ks + 1 → suc (length (drop (suc i) cs)) ≡ length (drop i ks) + 1
+tail_many cs ks i n = more (length (drop (suc i) cs)) (length (drop i ks)) (behind_many cs ks i n)
+  where
+    more : (m n : ℕ) → m ≡ n → suc m ≡ n + 1
+    more m n e = omega arith
+
 module _ (inner : Inner) (b : Bounds) (i : ℕ) (rs : List Record) (used : List ℕ) where
   pub at_child : (S : Reading) → i < length inner.children → length inner.children ≡ length inner.keys + 1
       → Row S (bounded inner.children inner.keys b) rs used → AtChild S inner b i rs used
@@ -109,24 +115,23 @@ module _ (inner : Inner) (b : Bounds) (i : ℕ) (rs : List Record) (used : List 
             (λ r h. not_le r.key k (not-true (is_le (key_cmp r.key k)) h)) at.last
             (tail_behind S rises (λ l. is_le (key_cmp l k)) (λ m. is_lt (key_cmp m k)) (key_side k) (drop (suc i) inner.children) kb
             (from_keys ka b) at.last at.last_used
-            (behind_many inner.children inner.keys i page.keys) behind.ascend behind.within
+            (record { many = tail_many inner.children inner.keys i page.keys; ascends = behind.ascend; within = behind.within })
             (all_follow (λ l. is_lt (key_cmp k l)) (λ l. not (is_le (key_cmp l k))) (λ l g. ap not (gt_not_le k l g)) kb p.behind) at.row_behind);
       }
 
 -- the records behind the first child are from its upper bound on
-pub tail_past : (S : Reading) → Rises S → (cs : List ℕ) (ks : List Key) (b : Bounds) (rs : List Record) (used : List ℕ)
-    → length cs ≡ length ks → is_ascending ks ≡ true → are_within b ks ≡ true → Row S (tail_places cs ks b) rs used
-    → list_all (λ r. is_past (head_bounds ks b).high r.key) rs ≡ true
-tail_past S one [] [] b rs used n a w row = subst (λ l. list_all (λ (r : Record). is_past b.high r.key) l ≡ true) (sym row.0) refl
-tail_past S one (c ∷ cs) [] b rs used n a w row = absurd (omega arith)
-tail_past S one cs (k ∷ ks) b rs used n a w row =
-    let rises = row_rises S one cs ks (record { low = Some k; high = b.high }) rs used (more (length cs) (length ks) n) (ascending_rest k ks a)
-    (within_rest b k ks a w) row in
+pub tail_past : {S : Reading} → Rises S → (cs : List ℕ) (ks : List Key) (b : Bounds) (rs : List Record) (used : List ℕ) → KeysFit (suc (length cs)) ks b
+    → Row S (tail_places cs ks b) rs used → list_all (λ r. is_past (head_bounds ks b).high r.key) rs ≡ true
+tail_past one [] [] b rs used f row = subst (λ l. list_all (λ (r : Record). is_past b.high r.key) l ≡ true) (sym row.0) refl
+tail_past one (c ∷ cs) [] b rs used f row = absurd (let n = f.many in omega arith)
+tail_past one cs (k ∷ ks) b rs used f row =
+    let rises = row_rises one cs ks (record { low = Some k; high = b.high }) rs used
+    (record { many = more (length cs) (length ks) f.many; ascends = ascending_rest k ks f.ascends; within = within_rest b k ks f.ascends f.within }) row in
     all_map (λ (r : Record). r.key) (λ m. is_le (key_cmp k m)) rs
     (all_follow (λ m. is_le (key_cmp k m) && is_below b.high m) (λ m. is_le (key_cmp k m))
     (λ m g. (and_parts (is_le (key_cmp k m)) (is_below b.high m) g).0) (map (λ r. r.key) rs) rises.within)
   where
-    more : (m n : ℕ) → m ≡ suc n → m ≡ n + 1
+    more : (m n : ℕ) → suc m ≡ suc n + 1 → m ≡ n + 1
     more m n h = omega arith
 
 -- and that bound is at most the page's own

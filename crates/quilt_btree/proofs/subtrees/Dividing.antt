@@ -1,5 +1,5 @@
 -- A key that parts two children leads to a leaf whose records are all from it on.
-use Rattle.std.proofs.Common.{◌≡◌, ◌⊎◌, inl, inr, ℕ, zero, suc, ◌-◌, Bool, true, List, [], ◌∷◌, ◌++◌, length, take, drop, Option, Some, None, slice_index}
+use Rattle.std.proofs.Common.{◌≡◌, ◌⊎◌, inl, inr, ℕ, zero, suc, ◌-◌, Bool, true, List, [], ◌∷◌, ◌++◌, length, take, drop, Option, Some, None, slice_index, ⊎_elim}
 use Rattle.std.proofs.lemmas.Bool.{and_from, and_parts}
 use Rattle.std.proofs.Common.{slice_index_or, refl, sym, ◌∙◌, ap, subst, arith}
 use Rattle.std.specs.Prelude.{slice_get}
@@ -135,28 +135,17 @@ module _ (pages : List (List ℕ)) (h page i : ℕ) (inner : Inner) (start high 
         below_start inner.keys i start d w q.3,
       )
 
-starts_case : (pages : List (List ℕ)) (h height : ℕ) {place i child : ℕ} (k : Key) (inner : Inner) (here leaf : List Record) → place ≡ i
-    → child ≡ slice_index inner.children i → height - 1 ≡ suc h
-    → ((j : ℕ) (d : Key) → i ≡ suc j → slice_get inner.keys j ≡ Some d → list_all (λ (r : Record). is_le (key_cmp d r.key)) here ≡ true)
-    → (list_all (λ (r : Record). is_le (key_cmp k r.key)) here ≡ true → list_all (λ (r : Record). is_le (key_cmp k r.key)) leaf ≡ true)
-    → (Divides pages (height - 1) child k → list_all (λ (r : Record). is_le (key_cmp k r.key)) leaf ≡ true)
-    → ((j : ℕ) × (place ≡ suc j) × (slice_get inner.keys j ≡ Some k)) ⊎ Divides pages (suc h) (slice_index inner.children place) k
-    → list_all (λ (r : Record). is_le (key_cmp k r.key)) leaf ≡ true
-starts_case pages h height k inner here leaf e is n low inside below (inl q) = inside (low q.0 k (sym e ∙ q.1) q.2)
-starts_case pages h height {child = child} k inner here leaf e is n low inside below (inr d) =
-    below (subst (λ m. Divides pages m child k) (sym n) (subst (λ c. Divides pages (suc h) c k) (ap (slice_index inner.children) e ∙ sym is) d))
-
 one_less : (height h : ℕ) → height ≡ suc (suc h) → height - 1 ≡ suc h
 one_less height h e = omega arith
 
-pub cut_up : (old : Option (List (List ℕ))) {new : Option (List (List ℕ))} (page height : ℕ) {child : ℕ} (i : ℕ) {k : Key} (inner : Inner)
+pub cut_up : {old : Option (List (List ℕ))} {new : Option (List (List ℕ))} {page height : ℕ} {child : ℕ} {i : ℕ} {k : Key} {inner : Inner}
     (start : Option Key) {next : Option Key} {leaf : List Record} {high : Option Key} → AtFloor old new page height child i k inner
     → next ≡ option_or (slice_get inner.keys i) start
     → ((rs : List Record) (s : SpellsSubtree new child (height - 1) rs) → s.bounds.high ≡ next → LeadsToLeaf k rs leaf next high)
     → IsCut new child (height - 1) k next leaf high → IsCut old page height k start leaf high
-cut_up old {new = new} page height {child = child} i {k = k} inner start {next = next} {leaf = leaf} {high = high} a is leads cut = record {
+cut_up {old} {new = new} {page} {height} {child = child} {i} {k = k} {inner} start {next = next} {leaf = leaf} {high = high} a is leads cut = record {
   starts = λ pages rs t s e d.
-      let at = leads_below old page height rs inner i k a.some a.above s a.reads a.place in
+      let at = leads_below old page height inner i k a.some a.above s a.reads a.place in
       let here : SpellsSubtree new child (height - 1) at.here = record {
         pages = at.spells.pages;
         is_told = a.told ∙ at.spells.is_told;
@@ -184,10 +173,10 @@ cut_up old {new = new} page height {child = child} i {k = k} inner start {next =
             subst (λ c. Subtree at.spells.pages (height - 1) at.spells.is_root (c, at.spells.bounds) at.here at.spells.used) (sym a.is_child)
             at.spells.subtree;
       }) high_is in
-      starts_case pages n.0 height k inner at.here leaf place a.is_child (one_less height n.0 n.1) at.from_low
-      (λ h. (all_parts (λ (r : Record). is_le (key_cmp k r.key)) leaf lead.behind
+      ⊎_elim
+      (λ q. (all_parts (λ (r : Record). is_le (key_cmp k r.key)) leaf lead.behind
       (all_parts (λ (r : Record). is_le (key_cmp k r.key)) lead.before (leaf ++ lead.behind)
-      (subst (λ l. list_all (λ (r : Record). is_le (key_cmp k r.key)) l ≡ true) lead.records h)).1).0)
+      (subst (λ l. list_all (λ (r : Record). is_le (key_cmp k r.key)) l ≡ true) lead.records (at.from_low q.0 k (sym place ∙ q.1) q.2))).1).0)
       (λ g. cut.starts pages at.here (a.told ∙ t) (record {
         pages = at.spells.pages;
         is_told = a.told ∙ at.spells.is_told;
@@ -197,11 +186,13 @@ cut_up old {new = new} page height {child = child} i {k = k} inner start {next =
         subtree =
             subst (λ c. Subtree at.spells.pages (height - 1) at.spells.is_root (c, at.spells.bounds) at.here at.spells.used) (sym a.is_child)
             at.spells.subtree;
-      }) high_is g)
+      }) high_is
+      (subst (λ m. Divides pages m child k) (sym (one_less height n.0 n.1))
+      (subst (λ c. Divides pages (suc n.0) c k) (ap (slice_index inner.children) place ∙ sym a.is_child) g)))
       (subst (λ (x : Inner). ((j : ℕ) × (div.place ≡ suc j) × (slice_get x.keys j ≡ Some k))
       ⊎ Divides pages (suc n.0) (slice_index x.children div.place) k) same div.parts);
   ends = λ pages rs s t e b.
-      let at = leads_below old page height rs inner i k a.some a.above s a.reads a.place in
+      let at = leads_below old page height inner i k a.some a.above s a.reads a.place in
       let n = height_above height a.some a.above in
       let high_is : at.spells.bounds.high ≡ next = at.is_high ∙ at.is_next ∙ ap (option_or (slice_get inner.keys i)) e ∙ sym is in
       let here_is : at.high ≡ next = at.is_next ∙ ap (option_or (slice_get inner.keys i)) e ∙ sym is in

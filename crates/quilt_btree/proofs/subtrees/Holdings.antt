@@ -10,7 +10,7 @@ use Rattle.quilt_node.specs.Pages.{is_ascending}
 use Rattle.quilt_node.specs.Tree.{Bounds, bounded, are_within}
 use Rattle.quilt_btree.specs.Subtree.{Reading, Row, Subtree}
 use Rattle.quilt_record.proofs.Orders.{le_lt}
-use Rattle.quilt_btree.proofs.subtrees.Trees.{leaf_list, inner_list, subtree_rises}
+use Rattle.quilt_btree.proofs.subtrees.Trees.{SpellsRow, leaf_list, inner_list, subtree_rises}
 
 -- a list with a first record
 pub record HasSome (rs : List Record) : Type 0 where
@@ -25,12 +25,12 @@ long_some (r ∷ rs) h = record { first = r; more = rs; is = refl }
 some_before : (rs first rest : List Record) → rs ≡ first ++ rest → HasSome first → HasSome rs
 some_before rs first rest e s = record { first = s.first; more = s.more ++ rest; is = e ∙ ap (λ l. l ++ rest) s.is }
 
-row_some : (S : Reading) → ((c : ℕ × Bounds) (rs : List Record) (used : List ℕ) → S c rs used → HasSome rs)
+row_some : {S : Reading} → ((c : ℕ × Bounds) (rs : List Record) (used : List ℕ) → S c rs used → HasSome rs)
     → (cs : List ℕ) (ks : List Key) (b : Bounds) (rs : List Record) (used : List ℕ) → 1 ≤ length cs
     → Row S (bounded cs ks b) rs used → HasSome rs
-row_some S one [] ks b rs used some row = absurd (omega arith)
-row_some S one (c ∷ cs) [] b rs used some row = some_before rs row.first row.rest row.records (one (c, b) row.first row.first_used row.here)
-row_some S one (c ∷ cs) (k ∷ ks) b rs used some row =
+row_some one [] ks b rs used some row = absurd (omega arith)
+row_some one (c ∷ cs) [] b rs used some row = some_before rs row.first row.rest row.records (one (c, b) row.first row.first_used row.here)
+row_some one (c ∷ cs) (k ∷ ks) b rs used some row =
     some_before rs row.first row.rest row.records (one (c, record { low = b.low; high = Some k }) row.first row.first_used row.here)
 
 pub subtree_some : (pages : List (List ℕ)) (height : ℕ) (is_root : Bool) (at : ℕ × Bounds) (rs : List Record) (used : List ℕ)
@@ -39,7 +39,7 @@ subtree_some pages zero is_root at rs used s = absurd s
 subtree_some pages (suc zero) is_root at rs used s = long_some rs (leaf_list (slice_index_or pages at.0 []) rs s.page).least
 subtree_some pages (suc (suc height)) is_root at rs used s =
     let two = (inner_list (length pages) (slice_index_or pages at.0 []) s.inner s.page).least in
-    row_some (Subtree pages (suc height) false) (λ c ss u t. subtree_some pages (suc height) false c ss u t) s.inner.children s.inner.keys at.1 rs
+    row_some {S = Subtree pages (suc height) false} (λ c ss u t. subtree_some pages (suc height) false c ss u t) s.inner.children s.inner.keys at.1 rs
     s.under (omega arith) s.children
 
 -- the bound below is strictly smaller than the one above where a record lies between
@@ -53,13 +53,14 @@ low_strict low high rs s w =
     let u = and_parts (is_le (key_cmp low s.first.key)) (is_lt (key_cmp s.first.key high)) t.0 in
     le_lt low s.first.key high u.0 u.1
 
-pub ascends_from : (pages : List (List ℕ)) (height : ℕ) (cs : List ℕ) (ks : List Key) (low : Key) (high : Option Key) (rs : List Record)
-    (used : List ℕ) → 1 ≤ length cs → is_ascending ks ≡ true
-    → Row (Subtree pages (suc height) false) (bounded cs ks (record { low = Some low; high = high })) rs used → is_ascending (low ∷ ks) ≡ true
-ascends_from pages height [] ks low high rs used some a row = absurd (omega arith)
-ascends_from pages height (c ∷ cs) [] low high rs used some a row = refl
-ascends_from pages height (c ∷ cs) (k ∷ ks) low high rs used some a row =
+pub ascends_from : (pages : List (List ℕ)) (height : ℕ) (cs : List ℕ) (ks : List Key) (low : Key) (high : Option Key) {rs : List Record}
+    → (1 ≤ length cs) × (is_ascending ks ≡ true)
+    → SpellsRow (Subtree pages (suc height) false) (bounded cs ks (record { low = Some low; high = high })) rs → is_ascending (low ∷ ks) ≡ true
+ascends_from pages height [] ks low high p r = absurd (let some = p.0 in omega arith)
+ascends_from pages height (c ∷ cs) [] low high p r = refl
+ascends_from pages height (c ∷ cs) (k ∷ ks) low high p r =
+    let row = r.row in
     let at : ℕ × Bounds = (c, record { low = Some low; high = Some k }) in
     let rises = subtree_rises pages (suc height) false at row.first row.first_used row.here in
     and_from (is_lt (key_cmp low k)) (is_ascending (k ∷ ks))
-    (low_strict low k row.first (subtree_some pages (suc height) false at row.first row.first_used row.here) rises.within) a
+    (low_strict low k row.first (subtree_some pages (suc height) false at row.first row.first_used row.here) rises.within) p.1

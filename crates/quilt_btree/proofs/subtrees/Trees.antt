@@ -9,7 +9,6 @@ use Rattle.std.specs.Str.{bytes_eq}
 use Rattle.std.proofs.lemmas.List.{append-nil}
 use Rattle.std.proofs.lemmas.List.FromFn.{length-map-range_with_len}
 use Rattle.std.proofs.lemmas.Slice.Eq.{bytes_eq-Decides}
-use Rattle.std.proofs.lemmas.Bool.Decides.{nat_tests}
 use Rattle.quilt_record.specs.declared.key.Key.{Key}
 use Rattle.quilt_record.specs.declared.record.Record.{Record}
 use Rattle.quilt_record.specs.Records.{key_cmp}
@@ -126,28 +125,39 @@ pub keys_append : (xs ys : List Record) → map (λ (r : Record). r.key) (xs ++ 
 keys_append [] ys = refl
 keys_append (x ∷ xs) ys = ap (λ l. x.key ∷ l) (keys_append xs ys)
 
+-- the places from left to right spell these records, in some pages
+pub record SpellsRow (S : Reading) (places : List (ℕ × Bounds)) (rs : List Record) : Type 0 where
+  pub used : List ℕ
+  pub row : Row S places rs used
+
+-- so many children with these keys between them, which ascend within bounds
+pub record KeysFit (children : ℕ) (ks : List Key) (b : Bounds) : Type 0 where
+  pub many : children ≡ length ks + 1
+  pub ascends : is_ascending ks ≡ true
+  pub within : are_within b ks ≡ true
+
 -- the records of rising children rise
-pub row_rises : (S : Reading) → ((c : ℕ × Bounds) (rs : List Record) (used : List ℕ) → S c rs used → IsRising c.1 (map (λ r. r.key) rs))
-    → (cs : List ℕ) (ks : List Key) (b : Bounds) (rs : List Record) (used : List ℕ) → length cs ≡ length ks + 1 → is_ascending ks ≡ true
-    → are_within b ks ≡ true
+pub row_rises : {S : Reading} → ((c : ℕ × Bounds) (rs : List Record) (used : List ℕ) → S c rs used → IsRising c.1 (map (λ r. r.key) rs))
+    → (cs : List ℕ) (ks : List Key) (b : Bounds) (rs : List Record) (used : List ℕ) → KeysFit (length cs) ks b
     → Row S (bounded cs ks b) rs used → IsRising b (map (λ r. r.key) rs)
-row_rises S one [] ks b rs used n a w row = absurd (no_child (length ks) n)
+row_rises one [] ks b rs used f row = absurd (no_child (length ks) f.many)
   where
     no_child : (n : ℕ) → 0 ≡ n + 1 → ⊥
     no_child n h = omega arith
-row_rises S one (c ∷ []) [] b rs used n a w row =
+row_rises one (c ∷ []) [] b rs used f row =
     let same : rs ≡ row.first = row.records ∙ ap (λ l. row.first ++ l) row.after.0 ∙ append-nil row.first in
     subst (λ (l : List Record). IsRising b (map (λ r. r.key) l)) (sym same) (one (c, b) row.first row.first_used row.here)
-row_rises S one (c ∷ d ∷ cs) [] b rs used n a w row = absurd (more (length cs) n)
+row_rises one (c ∷ d ∷ cs) [] b rs used f row = absurd (more (length cs) f.many)
   where
     more : (n : ℕ) → suc (suc n) ≡ 0 + 1 → ⊥
     more n h = omega arith
-row_rises S one (c ∷ cs) (k ∷ ks) b rs used n a w row =
-    let t = and_parts (is_above b.low k && is_below b.high k) (are_within b ks) w in
+row_rises one (c ∷ cs) (k ∷ ks) b rs used f row =
+    let t = and_parts (is_above b.low k && is_below b.high k) (are_within b ks) f.within in
     let u = and_parts (is_above b.low k) (is_below b.high k) t.0 in
     let first = one (c, record { low = b.low; high = Some k }) row.first row.first_used row.here in
-    let rest = row_rises S one cs ks (record { low = Some k; high = b.high }) row.rest row.rest_used (fewer (length cs) (length ks) n)
-    (ascending_rest k ks a) (within_rest b k ks a w) row.after in
+    let rest = row_rises one cs ks (record { low = Some k; high = b.high }) row.rest row.rest_used
+    (record { many = fewer (length cs) (length ks) f.many; ascends = ascending_rest k ks f.ascends; within = within_rest b k ks f.ascends f.within })
+    row.after in
     subst (λ (l : List Record). IsRising b (map (λ r. r.key) l)) (sym row.records)
     (subst (IsRising b) (sym (keys_append row.first row.rest))
     (rising_join b k (map (λ r. r.key) row.first) (map (λ r. r.key) row.rest) u.0 u.1 first rest))
@@ -163,5 +173,5 @@ subtree_rises pages (suc zero) is_root at rs used s =
     record { ascends = (leaf_list (slice_index_or pages at.0 []) rs s.page).ascends; within = s.within }
 subtree_rises pages (suc (suc height)) is_root at rs used s =
     let page = inner_list (length pages) (slice_index_or pages at.0 []) s.inner s.page in
-    row_rises (Subtree pages (suc height) false) (λ c ss u t. subtree_rises pages (suc height) false c ss u t)
-    s.inner.children s.inner.keys at.1 rs s.under page.keys page.ascends s.within s.children
+    row_rises {S = Subtree pages (suc height) false} (λ c ss u t. subtree_rises pages (suc height) false c ss u t)
+    s.inner.children s.inner.keys at.1 rs s.under (record { many = page.keys; ascends = page.ascends; within = s.within }) s.children

@@ -55,12 +55,12 @@ pub fresh_early : (late early visited : List ℕ) → AreFreshPages (late ++ ear
 fresh_early [] early visited f = f
 fresh_early (p ∷ late) early visited f = fresh_early late early visited f.1
 
-leaf_found : (pages : List (List ℕ)) (is_root : Bool) (at : ℕ × Bounds) (visited : List ℕ) (rs : List Record) (now : List ℕ)
-    (o : Option (List Record)) → leaf_of (slice_index_or pages at.0 []) ≡ o
+leaf_found : (pages : List (List ℕ)) (is_root : Bool) (at : ℕ × Bounds) (visited : List ℕ) {rs : List Record} {now : List ℕ}
+    {o : Option (List Record)} → leaf_of (slice_index_or pages at.0 []) ≡ o
     → list_any (λ v. v == at.0) visited ≡ false
     → leaf_walk is_root at.1 at.0 visited o ≡ Whole rs now → Found (IsLeafPlace pages is_root at) visited rs now
-leaf_found pages is_root at visited rs now None page seen h = cc
-leaf_found pages is_root at visited rs now (Some ss) page seen h =
+leaf_found pages is_root at visited {o = None} page seen h = cc
+leaf_found pages is_root at visited {rs} {now} {o = (Some ss)} page seen h =
     let t = then_whole ((is_root || nat_le 72 (length ss)) && are_within at.1 (map (λ r. r.key) ss)) (Whole ss (at.0 ∷ visited)) at.0 rs now h in
     let both = and_parts (is_root || nat_le 72 (length ss)) (are_within at.1 (map (λ r. r.key) ss)) t.0 in
     let found = t.1 in
@@ -74,14 +74,14 @@ leaf_found pages is_root at visited rs now (Some ss) page seen h =
     }
 
 module _ (S : Reading) (visit : ℕ × Bounds → List ℕ → Walk) where
-  row_step : (c : ℕ × Bounds) (cs : List (ℕ × Bounds)) (before : List Record) (visited : List ℕ) (rs : List Record) (now : List ℕ)
+  row_step : (c : ℕ × Bounds) (cs : List (ℕ × Bounds)) (before : List Record) (visited : List ℕ) {rs : List Record} {now : List ℕ}
       → ((ss : List Record) (later : List ℕ) → visit c visited ≡ Whole ss later → Found (S c) visited ss later)
       → ((ss : List Record) (later : List ℕ) → each_child visit cs (Whole ss later) ≡ Whole rs now → FoundBehind (Row S cs) ss later rs now)
-      → (w : Walk) → visit c visited ≡ w → each_child visit cs (and_then (Whole before visited) (λ v. w)) ≡ Whole rs now
+      → {w : Walk} → visit c visited ≡ w → each_child visit cs (and_then (Whole before visited) (λ v. w)) ≡ Whole rs now
       → FoundBehind (Row S (c ∷ cs)) before visited rs now
-  row_step c cs before visited rs now one others (Damaged p) e h =
+  row_step c cs before visited one others {w = (Damaged p)} e h =
       let stays = damaged_stays visit cs p in cc
-  row_step c cs before visited rs now one others (Whole ss later) e h =
+  row_step c cs before visited one others {w = (Whole ss later)} e h =
       let first = one ss later e in
       let rest = others (before ++ ss) later h in
       record {
@@ -112,7 +112,7 @@ module _ (S : Reading) (visit : ℕ × Bounds → List ℕ → Walk) where
       let later : now ≡ visited = cc in
       record { more = []; is_rs = same ∙ sym (append-nil before); found = record { used = []; spells = (refl, refl); fresh = tt; is_now = later } }
   row_found one (c ∷ cs) before visited rs now h =
-      row_step c cs before visited rs now (one c visited) (λ ss later e. row_found one cs ss later rs now e) (visit c visited) refl h
+      row_step c cs before visited (one c visited) (λ ss later e. row_found one cs ss later rs now e) refl h
 
 pub same_number : (m n : ℕ) → (m == n) ≡ true → m ≡ n
 same_number m n h = grind (arith, nat_tests)
@@ -121,12 +121,12 @@ pub number_test : (m n : ℕ) → m ≡ n → (m == n) ≡ true
 number_test m n h = grind (arith, nat_tests)
 
 module _ (S : Reading) (visit : ℕ × Bounds → List ℕ → Walk) where
-  inner_found : (pages : List (List ℕ)) (height : ℕ) (is_root : Bool) (at : ℕ × Bounds) (visited : List ℕ) (rs : List Record) (now : List ℕ)
-      → ((c : ℕ × Bounds) (v : List ℕ) (ss : List Record) (later : List ℕ) → visit c v ≡ Whole ss later → Found (S c) v ss later) → (o : Option Inner)
+  inner_found : (pages : List (List ℕ)) (height : ℕ) (is_root : Bool) (at : ℕ × Bounds) {visited : List ℕ} {rs : List Record} {now : List ℕ}
+      → ((c : ℕ × Bounds) (v : List ℕ) (ss : List Record) (later : List ℕ) → visit c v ≡ Whole ss later → Found (S c) v ss later) → {o : Option Inner}
       → inner_of (length pages) (slice_index_or pages at.0 []) ≡ o → list_any (λ v. v == at.0) visited ≡ false
       → inner_walk visit height is_root at.1 at.0 visited o ≡ Whole rs now → Found (IsInnerPlace S pages height is_root at) visited rs now
-  inner_found pages height is_root at visited rs now one None page seen h = cc
-  inner_found pages height is_root at visited rs now one (Some inner) page seen h =
+  inner_found pages height is_root at one {o = None} page seen h = cc
+  inner_found pages height is_root at {visited} {rs} {now} one {o = (Some inner)} page seen h =
       let t = then_whole _ _ _ _ _ h in
       let all = and_parts ((inner.height == height) && (is_root || nat_le 127 (length inner.children))) (are_within at.1 inner.keys) t.0 in
       let both = and_parts (inner.height == height) (is_root || nat_le 127 (length inner.children)) all.0 in
@@ -166,11 +166,11 @@ pub walk_found : (pages : List (List ℕ)) (height : ℕ) (is_root : Bool) (at :
 walk_found pages zero is_root at visited rs now h = cc
 walk_found pages (suc zero) is_root at visited rs now h =
     let t = else_whole _ _ _ _ _ h in
-    leaf_found pages is_root at visited rs now (leaf_of (slice_index_or pages at.0 [])) refl t.0 t.1
+    leaf_found pages is_root at visited refl t.0 t.1
 walk_found pages (suc (suc height)) is_root at visited rs now h =
     let t = else_whole _ _ _ _ _ h in
-    inner_found (Subtree pages (suc height) false) (walk pages (suc height) false) pages (suc (suc height)) is_root at visited rs now
-    (λ c v ss later e. walk_found pages (suc height) false c v ss later e) (inner_of (length pages) (slice_index_or pages at.0 [])) refl t.0 t.1
+    inner_found (Subtree pages (suc height) false) (walk pages (suc height) false) pages (suc (suc height)) is_root at
+    (λ c v ss later e. walk_found pages (suc height) false c v ss later e) refl t.0 t.1
 
 pub if_true : (b : Bool) (v w : Walk) → b ≡ true → (if b then v else w) ≡ v
 if_true true v w h = refl
@@ -181,18 +181,18 @@ if_false true v w h = cc
 if_false false v w h = refl
 
 -- and a subtree of such pages is found whole
-pub walk_again : (pages : List (List ℕ)) (height : ℕ) (is_root : Bool) (at : ℕ × Bounds) (visited : List ℕ) (rs : List Record) (used : List ℕ)
+pub walk_again : (pages : List (List ℕ)) (height : ℕ) (is_root : Bool) (at : ℕ × Bounds) (visited : List ℕ) {rs : List Record} (used : List ℕ)
     → Subtree pages height is_root at rs used → AreFreshPages used visited → walk pages height is_root at visited ≡ Whole rs (used ++ visited)
-walk_again pages zero is_root at visited rs used s fresh = absurd s
-walk_again pages (suc zero) is_root at visited rs used s fresh =
+walk_again pages zero is_root at visited used s fresh = absurd s
+walk_again pages (suc zero) is_root at visited used s fresh =
     let new : AreFreshPages (at.0 ∷ []) visited = rw s.is_used at fresh in
     if_false _ _ _ new.0 ∙ ap (leaf_walk is_root at.1 at.0 visited) s.page ∙ if_true _ _ _ (and_from _ _ s.enough s.within)
     ∙ rw s.is_used refl
-walk_again pages (suc (suc height)) is_root at visited rs used s fresh =
+walk_again pages (suc (suc height)) is_root at visited {rs} used s fresh =
     let new : AreFreshPages (s.under ++ at.0 ∷ []) visited = rw s.is_used at fresh in
     if_false _ _ _ (fresh_early s.under (at.0 ∷ []) visited new).0
     ∙ ap (inner_walk (walk pages (suc height) false) (suc (suc height)) is_root at.1 at.0 visited) s.page
     ∙ if_true _ _ _ (and_from _ _ (and_from _ _ (number_test s.inner.height (suc (suc height)) s.is_height) s.enough) s.within)
-    ∙ row_walked (Subtree pages (suc height) false) (walk pages (suc height) false) (λ c v ss u t f. walk_again pages (suc height) false c v ss u t f)
+    ∙ row_walked (Subtree pages (suc height) false) (walk pages (suc height) false) (λ c v ss u t f. walk_again pages (suc height) false c v u t f)
     (bounded s.inner.children s.inner.keys at.1) [] (at.0 ∷ visited) rs s.under s.children (fresh_late s.under (at.0 ∷ []) visited new)
     ∙ ap (λ l. Whole rs l) (sym (append_assoc s.under (at.0 ∷ []) visited) ∙ ap (λ l. l ++ visited) (sym s.is_used))

@@ -276,42 +276,48 @@ no_besides (Err e) told height inner i f = no_beside told height inner i e f
     no_beside : (told : Option (List (List ℕ))) (height : ℕ) (inner : Inner) (i : ℕ) (e : Stop) → NamesPage 1 e → NamesBeside told height inner i e
     no_beside told height inner i e n = λ q is ne. absurd (ne (zero q (subst (NamesPage 1) is n)))
 
+-- two neighbours among the children of a page, and one of its children
+pub record AreNeighbours (inner : Inner) (i j left right child : ℕ) : Type 0 where
+  pub in_range : j + 1 < length inner.children
+  pub is_left : left ≡ slice_index inner.children j
+  pub is_right : right ≡ slice_index inner.children (j + 1)
+  pub is_child : child ≡ slice_index inner.children i
+
 -- the leaf beside a child
-pub names_beside : (told : Option (List (List ℕ))) (height : ℕ) (inner : Inner) (i j : ℕ) {left right child : ℕ} (spare : ℕ) (e : Stop) → 2 ≤ height
-    → j + 1 < length inner.children → left ≡ slice_index inner.children j → right ≡ slice_index inner.children (j + 1)
-    → child ≡ slice_index inner.children i → (spare ≢ 0 → ((spare ≡ left) ⊎ (spare ≡ right)) × (spare ≢ child)) → NamesSpare told (height - 1) spare e
+pub names_beside : {told : Option (List (List ℕ))} {height : ℕ} {inner : Inner} {i j left right child : ℕ} (spare : ℕ) (e : Stop) → 2 ≤ height
+    → AreNeighbours inner i j left right child → (spare ≢ 0 → ((spare ≡ left) ⊎ (spare ≡ right)) × (spare ≢ child)) → NamesSpare told (height - 1) spare e
     → NamesBeside told height inner i e
-names_beside told height inner i j {left = left} {right = right} {child = child} spare e many lt l r c other names = λ q is ne.
+names_beside {told} {height} {inner} {i} {j} {left} {right} {child} spare e many two other names = λ q is ne.
     let n = names q is ne in
     let o = other n.1 in
-    let two : height ≡ 2 = let h = n.0 in omega arith in
-    at o.0 two o.1 n.2
+    let tall : height ≡ 2 = let h = n.0 in omega arith in
+    at o.0 tall o.1 n.2
   where
     at : ((spare ≡ left) ⊎ (spare ≡ right)) → height ≡ 2 → spare ≢ child → NamesBad told 1 spare e → IsBeside told height inner i e
-    at (inl same) two apart bad = record {
-      two = two;
+    at (inl same) tall apart bad = record {
+      two = tall;
       place = j;
-      in_range = omega arith;
-      other = λ z. apart (same ∙ l ∙ z ∙ sym c);
-      bad = subst (λ s. NamesBad told 1 s e) (same ∙ l) bad;
+      in_range = let lt = two.in_range in omega arith;
+      other = λ z. apart (same ∙ two.is_left ∙ z ∙ sym two.is_child);
+      bad = subst (λ s. NamesBad told 1 s e) (same ∙ two.is_left) bad;
     }
-    at (inr same) two apart bad = record {
-      two = two;
+    at (inr same) tall apart bad = record {
+      two = tall;
       place = j + 1;
-      in_range = lt;
-      other = λ z. apart (same ∙ r ∙ z ∙ sym c);
-      bad = subst (λ s. NamesBad told 1 s e) (same ∙ r) bad;
+      in_range = two.in_range;
+      other = λ z. apart (same ∙ two.is_right ∙ z ∙ sym two.is_child);
+      bad = subst (λ s. NamesBad told 1 s e) (same ∙ two.is_right) bad;
     }
 
 -- and it is bad at the call, since it was not written
 pub beside_named : {T : Type 0} (result : Result T Stop) {told mid : Option (List (List ℕ))} (now : Option (List (List ℕ))) {page height size : ℕ}
-    (i : ℕ) {child : ℕ} {bytes : List ℕ} (inner : Inner) → IsRead told mid page height size bytes → inner_of size bytes ≡ Some inner
+    (i : ℕ) {child : ℕ} {bytes : List ℕ} {inner : Inner} → IsRead told mid page height size bytes → inner_of size bytes ≡ Some inner
     → child ≡ slice_index inner.children i → (height - 1 ≡ 1 → Goes (OthersStay child) mid now) → IfErr result (NamesBeside now height inner i)
     → IfErr result (λ e. e ≢ Damaged 0 → NamesBad told height page e)
-beside_named (Ok v) now i inner r is c others f = f
-beside_named (Err Device) now i inner r is c others f = λ ne. tt
-beside_named (Err Memory) now i inner r is c others f = λ ne. tt
-beside_named (Err (Damaged q)) {told = told} {mid = mid} now {page = page} {height = height} {size = size} i {child = child} {bytes = bytes} inner r is c others f
+beside_named (Ok v) now i r is c others f = f
+beside_named (Err Device) now i r is c others f = λ ne. tt
+beside_named (Err Memory) now i r is c others f = λ ne. tt
+beside_named (Err (Damaged q)) {told = told} {mid = mid} now {page = page} {height = height} {size = size} i {child = child} {bytes = bytes} {inner} r is c others f
     = λ ne.
     let b = f q refl (λ z. ne (ap Damaged z)) in
     let one : height - 1 ≡ 1 = let t = b.two in omega arith in

@@ -85,34 +85,32 @@ length_last pages (suc (suc h)) page =
     (λ c. length_last pages (suc h) c) in
     omega arith
 
-few_floor : (under : ℕ → List ℕ) (finds : ℕ → Bool) (last : ℕ → List ℕ) (k : Key) (m n : ℕ) (o : Option Inner) → ((c : ℕ) → length (under c) ≤ m)
-    → ((c : ℕ) → length (last c) ≤ n)
-    → length (floor_below under finds last k o) ≤ m + n
-few_floor under finds last k m n None f g = omega arith
-few_floor under finds last k m n (Some inner) f g =
+few_floor : (pages : List (List ℕ)) (k : Key) (h m : ℕ) (o : Option Inner) → ((c : ℕ) → length (floor_pages pages k h c) ≤ m)
+    → length (floor_below (floor_pages pages k h) (finds_floor pages k h) (last_pages pages h) k o) ≤ m + h
+few_floor pages k h m None f = omega arith
+few_floor pages k h m (Some inner) f =
+    let finds = finds_floor pages k h in
     let c = slice_index inner.children (child_place k inner) in
     let a = f c in
-    let b = either (finds c || child_place k inner == 0) (last (slice_index inner.children (child_place k inner - 1)))
-    (g (slice_index inner.children (child_place k inner - 1))) in
-    omega (arith, length-append (under c) (before_child finds last inner (child_place k inner)))
+    let b = either (finds c || child_place k inner == 0) (last_pages pages h (slice_index inner.children (child_place k inner - 1)))
+    (length_last pages h (slice_index inner.children (child_place k inner - 1))) in
+    omega (arith, length-append (floor_pages pages k h c) (before_child finds (last_pages pages h) inner (child_place k inner)))
   where
-    either : (b : Bool) (l : List ℕ) → length l ≤ n → length (if b then [] else l) ≤ n
-    either true l h = omega arith
-    either false l h = h
+    either : (b : Bool) (l : List ℕ) → length l ≤ h → length (if b then [] else l) ≤ h
+    either true l e = omega arith
+    either false l e = e
 
 floor_one : (pages : List (List ℕ)) (k : Key) (page : ℕ) → length (floor_pages pages k 1 page) ≤ 1
 floor_one pages k page = omega arith
 
 floor_two : (pages : List (List ℕ)) (k : Key) (page : ℕ) → length (floor_pages pages k 2 page) ≤ 3
 floor_two pages k page =
-    let below = few_floor (floor_pages pages k 1) (finds_floor pages k 1) (last_pages pages 1) k 1 1
-    (inner_of (length pages) (slice_index_or pages page [])) (floor_one pages k) (λ c. length_last pages 1 c) in
+    let below = few_floor pages k 1 1 (inner_of (length pages) (slice_index_or pages page [])) (floor_one pages k) in
     omega arith
 
 floor_three : (pages : List (List ℕ)) (k : Key) (page : ℕ) → length (floor_pages pages k 3 page) ≤ 6
 floor_three pages k page =
-    let below = few_floor (floor_pages pages k 2) (finds_floor pages k 2) (last_pages pages 2) k 3 2
-    (inner_of (length pages) (slice_index_or pages page [])) (floor_two pages k) (λ c. length_last pages 2 c) in
+    let below = few_floor pages k 2 3 (inner_of (length pages) (slice_index_or pages page [])) (floor_two pages k) in
     omega arith
 
 pub length_floor : (pages : List (List ℕ)) (k : Key) (height page : ℕ) → height ≤ 3 → length (floor_pages pages k height page) ≤ 6

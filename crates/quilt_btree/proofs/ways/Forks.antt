@@ -5,7 +5,6 @@ use Rattle.std.proofs.Common.{Ok, Err, IfOk, IfErr, IfSome, OnOk, slice_index, s
 use Rattle.std.specs.List.{last_or}
 use Rattle.std.specs.Ordering.{is_lt}
 use Rattle.std.proofs.lemmas.List.{append-nil}
-use Rattle.std.proofs.lemmas.Bool.Decides.{nat_tests}
 use Rattle.quilt_record.specs.declared.key.Key.{Key}
 use Rattle.quilt_record.specs.declared.record.Record.{Record}
 use Rattle.quilt_record.specs.Records.{key_cmp}
@@ -22,7 +21,7 @@ use Rattle.quilt_btree.specs.Floors.{child_place, last_pages, floor_pages, Touch
 use Rattle.quilt_btree.specs.Searches.{IsFork, AreOf, IsLeafFor}
 use Rattle.quilt_btree.proofs.lists.Rising.{all_append}
 use Rattle.quilt_btree.proofs.lists.Lists.{IsAmong, value_between}
-use Rattle.quilt_btree.proofs.stores.Held.{OneFree}
+use Rattle.quilt_btree.proofs.stores.Held.{IsTouched}
 use Rattle.quilt_btree.proofs.subtrees.Descending.{height_above, leads_below, along_told, AtFloor, ends_below, last_up}
 use Rattle.quilt_btree.proofs.subtrees.Trees.{inner_list, leaf_list}
 use Rattle.quilt_btree.proofs.subtrees.Descents.{place_in}
@@ -95,7 +94,7 @@ module _ (old new : Option (List (List ℕ))) (page height size : ℕ) (bytes : 
   forked k child prior rs r fork s =
       let h = page_here r s in
       let f = fork h.inner h.is in
-      let low = leads_below old page height rs h.inner f.place k r.some r.above s h.reads f.is_place in
+      let low = leads_below old page height h.inner f.place k r.some r.above s h.reads f.is_place in
       record {
         inner = h.inner;
         i = f.place;
@@ -302,13 +301,13 @@ pub gap_before : (k : Key) (rs : List Record) (i : ℕ) → IsGap k rs i → i �
 gap_before k rs i g ne = omega (arith, g.in_range)
 
 module _ (old new : Option (List (List ℕ))) (page height size : ℕ) where
-  pub again_last : (bytes : List ℕ) (child : ℕ) (h0 h1 : Option (List ℕ)) (a b c : Option ℕ) → IsRead old new page height size bytes
-      → IsLast size bytes child → Goes (Touches page) h0 h1 → OneFree page h0 a b
+  pub again_last : {bytes : List ℕ} {child : ℕ} {h0 h1 : Option (List ℕ)} {a b : Option ℕ} (c : Option ℕ) → IsRead old new page height size bytes
+      → IsLast size bytes child → IsTouched page h0 h1 a b
       → ((rs : List Record) → SpellsSubtree new child (height - 1) rs → ReadsNone (λ pages. last_pages pages (height - 1) child) new h1 b c)
       → (rs : List Record) → SpellsSubtree old page height rs → ReadsNone (λ pages. last_pages pages height page) old h0 a c
-  again_last bytes child h0 h1 a b c r is t f g = λ rs s.
+  again_last {bytes} {child} c r is t g = λ rs s.
       let at = ended page height bytes old new size child rs r is s in
-      last_again old new page height child (length at.inner.children) at.inner h0 h1 a b c at.at t f (g at.here at.spells)
+      last_again old new page height child (length at.inner.children) at.inner c at.at t (g at.here at.spells)
 
   pub read_ok : (n : ℕ) (bytes : List ℕ) → 1 ≤ height → height ≢ 1 → new ≡ old → IfSome old (λ pages. length pages ≡ n) → size ≡ n
       → AreOf old page bytes → IsRead old new page height size bytes
@@ -342,11 +341,8 @@ pub whole_on : {T : Type 0} (r : Result T Stop) (told : Option (List (List ℕ))
 whole_on (Err e) told t P ne f = f
 whole_on (Ok v) told t P ne f = λ rs is. f rs (tree_spells told t rs ne is).0
 
-pub first_whole : {T : Type 0} (r : Result T Stop) (told : Option (List (List ℕ))) (t : Tree) (k : Key) (old new : Option (List ℕ))
-    → t.height ≢ 0 → t.height ≤ 3
-    → OnOk r ((rs : List Record) → SpellsSubtree told t.root t.height rs → TouchesInTurn (λ pages. floor_pages pages k t.height t.root) told old new)
+pub first_whole : {T : Type 0} (r : Result T Stop) (told : Option (List (List ℕ))) (t : Tree) (k : Key) (old new : Option (List ℕ)) → t.height ≤ 3
+    → OnOk r ((rs : List Record) → IsTree told t rs → TouchesInTurn (λ pages. floor_pages pages k t.height t.root) told old new)
     → OnOk r ((rs : List Record) → IsTree told t rs → HoldsFirst (λ pages. floor_pages pages k t.height t.root) told old new)
-first_whole {T} (Err e) told t k old new ne le f = f
-first_whole {T} (Ok v) told t k old new ne le f = λ rs is.
-    let o : Result T Stop = Ok v in
-    root_first o told k t.height t.root old new le (f rs (tree_spells told t rs ne is).0)
+first_whole (Err e) told t k old new le f = f
+first_whole (Ok v) told t k old new le f = λ rs is. root_first told k t.height t.root old new le (f rs is)

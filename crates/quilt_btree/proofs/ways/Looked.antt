@@ -91,13 +91,13 @@ module _ (told : Option (List (List ℕ))) (page height : ℕ) where
   leaf_sound (Ok v) one f = f
   leaf_sound (Err e) one f = λ rs s. f height rs one s
 
-module _ (told : Option (List (List ℕ))) (page n size : ℕ) (bytes : List ℕ) where
-  pub inner_sound : (e : Stop) → n ≡ size → IfSome told (λ pages. length pages ≡ size) → IfSome told (λ pages. bytes ≡ slice_index_or pages page [])
-      → AreNoInner n bytes → (height : ℕ) (rs : List Record) → 1 ≤ height → height ≢ 1 → SpellsSubtree told page height rs → IsNotDamage e
-  inner_sound e same many shown none height rs some above s =
+module _ (told : Option (List (List ℕ))) (page n size : ℕ) (bytes : List ℕ) (same : n ≡ size) (many : IfSome told (λ pages. length pages ≡ size))
+    (shown : IfSome told (λ pages. bytes ≡ slice_index_or pages page [])) where
+  pub inner_sound : (e : Stop) → AreNoInner n bytes → (height : ℕ) (rs : List Record) → 1 ≤ height → height ≢ 1 → SpellsSubtree told page height rs
+      → IsNotDamage e
+  inner_sound e none height rs some above s =
       forks told told page height n bytes e (read_at told page height n size bytes some above same many shown) none rs s
 
-  pub inner_bad : n ≡ size → IfSome told (λ pages. length pages ≡ size) → IfSome told (λ pages. bytes ≡ slice_index_or pages page [])
-      → AreNoInner n bytes → (height : ℕ) → 1 ≤ height → height ≢ 1 → NamesBad told height page (Damaged page)
-  inner_bad same many shown none height some above =
+  pub inner_bad : AreNoInner n bytes → (height : ℕ) → 1 ≤ height → height ≢ 1 → NamesBad told height page (Damaged page)
+  inner_bad none height some above =
       bad_inner told told page height n bytes (read_at told page height n size bytes some above same many shown) none

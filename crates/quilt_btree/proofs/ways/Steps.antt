@@ -53,7 +53,7 @@ step_spells d rs s =
     let is = d.is_read in
     let h = page_here is s in
     let st = d.steps h.inner h.is in
-    let low = leads_below d.old d.page d.height rs h.inner st.place d.key is.some is.above s h.reads st.is_place in (
+    let low = leads_below d.old d.page d.height h.inner st.place d.key is.some is.above s h.reads st.is_place in (
       low.here,
       subst (λ c. SpellsSubtree d.new c (d.height - 1) low.here) (sym st.child_is)
           (along_told d.old d.new (slice_index h.inner.children st.place) (d.height - 1) low.here is.told low.spells),
@@ -66,8 +66,8 @@ step_led d v leaf f rs s top =
     let is = d.is_read in
     let h = page_here is s in
     let st = d.steps h.inner h.is in
-    leads_up (Ok v) leaf d.page d.height h.inner d.start is.told is.some is.above h.reads st.is_place
-    st.child_is st.next_is f rs s top
+    leads_up (Ok v) leaf d.start
+    (record { told = is.told; some = is.some; above = is.above; reads = h.reads; place = st.is_place; is_child = st.child_is }) st.next_is f rs s top
 
 step_cut : (d : Down) (leaf : List Record) (high : Option Key)
     → ((rs : List Record) (s : SpellsSubtree d.new d.child (d.height - 1) rs) → s.bounds.high ≡ d.next → LeadsToLeaf d.key rs leaf d.next high)
@@ -77,7 +77,7 @@ step_cut d leaf high f g =
     let up : (rs : List Record) → SpellsSubtree d.old d.page d.height rs → IsCut d.old d.page d.height d.key d.start leaf high = λ rs s.
     let h = page_here is s in
     let st = d.steps h.inner h.is in
-    cut_up d.old d.page d.height st.place h.inner d.start
+    cut_up d.start
     (record { told = is.told; some = is.some; above = is.above; reads = h.reads; place = st.is_place; is_child = st.child_is }) st.next_is f g in
     record {
       starts = λ pages rs t s top e. (up rs s).starts pages rs t s top e;

@@ -13,7 +13,7 @@ use Rattle.quilt_types.specs.declared.stop.Stop.{Stop}
 use Rattle.quilt_btree.specs.Trees.{ReadsInner}
 use Rattle.quilt_btree.specs.Floors.{last_pages, finds_floor, floor_pages, before_child, child_place, TouchesInTurn, HoldsFirst, ReadsNone}
 use Rattle.quilt_btree.proofs.subtrees.Descending.{AtFloor}
-use Rattle.quilt_btree.proofs.stores.Held.{OneFree, one_turn, more_turns, turns_first, one_free, part_free, more_free}
+use Rattle.quilt_btree.proofs.stores.Held.{IsTouched, one_turn, more_turns, turns_first, one_touched, part_free, more_free}
 use Rattle.quilt_btree.proofs.ways.Floors.{last_splits, floor_splits, finds_splits, child_before, length_floor}
 
 -- the last child
@@ -30,13 +30,12 @@ module _ (old new : Option (List (List ℕ))) (page height child n : ℕ) (inner
       → last_pages pages height page ≡ page ∷ last_pages pages (height - 1) child
   last_parts a pages is = last_splits pages height child inner page n a.some a.above (a.reads pages is) a.many a.is_child
 
-  pub last_again : (h0 h1 : Option (List ℕ)) (a b c : Option ℕ) → AtLast old new page height child n inner → Goes (Touches page) h0 h1
-      → OneFree page h0 a b → ReadsNone (λ pages. last_pages pages (height - 1) child) new h1 b c
+  pub last_again : {h0 h1 : Option (List ℕ)} {a b : Option ℕ} (c : Option ℕ) → AtLast old new page height child n inner → IsTouched page h0 h1 a b
+      → ReadsNone (λ pages. last_pages pages (height - 1) child) new h1 b c
       → ReadsNone (λ pages. last_pages pages height page) old h0 a c
-  last_again h0 h1 a b c at t f g = λ pages is.
-      more_free (last_pages pages height page) (page ∷ []) (last_pages pages (height - 1) child) h0 h1 a b c
-      (last_parts at pages is)
-      (one_turn (page ∷ []) page h0 h1 refl t) (one_free (page ∷ []) [] page h0 a b refl f) (g pages (at.told ∙ is))
+  last_again c at t g = λ pages is.
+      more_free (last_pages pages height page) (page ∷ []) (last_pages pages (height - 1) child) c (last_parts at pages is) (one_touched t)
+      (g pages (at.told ∙ is))
 
 pub last_touched : (r : Result Record Stop) {old new : Option (List (List ℕ))} {page height child n : ℕ} {inner : Inner} (h0 h1 h2 : Option (List ℕ))
     → AtLast old new page height child n inner → Goes (Touches page) h0 h1
@@ -69,48 +68,54 @@ module _ (old new : Option (List (List ℕ))) (page height child i : ℕ) (k : K
       ∙ ap (λ l. page ∷ (under ++ l)) (none pages (a.told ∙ is)) ∙ ap (λ l. page ∷ l) (append-nil under) in
       more_turns (floor_pages pages k height page) (page ∷ []) under h0 h1 h2 parts (one_turn (page ∷ []) page h0 h1 refl t) (f pages (a.told ∙ is))
 
-  pub floor_again : (h0 h1 : Option (List ℕ)) (a b c : Option ℕ) → AtFloor old new page height child i k inner → i ≡ child_place k inner
-      → Goes (Touches page) h0 h1 → OneFree page h0 a b → ReadsNone (λ pages. floor_pages pages k (height - 1) child) new h1 b c
+  pub floor_again : {h0 h1 : Option (List ℕ)} {a b : Option ℕ} (c : Option ℕ) → AtFloor old new page height child i k inner → i ≡ child_place k inner
+      → IsTouched page h0 h1 a b → ReadsNone (λ pages. floor_pages pages k (height - 1) child) new h1 b c
       → ReadsNone (λ pages. floor_pages pages k height page) old h0 a c
-  floor_again h0 h1 a b c at place t f g = λ pages is.
+  floor_again {h1 = h1} {b = b} c at place t g = λ pages is.
       let under = floor_pages pages k (height - 1) child in
       let more = before_in pages k height inner i in
-      more_free (floor_pages pages k height page) (page ∷ []) (under ++ more) h0 h1 a b c (floor_parts at place pages is)
-      (one_turn (page ∷ []) page h0 h1 refl t) (one_free (page ∷ []) [] page h0 a b refl f)
+      more_free (floor_pages pages k height page) (page ∷ []) (under ++ more) c (floor_parts at place pages is) (one_touched t)
       (part_free (under ++ more) under more h1 b c refl (g pages (at.told ∙ is)))
 
+-- the child to which the key leads has no floor, and another stands before it
+pub record GoesBefore (old new newer : Option (List (List ℕ))) (page height child prior i : ℕ) (k : Key) (inner : Inner) : Type 0 where
+  pub at : AtFloor old new page height child i k inner
+  pub place : i ≡ child_place k inner
+  pub some : i ≢ 0
+  pub told : newer ≡ old
+  pub is_prior : prior ≡ slice_index inner.children (i - 1)
+  pub lacks : (pages : List (List ℕ)) → new ≡ Some pages → finds_floor pages k (height - 1) child ≡ false
+
 -- the last record before it too
+before_parts : {old new newer : Option (List (List ℕ))} {page height child prior i : ℕ} {k : Key} {inner : Inner}
+    → GoesBefore old new newer page height child prior i k inner → (pages : List (List ℕ)) → old ≡ Some pages
+    → floor_pages pages k height page ≡ page ∷ (floor_pages pages k (height - 1) child ++ last_pages pages (height - 1) prior)
+before_parts {old = old} {new = new} {page = page} {height = height} {child = child} {prior = prior} {i = i} {k = k} {inner = inner} a pages is =
+    floor_parts old new page height child i k inner a.at a.place pages is
+    ∙ ap (λ l. page ∷ (floor_pages pages k (height - 1) child ++ l))
+    (child_before pages k (height - 1) child prior i inner a.at.is_child a.is_prior (a.lacks pages (a.at.told ∙ is)) a.some)
+
 pub floor_touched_more : {old new newer : Option (List (List ℕ))} {page height child prior i : ℕ} {k : Key} {inner : Inner}
-    (h0 h1 h2 h3 : Option (List ℕ)) → AtFloor old new page height child i k inner → i ≡ child_place k inner → i ≢ 0 → newer ≡ old
-    → prior ≡ slice_index inner.children (i - 1) → ((pages : List (List ℕ)) → new ≡ Some pages → finds_floor pages k (height - 1) child ≡ false)
-    → Goes (Touches page) h0 h1 → TouchesInTurn (λ pages. floor_pages pages k (height - 1) child) new h1 h2
+    (h0 h1 h2 h3 : Option (List ℕ)) → GoesBefore old new newer page height child prior i k inner → Goes (Touches page) h0 h1
+    → TouchesInTurn (λ pages. floor_pages pages k (height - 1) child) new h1 h2
     → TouchesInTurn (λ pages. last_pages pages (height - 1) prior) newer h2 h3 → TouchesInTurn (λ pages. floor_pages pages k height page) old h0 h3
-floor_touched_more {old = old} {new = new} {page = page} {height = height} {child = child} {prior = prior} {i = i} {k = k} {inner = inner} h0 h1 h2 h3 a place ne
-    told was lacks t f g = λ pages is.
+floor_touched_more {page = page} {height = height} {child = child} {prior = prior} {k = k} h0 h1 h2 h3 a t f g = λ pages is.
     let under = floor_pages pages k (height - 1) child in
     let more = last_pages pages (height - 1) prior in
-    let parts : floor_pages pages k height page ≡ page ∷ (under ++ more) =
-    floor_parts old new page height child i k inner a place pages is
-    ∙ ap (λ l. page ∷ (under ++ l)) (child_before pages k (height - 1) child prior i inner a.is_child was (lacks pages (a.told ∙ is)) ne) in
-    more_turns (floor_pages pages k height page) (page ∷ []) (under ++ more) h0 h1 h3 parts (one_turn (page ∷ []) page h0 h1 refl t)
-    (more_turns (under ++ more) under more h1 h2 h3 refl (f pages (a.told ∙ is)) (g pages (told ∙ is)))
+    more_turns (floor_pages pages k height page) (page ∷ []) (under ++ more) h0 h1 h3 (before_parts a pages is) (one_turn (page ∷ []) page h0 h1 refl t)
+    (more_turns (under ++ more) under more h1 h2 h3 refl (f pages (a.at.told ∙ is)) (g pages (a.told ∙ is)))
 
-pub floor_again_more : {old new newer : Option (List (List ℕ))} {page height child prior i : ℕ} {k : Key} {inner : Inner} (h0 h1 h2 : Option (List ℕ))
-    (a b c d : Option ℕ) → AtFloor old new page height child i k inner → i ≡ child_place k inner → i ≢ 0 → newer ≡ old
-    → prior ≡ slice_index inner.children (i - 1) → ((pages : List (List ℕ)) → new ≡ Some pages → finds_floor pages k (height - 1) child ≡ false)
-    → Goes (Touches page) h0 h1 → OneFree page h0 a b → TouchesInTurn (λ pages. floor_pages pages k (height - 1) child) new h1 h2
+pub floor_again_more : {old new newer : Option (List (List ℕ))} {page height child prior i : ℕ} {k : Key} {inner : Inner} {h0 h1 : Option (List ℕ)}
+    (h2 : Option (List ℕ)) {a b : Option ℕ} (c d : Option ℕ) → GoesBefore old new newer page height child prior i k inner → IsTouched page h0 h1 a b
+    → TouchesInTurn (λ pages. floor_pages pages k (height - 1) child) new h1 h2
     → ReadsNone (λ pages. floor_pages pages k (height - 1) child) new h1 b c → ReadsNone (λ pages. last_pages pages (height - 1) prior) newer h2 c d
     → ReadsNone (λ pages. floor_pages pages k height page) old h0 a d
-floor_again_more {old = old} {new = new} {page = page} {height = height} {child = child} {prior = prior} {i = i} {k = k} {inner = inner} h0 h1 h2 a b c d at place
-    ne told was lacks t f s g l = λ pages is.
+floor_again_more {page = page} {height = height} {child = child} {prior = prior} {k = k} {h1 = h1} h2 {b = b} c d at t s g l = λ pages is.
     let under = floor_pages pages k (height - 1) child in
     let more = last_pages pages (height - 1) prior in
-    let parts : floor_pages pages k height page ≡ page ∷ (under ++ more) =
-    floor_parts old new page height child i k inner at place pages is
-    ∙ ap (λ l. page ∷ (under ++ l)) (child_before pages k (height - 1) child prior i inner at.is_child was (lacks pages (at.told ∙ is)) ne) in
-    more_free (floor_pages pages k height page) (page ∷ []) (under ++ more) h0 h1 a b d parts (one_turn (page ∷ []) page h0 h1 refl t)
-    (one_free (page ∷ []) [] page h0 a b refl f)
-    (more_free (under ++ more) under more h1 h2 b c d refl (s pages (at.told ∙ is)) (g pages (at.told ∙ is)) (l pages (told ∙ is)))
+    more_free (floor_pages pages k height page) (page ∷ []) (under ++ more) d (before_parts at pages is) (one_touched t)
+    (more_free (under ++ more) under more {held = h1} {now = h2} {a = b} {b = c} d refl
+    (record { touched = s pages (at.at.told ∙ is); free = g pages (at.at.told ∙ is) }) (l pages (at.told ∙ is)))
 
 -- whether it comes to a record
 abbrev pub Finds : Option (List (List ℕ)) → Key → ℕ → ℕ → Bool → Type 0
@@ -138,10 +143,8 @@ module _ (old new : Option (List (List ℕ))) (page height child i : ℕ) (k : K
       some i ne = grind (arith, nat_tests)
 
 -- from the root
-pub root_first : {T : Type 0} (r : Result T Stop) (told : Option (List (List ℕ))) (k : Key) (height root : ℕ) (old new : Option (List ℕ)) → height ≤ 3
-    → OnOk r (TouchesInTurn (λ pages. floor_pages pages k height root) told old new)
-    → OnOk r (HoldsFirst (λ pages. floor_pages pages k height root) told old new)
-root_first (Err e) told k height root old new le f = f
-root_first (Ok x) told k height root old new le f = λ pages is.
+pub root_first : (told : Option (List (List ℕ))) (k : Key) (height root : ℕ) (old new : Option (List ℕ)) → height ≤ 3
+    → TouchesInTurn (λ pages. floor_pages pages k height root) told old new → HoldsFirst (λ pages. floor_pages pages k height root) told old new
+root_first told k height root old new le f = λ pages is.
     let few = length_floor pages k height root le in
     turns_first (floor_pages pages k height root) old new (omega arith) (f pages is)

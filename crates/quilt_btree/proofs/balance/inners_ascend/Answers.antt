@@ -12,7 +12,7 @@ pub returns-then-precedes : goal.returns-then-precedes
 returns-then-precedes c =
     let last = subst (λ i. slice_get c.args.left.now.keys i ≡ Some c.key-last.result)
     (one_less c.len-2.result (length c.args.left.now.keys) c.len-2.ensures.keys) c.key-last.ensures in
-    let test = inners_test c.args.left.now.keys c.args.right.now.keys c.args.key.now c.key-last.result c.key-first.result last c.key-first.ensures
+    let test = inners_test c.args.left.now.keys c.args.right.now.keys c.args.key.now last c.key-first.ensures
     c.len-2.ensures.is.ascends c.len.ensures.is.ascends in
     c.precedes-then-precedes.ensures
     ∙ sym (test ∙ ap (λ b. b && is_lt (key_cmp c.args.key.now c.key-first.result)) (sym c.precedes.ensures ∙ c.if-precedes.true))
@@ -21,6 +21,6 @@ pub returns-else-precedes : goal.returns-else-precedes
 returns-else-precedes c =
     let last = subst (λ i. slice_get c.args.left.now.keys i ≡ Some c.key-last.result)
     (one_less c.len-2.result (length c.args.left.now.keys) c.len-2.ensures.keys) c.key-last.ensures in
-    let test = inners_test c.args.left.now.keys c.args.right.now.keys c.args.key.now c.key-last.result c.key-first.result last c.key-first.ensures
+    let test = inners_test c.args.left.now.keys c.args.right.now.keys c.args.key.now last c.key-first.ensures
     c.len-2.ensures.is.ascends c.len.ensures.is.ascends in
     c.if-precedes.false ∙ sym (test ∙ ap (λ b. b && is_lt (key_cmp c.args.key.now c.key-first.result)) (sym c.precedes.ensures ∙ c.if-precedes.false))

@@ -4,6 +4,6 @@ use Rattle.quilt_btree.proofs.balance.leaves_ascend.Goals as goal
 
 pub returns : goal.returns
 returns c =
-    c.precedes.ensures ∙ leaves_test c.args.left.now c.args.right.now c.rec-last.result c.rec-first.result (c.len-2.result - 1)
+    c.precedes.ensures ∙ leaves_test c.args.left.now c.args.right.now
     (ap (λ n. n - 1) c.len-2.ensures.length)
     c.rec-last.ensures c.rec-first.ensures c.len-2.ensures.is.ascends c.len.ensures.is.ascends

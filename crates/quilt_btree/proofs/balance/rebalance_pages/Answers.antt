@@ -9,16 +9,16 @@ use Rattle.quilt_btree.specs.Damage.{NamesSpare}
 use Rattle.quilt_btree.proofs.ways.Damage.{no_spares, named_more}
 use Rattle.quilt_btree.proofs.balance.rebalance_pages.Goals as goal
 
-sound_one : {T : Type 0} (r : Result T Stop) (told : Option (List (List ℕ))) (free : ℕ → Bool) (height left : ℕ) (key : Key) (right : ℕ) → height ≡ 1
+sound_one : {T : Type 0} (r : Result T Stop) (told : Option (List (List ℕ))) (free : ℕ → Bool) {height : ℕ} (left : ℕ) (key : Key) (right : ℕ) → height ≡ 1
     → IfErr r (λ e. (h : ℕ) (b : Bounds) (rs : List Record) (used : List ℕ) → h ≡ 1 → CanRebalance told free h left key right b rs used → IsNotDamage e)
     → IfErr r (λ e. (b : Bounds) (rs : List Record) (used : List ℕ) → CanRebalance told free height left key right b rs used → IsNotDamage e)
-sound_one (Ok v) told free height left key right one f = f
-sound_one (Err e) told free height left key right one f = λ b rs used m. f height b rs used one m
+sound_one (Ok v) told free left key right one f = f
+sound_one (Err e) told free {height} left key right one f = λ b rs used m. f height b rs used one m
 
 pub returns-then-height-eq1-clause-sound : goal.returns-then-height-eq1-clause-sound
 returns-then-height-eq1-clause-sound g c =
     sound_one c.rebalance_leaves.result (g.S.PageStore.told c.args.store.now) (g.S.PageStore.free c.args.store.now)
-    c.args.height c.args.left c.args.key.now c.args.right c.if-height-eq1.true c.rebalance_leaves.ensures.sound
+    c.args.left c.args.key.now c.args.right c.if-height-eq1.true c.rebalance_leaves.ensures.sound
 
 spare_one : {T : Type 0} (r : Result T Stop) (told : Option (List (List ℕ))) (height spare : ℕ) → height ≡ 1
     → IfErr r (λ e. (h : ℕ) → h ≡ 1 → NamesSpare told h spare e) → IfErr r (NamesSpare told height spare)

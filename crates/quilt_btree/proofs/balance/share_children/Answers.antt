@@ -1,4 +1,4 @@
-use Rattle.std.proofs.Common.{length, ap, sym, ◌∙◌}
+use Rattle.std.proofs.Common.{ap, sym, ◌∙◌}
 use Rattle.quilt_node.specs.Pages.{Inner}
 use Rattle.quilt_btree.proofs.lists.Cuts.{last_again}
 use Rattle.quilt_btree.proofs.balance.share_children.Goals as goal

@@ -26,10 +26,7 @@ returns-in-Err-insert_under-clause-sound g t c is_root b rs used can few =
     let h = c.in-Ok.ensures.here c.args.height rs c.requires.height c.if-height-eq1.false
     (edit_spells (g.S.PageStore.told c.args.store.now) (g.S.PageStore.free c.args.store.now) c.args.page c.args.height is_root b rs used can.can_edit) in
     let w = c.in-Ok.ensures.path h.inner h.is in
-    sound_under c.in-Err-insert_under.e (g.S.PageStore.told c.read_path.new.store)
-    (g.S.PageStore.free c.read_path.new.store)
-    (g.S.PageStore.size c.read_path.new.store) c.in-Ok.path.child c.in-Ok.path.place
-    h.inner
+    sound_under c.in-Err-insert_under.e
     (record {
       same = record { same_pages = c.in-Ok.ensures.left.told; same_free = c.in-Ok.ensures.left.free; same_size = c.in-Ok.ensures.left.size };
       some = c.requires.height;
@@ -225,6 +222,6 @@ returns-in-Some-clause-bad g t c = zero_named c.put_child.result (g.S.PageStore.
 pub returns-in-Some-clause-left : goal.returns-in-Some-clause-left
 returns-in-Some-clause-left g t c =
     let some = c.requires.height in
-    edits_then _ g.met.S.PageStore.goes_on (2 * (c.args.height - 1)) c.args.height 2 0 (2 * c.args.height) c.args.height (omega arith) (omega arith)
-    (edits_then _ g.met.S.PageStore.goes_on 0 1 (2 * (c.args.height - 1)) (c.args.height - 1) (2 * (c.args.height - 1)) c.args.height (omega arith)
+    edits_then _ g.met.S.PageStore.goes_on (2 * c.args.height) c.args.height (omega arith) (omega arith)
+    (edits_then _ g.met.S.PageStore.goes_on (2 * (c.args.height - 1)) c.args.height (omega arith)
     (omega arith) (looked _ 1 c.in-Ok.ensures.left c.in-Ok.ensures.reads) c.in-Ok-Split.ensures.left) c.put_child.ensures.left

@@ -21,9 +21,8 @@ returns-in-Ok-find-clause-inserted g c is_root b rs used can =
 
 pub returns-in-Err-find-clause-sound : goal.returns-in-Err-find-clause-sound
 returns-in-Err-find-clause-sound g c =
-    sound_along c.put_record.result (g.S.PageStore.told c.args.store.now) (g.S.PageStore.told c.read_leaf.new.store)
-    (g.S.PageStore.free c.args.store.now) (g.S.PageStore.free c.read_leaf.new.store)
-    (g.S.PageStore.size c.args.store.now) (g.S.PageStore.size c.read_leaf.new.store) c.args.page 1 c.args.r.now.key
+    sound_along c.put_record.result
+    c.args.page 1 c.args.r.now.key
     (record { same_pages = c.in-Ok.ensures.left.told; same_free = c.in-Ok.ensures.left.free; same_size = c.in-Ok.ensures.left.size }) c.put_record.ensures.sound
 
 pub returns-in-Ok-find-clause-finds : goal.returns-in-Ok-find-clause-finds

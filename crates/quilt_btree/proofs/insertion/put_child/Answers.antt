@@ -1,9 +1,7 @@
-use Rattle.std.proofs.Common.{◌≡◌, suc, ◌≤◌, length, refl, sym, ◌∙◌, subst, arith}
+use Rattle.std.proofs.Common.{◌≡◌, refl, sym, ◌∙◌, subst, arith}
 use Rattle.quilt_node.specs.Pages.{Inner}
-use Rattle.std.specs.List.{insert}
 use Rattle.std.proofs.lemmas.Result.{IfErr-weaker}
-use Rattle.quilt_node.specs.Edits.{with_child}
-use Rattle.quilt_btree.proofs.growth.InnerGrowth.{IsWritten, pending_taken, put_done, put_split}
+use Rattle.quilt_btree.proofs.growth.InnerGrowth.{IsWritten, pending_taken, put_done}
 use Rattle.quilt_btree.proofs.insertion.put_child.Goals as goal
 
 pub returns-in-Err-clause-sound : goal.returns-in-Err-clause-sound
@@ -11,10 +9,9 @@ returns-in-Err-clause-sound g c is_root b all under p room low = c.in-Err.ensure
 
 pub returns-in-Ok-clause-put : goal.returns-in-Ok-clause-put
 returns-in-Ok-clause-put g c is_root b all under p =
-    put_done (g.S.PageStore.told c.write_page.new.store)
-    (g.S.PageStore.size c.args.store.now)
-    c.args.inner.now.height c.bytes.result.now c.requires.page.1 (g.met.S.PageStore.as_many c.args.store.now)
-    (subst (λ (x : Inner). IsWritten c.bytes.result.now x) c.insert.ensures c.bytes.ensures.inner) refl c.in-Ok.ensures.told c.in-Ok.ensures.free p
+    put_done {size = g.S.PageStore.size c.args.store.now} {bytes = c.bytes.result.now}
+    (record { inside = c.requires.page.1; many = g.met.S.PageStore.as_many c.args.store.now; wrote = c.in-Ok.ensures.told })
+    (subst (λ (x : Inner). IsWritten c.bytes.result.now x) c.insert.ensures c.bytes.ensures.inner) refl c.in-Ok.ensures.free p
 
 pub returns-then-height-eq3-clause-sound : goal.returns-then-height-eq3-clause-sound
 returns-then-height-eq3-clause-sound g c is_root b all under p room low =

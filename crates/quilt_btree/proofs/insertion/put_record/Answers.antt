@@ -30,8 +30,7 @@ returns-in-Ok-write_split-clause-put g c is_root b rs used same can =
     let e = c.len.ensures.length in
     let r = c.len.ensures.range in
     let f = c.if-len-lt-MOST_RECORDS.false in
-    leaf_split (g.S.PageStore.told c.write_split.new.store)
-    c.args.i c.args.r.now c.bytes-2.result.now c.bytes-3.result.now c.rec.result.key c.rec.result
+    leaf_split
     (record {
       inside = c.requires.page.1;
       many = g.met.S.PageStore.as_many c.args.store.now;

@@ -1,9 +1,8 @@
-use Rattle.std.proofs.Common.{◌≡◌, suc, ◌≤◌, length, refl, sym, ◌∙◌, subst, arith}
+use Rattle.std.proofs.Common.{◌≡◌, suc, ◌≤◌, length, refl, subst, arith}
 use Rattle.quilt_node.specs.Pages.{Inner}
 use Rattle.std.specs.List.{insert}
 use Rattle.std.proofs.lemmas.List.Edits.{length-insert}
-use Rattle.quilt_node.specs.Edits.{with_child}
-use Rattle.quilt_btree.proofs.growth.InnerGrowth.{IsWritten, pending_taken, put_done, put_split}
+use Rattle.quilt_btree.proofs.growth.InnerGrowth.{IsWritten, pending_taken, put_split}
 use Rattle.quilt_btree.proofs.insertion.split_child.Goals as goal
 
 pub returns-in-Err-clause-sound : goal.returns-in-Err-clause-sound
@@ -15,15 +14,19 @@ returns-in-Ok-clause-put g c is_root b all under p =
     let behind : suc c.args.i ≤ length c.args.inner.now.children = let q = c.requires.place.0 in omega arith in
     let full : length (insert c.args.inner.now.children (suc c.args.i) c.args.child) ≡ 255 =
     omega (arith, length-insert c.args.inner.now.children (suc c.args.i) c.args.child behind) in
-    put_split (g.S.PageStore.told c.write_split.new.store)
-    (g.S.PageStore.size c.args.store.now)
-    c.args.inner.now.height
-    c.bytes.result.now c.bytes-2.result.now c.insert_split-right.result.0
-    c.requires.page.1 c.in-Ok.ensures.page.1 (g.met.S.PageStore.as_many c.args.store.now)
+    put_split {size = g.S.PageStore.size c.args.store.now} {left = c.bytes.result.now} {right = c.bytes-2.result.now}
+    (record {
+      inside = c.requires.page.1;
+      inside_new = c.in-Ok.ensures.page.1;
+      many = g.met.S.PageStore.as_many c.args.store.now;
+      was_free = c.in-Ok.ensures.free;
+      taken = c.in-Ok.ensures.taken;
+      wrote = c.in-Ok.ensures.told;
+    })
     (record {
       full = full;
       is_left = subst (λ (x : Inner). IsWritten c.bytes.result.now x) c.insert_split-right.ensures.left c.bytes.ensures.inner;
       is_right = subst (λ (x : Inner). IsWritten c.bytes-2.result.now x) c.insert_split-right.ensures.right c.bytes-2.ensures.inner;
       parts = c.insert_split-right.ensures.key;
     })
-    refl c.in-Ok.ensures.free c.in-Ok.ensures.taken c.in-Ok.ensures.told p
+    refl p

@@ -4,7 +4,7 @@ use Rattle.quilt_btree.proofs.lent.fork_at.Goals as goal
 
 pub returns-in-None-clause-sound : goal.returns-in-None-clause-sound
 returns-in-None-clause-sound g c = inner_sound (g.S.PageStore.told c.args.store.now) c.args.page c.pages-pages.result (g.S.PageStore.size c.args.store.now) c.in-Ok.bytes.now
-    (Damaged c.args.page) c.pages-pages.ensures (g.met.S.PageStore.as_many c.args.store.now) c.in-Ok.ensures.bytes c.in-None.ensures.fork
+    c.pages-pages.ensures (g.met.S.PageStore.as_many c.args.store.now) c.in-Ok.ensures.bytes (Damaged c.args.page) c.in-None.ensures.fork
 
 pub returns-in-None-clause-bad : goal.returns-in-None-clause-bad
 returns-in-None-clause-bad g c = inner_bad (g.S.PageStore.told c.args.store.now) c.args.page c.pages-pages.result (g.S.PageStore.size c.args.store.now) c.in-Ok.bytes.now

@@ -266,7 +266,6 @@ returns-in-Some-clause-bad g t c =
     subst (λ n. inner_of n c.read_path.new.bytes ≡ Some c.in-Some.inner) same c.in-Some.ensures.inner in
     beside_named c.rebalance_child.result
     (g.S.PageStore.told c.remove_under.new.store) c.in-Ok.path.place
-    c.in-Some.inner
     (read_ok (g.S.PageStore.told c.args.store.now) (g.S.PageStore.told c.read_path.new.store) c.args.page c.args.height
     (g.S.PageStore.size c.args.store.now) (g.S.PageStore.size c.args.store.now) c.read_path.new.bytes c.requires.height c.if-height-eq1.false
     c.in-Ok.ensures.left.told (g.met.S.PageStore.as_many c.args.store.now) refl c.in-Ok.ensures.bytes)
@@ -277,9 +276,9 @@ returns-in-Some-clause-left g t c =
     let some = c.requires.height in
     let below = rw c.in-Ok-Underfull.field-0-is at c.in-Ok-Underfull.ensures in
     let less = below.remains.less (λ e. underfull_done e) in
-    let all = edits_then _ g.met.S.PageStore.goes_on 0 1 (2 * (c.args.height - 1)) (3 * (c.args.height - 1) - 2) (2 * (c.args.height - 1))
+    let all = edits_then _ g.met.S.PageStore.goes_on (2 * (c.args.height - 1))
     (3 * c.args.height - 4) (omega arith) (omega arith) (looked _ 1 c.in-Ok.ensures.left c.in-Ok.ensures.reads) c.in-Ok-Underfull.ensures.left in
-    edits_then _ g.met.S.PageStore.goes_on (2 * (c.args.height - 1) - 1) (3 * c.args.height - 4) 3 2 (2 * c.args.height) (3 * c.args.height - 2)
+    edits_then _ g.met.S.PageStore.goes_on {m = 2 * (c.args.height - 1) - 1} {n = 3 * c.args.height - 4} (2 * c.args.height) (3 * c.args.height - 2)
     (omega arith)
     (omega arith) (record {
       cause = all.cause;
@@ -309,10 +308,10 @@ returns-in-Ok-Done-clause-left g t c =
 
 pub returns-in-Ok-Emptied-clause-left : goal.returns-in-Ok-Emptied-clause-left
 returns-in-Ok-Emptied-clause-left g t c =
-    edits_free _ _ _ _ _ _ (omega arith) (omega arith) damaged_device
+    edits_free _ _ _ _ (omega arith) (omega arith) damaged_device
     (removes_below _ g.met.S.PageStore.goes_on c.args.height c.requires.height c.in-Ok.ensures.left c.in-Ok.ensures.reads c.in-Ok-Emptied.ensures.left)
 
 pub returns-in-Ok-Only-clause-left : goal.returns-in-Ok-Only-clause-left
 returns-in-Ok-Only-clause-left g t c =
-    edits_free _ _ _ _ _ _ (omega arith) (omega arith) damaged_device
+    edits_free _ _ _ _ (omega arith) (omega arith) damaged_device
     (removes_below _ g.met.S.PageStore.goes_on c.args.height c.requires.height c.in-Ok.ensures.left c.in-Ok.ensures.reads c.in-Ok-Only.ensures.left)

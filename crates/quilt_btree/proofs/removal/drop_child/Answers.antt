@@ -8,7 +8,7 @@ returns-then-left-lt-LEAST_CHILDREN-clause-dropped g c =
     c.len.ensures.length c.len.ensures.keys c.len-left.ensures.length in (
       let h = c.if-left-lt-LEAST_CHILDREN.true in omega arith,
       dropped_written (g.S.PageStore.told c.args.store.now) (g.S.PageStore.told c.write_page.new.store) (g.S.PageStore.size c.args.store.now)
-          c.args.page c.args.j c.args.inner.now c.remove.new.self c.bytes.result.now
+          c.args.page c.args.j c.args.inner.now c.bytes.result.now
           (g.met.S.PageStore.as_many c.args.store.now) c.in-Ok.ensures.told c.requires.children c.remove.ensures c.bytes.ensures.inner,
     )
 
@@ -18,6 +18,6 @@ returns-else-left-lt-LEAST_CHILDREN-clause-dropped g c =
     c.len.ensures.length c.len.ensures.keys c.len-left.ensures.length in (
       let h = c.if-left-lt-LEAST_CHILDREN.false in omega arith,
       dropped_written (g.S.PageStore.told c.args.store.now) (g.S.PageStore.told c.write_page.new.store) (g.S.PageStore.size c.args.store.now)
-          c.args.page c.args.j c.args.inner.now c.remove.new.self c.bytes.result.now
+          c.args.page c.args.j c.args.inner.now c.bytes.result.now
           (g.met.S.PageStore.as_many c.args.store.now) c.in-Ok.ensures.told c.requires.children c.remove.ensures c.bytes.ensures.inner,
     )

@@ -57,10 +57,10 @@ returns-in-Ok-Joined-clause-sound g c =
 pub returns-in-Err-renew_key-clause-sound : goal.returns-in-Err-renew_key-clause-sound
 returns-in-Err-renew_key-clause-sound g c =
     let found = rw c.in-Ok-Redistributed.field-0-is at c.in-Ok-Redistributed.ensures in
-    separated_sound c.in-Err-renew_key.e (g.S.PageStore.told c.args.store.now) (g.S.PageStore.told c.rebalance_pages.new.store)
+    separated_sound (g.S.PageStore.told c.args.store.now) (g.S.PageStore.told c.rebalance_pages.new.store)
     (g.S.PageStore.free c.args.store.now) (g.S.PageStore.free c.rebalance_pages.new.store)
-    c.args.page c.args.height c.args.inner.now c.args.i c.pair_at-j.result
-    (c.pair_at-j.result + 1) c.child-left.result c.key-key.result c.child-right.result c.in-Ok-Redistributed.key (record {
+    c.args.page c.args.height c.args.inner.now c.args.i c.pair_at-j.result c.child-left.result c.key-key.result c.child-right.result
+    c.in-Err-renew_key.e (c.pair_at-j.result + 1) c.in-Ok-Redistributed.key (record {
       in_range = subst (λ n. c.pair_at-j.result + 1 < n) c.len.ensures.length c.pair_at-j.ensures.both;
       one = c.pair_at-j.ensures.one;
       is_next = omega arith;
@@ -75,10 +75,10 @@ returns-in-Err-renew_key-clause-sound g c =
 pub returns-in-Ok-clause-leaves : goal.returns-in-Ok-clause-leaves
 returns-in-Ok-clause-leaves g c =
     let found = rw c.in-Ok-Redistributed.field-0-is at c.in-Ok-Redistributed.ensures in
-    separated_left (g.S.PageStore.told c.args.store.now) (g.S.PageStore.told c.rebalance_pages.new.store) (g.S.PageStore.told c.renew_key.new.store)
-    (g.S.PageStore.free c.args.store.now) (g.S.PageStore.free c.rebalance_pages.new.store) (g.S.PageStore.free c.renew_key.new.store)
-    c.args.page c.args.height c.args.inner.now c.args.i c.pair_at-j.result
-    (c.pair_at-j.result + 1) c.child-left.result c.key-key.result c.child-right.result c.in-Ok-Redistributed.key (record {
+    separated_left (g.S.PageStore.told c.args.store.now) (g.S.PageStore.told c.rebalance_pages.new.store)
+    (g.S.PageStore.free c.args.store.now) (g.S.PageStore.free c.rebalance_pages.new.store)
+    c.args.page c.args.height c.args.inner.now c.args.i c.pair_at-j.result c.child-left.result c.key-key.result c.child-right.result
+    (g.S.PageStore.told c.renew_key.new.store) (g.S.PageStore.free c.renew_key.new.store) (c.pair_at-j.result + 1) c.in-Ok-Redistributed.key (record {
       in_range = subst (λ n. c.pair_at-j.result + 1 < n) c.len.ensures.length c.pair_at-j.ensures.both;
       one = c.pair_at-j.ensures.one;
       is_next = omega arith;
@@ -92,9 +92,13 @@ returns-in-Ok-clause-leaves g c =
 
 pub returns-in-Err-clause-bad : goal.returns-in-Err-clause-bad
 returns-in-Err-clause-bad g c =
-    names_beside (g.S.PageStore.told c.args.store.now) c.args.height c.args.inner.now c.args.i c.pair_at-j.result
-    c.other_of-spare.result _ c.requires.height (subst (λ n. c.pair_at-j.result + 1 < n) c.len.ensures.length c.pair_at-j.ensures.both)
-    c.child-left.ensures.child c.child-right.ensures.child c.child.ensures.child c.other_of-spare.ensures c.in-Err.ensures.bad
+    names_beside c.other_of-spare.result _ c.requires.height
+    (record {
+      in_range = subst (λ n. c.pair_at-j.result + 1 < n) c.len.ensures.length c.pair_at-j.ensures.both;
+      is_left = c.child-left.ensures.child;
+      is_right = c.child-right.ensures.child;
+      is_child = c.child.ensures.child;
+    }) c.other_of-spare.ensures c.in-Err.ensures.bad
 
 pub returns-in-Ok-Joined-clause-bad : goal.returns-in-Ok-Joined-clause-bad
 returns-in-Ok-Joined-clause-bad g c =

@@ -28,9 +28,8 @@ returns-in-Err-floor_under-clause-again g t c = λ rs s.
       many = g.met.S.PageStore.as_many c.args.store.now;
     }) c.in-Ok.ensures.shows s in
     floor_again (g.S.PageStore.told c.args.store.now) (g.S.PageStore.told c.fork_at.new.store) c.args.page c.args.height c.in-Ok.fork.child a.i
-    c.args.k.now a.inner (g.S.PageStore.held c.args.store.now) (g.S.PageStore.held c.fork_at.new.store) (g.S.PageStore.reads c.args.store.now)
-    (g.S.PageStore.reads c.fork_at.new.store) (g.S.PageStore.reads c.floor_under.new.store)
-    a.at a.number c.in-Ok.ensures.looks.held c.in-Ok.ensures.looks.held_is_free (c.in-Err-floor_under.ensures.again a.here a.spells)
+    c.args.k.now a.inner (g.S.PageStore.reads c.floor_under.new.store)
+    a.at a.number (record { touched = c.in-Ok.ensures.looks.held; free = c.in-Ok.ensures.looks.held_is_free }) (c.in-Err-floor_under.ensures.again a.here a.spells)
 
 pub returns-in-Ok-Some-clause-floor : goal.returns-in-Ok-Some-clause-floor
 returns-in-Ok-Some-clause-floor g t c = record {
@@ -86,9 +85,8 @@ returns-in-Ok-Some-clause-again g t c = λ rs s.
       many = g.met.S.PageStore.as_many c.args.store.now;
     }) c.in-Ok.ensures.shows s in
     floor_again (g.S.PageStore.told c.args.store.now) (g.S.PageStore.told c.fork_at.new.store) c.args.page c.args.height c.in-Ok.fork.child a.i
-    c.args.k.now a.inner (g.S.PageStore.held c.args.store.now) (g.S.PageStore.held c.fork_at.new.store) (g.S.PageStore.reads c.args.store.now)
-    (g.S.PageStore.reads c.fork_at.new.store) (g.S.PageStore.reads c.floor_under.new.store)
-    a.at a.number c.in-Ok.ensures.looks.held c.in-Ok.ensures.looks.held_is_free (found.again a.here a.spells)
+    c.args.k.now a.inner (g.S.PageStore.reads c.floor_under.new.store)
+    a.at a.number (record { touched = c.in-Ok.ensures.looks.held; free = c.in-Ok.ensures.looks.held_is_free }) (found.again a.here a.spells)
 
 pub returns-in-None-clause-floor : goal.returns-in-None-clause-floor
 returns-in-None-clause-floor g t c = record {
@@ -144,9 +142,8 @@ returns-in-None-clause-again g t c = λ rs s.
       many = g.met.S.PageStore.as_many c.args.store.now;
     }) c.in-Ok.ensures.shows s in
     floor_again (g.S.PageStore.told c.args.store.now) (g.S.PageStore.told c.fork_at.new.store) c.args.page c.args.height c.in-Ok.fork.child a.i
-    c.args.k.now a.inner (g.S.PageStore.held c.args.store.now) (g.S.PageStore.held c.fork_at.new.store) (g.S.PageStore.reads c.args.store.now)
-    (g.S.PageStore.reads c.fork_at.new.store) (g.S.PageStore.reads c.floor_under.new.store)
-    a.at a.number c.in-Ok.ensures.looks.held c.in-Ok.ensures.looks.held_is_free (found.again a.here a.spells)
+    c.args.k.now a.inner (g.S.PageStore.reads c.floor_under.new.store)
+    a.at a.number (record { touched = c.in-Ok.ensures.looks.held; free = c.in-Ok.ensures.looks.held_is_free }) (found.again a.here a.spells)
 
 pub returns-in-Err-last_under-clause-sound : goal.returns-in-Err-last_under-clause-sound
 returns-in-Err-last_under-clause-sound g t c = λ rs s.
@@ -175,13 +172,16 @@ returns-in-Err-last_under-clause-again g t c = λ rs s.
     let p = a.later c.in-Some.prior c.in-Some.is in
     let there = along_told (g.S.PageStore.told c.args.store.now) (g.S.PageStore.told c.floor_under.new.store) c.in-Some.prior
     (c.args.height - 1) p.here (c.in-Ok-None.ensures.left.told ∙ c.in-Ok.ensures.looks.left.told) p.spells in
-    floor_again_more
-    (g.S.PageStore.held c.args.store.now)
-    (g.S.PageStore.held c.fork_at.new.store) (g.S.PageStore.held c.floor_under.new.store) (g.S.PageStore.reads c.args.store.now)
-    (g.S.PageStore.reads c.fork_at.new.store) (g.S.PageStore.reads c.floor_under.new.store) (g.S.PageStore.reads c.last_under.new.store)
-    a.at a.number p.some (c.in-Ok-None.ensures.left.told ∙ c.in-Ok.ensures.looks.left.told) p.is (found.floor.found a.here a.spells)
-    c.in-Ok.ensures.looks.held
-    c.in-Ok.ensures.looks.held_is_free (found.touched a.here a.spells) (found.again a.here a.spells) (c.in-Err-last_under.ensures.again p.here there)
+    floor_again_more (g.S.PageStore.held c.floor_under.new.store) (g.S.PageStore.reads c.floor_under.new.store) (g.S.PageStore.reads c.last_under.new.store)
+    (record {
+      at = a.at;
+      place = a.number;
+      some = p.some;
+      told = c.in-Ok-None.ensures.left.told ∙ c.in-Ok.ensures.looks.left.told;
+      is_prior = p.is;
+      lacks = found.floor.found a.here a.spells;
+    })
+    (record { touched = c.in-Ok.ensures.looks.held; free = c.in-Ok.ensures.looks.held_is_free }) (found.touched a.here a.spells) (found.again a.here a.spells) (c.in-Err-last_under.ensures.again p.here there)
 
 pub returns-in-Ok-last_under-clause-floor : goal.returns-in-Ok-last_under-clause-floor
 returns-in-Ok-last_under-clause-floor g t c = record {
@@ -233,7 +233,14 @@ returns-in-Ok-last_under-clause-touched g t c = λ rs s.
     floor_touched_more
     (g.S.PageStore.held c.args.store.now)
     (g.S.PageStore.held c.fork_at.new.store) (g.S.PageStore.held c.floor_under.new.store) (g.S.PageStore.held c.last_under.new.store)
-    a.at a.number p.some (c.in-Ok-None.ensures.left.told ∙ c.in-Ok.ensures.looks.left.told) p.is (found.floor.found a.here a.spells)
+    (record {
+      at = a.at;
+      place = a.number;
+      some = p.some;
+      told = c.in-Ok-None.ensures.left.told ∙ c.in-Ok.ensures.looks.left.told;
+      is_prior = p.is;
+      lacks = found.floor.found a.here a.spells;
+    })
     c.in-Ok.ensures.looks.held
     (found.touched a.here a.spells) (c.in-Ok-last_under.ensures.touched p.here there)
 
@@ -250,13 +257,16 @@ returns-in-Ok-last_under-clause-again g t c = λ rs s.
     let p = a.later c.in-Some.prior c.in-Some.is in
     let there = along_told (g.S.PageStore.told c.args.store.now) (g.S.PageStore.told c.floor_under.new.store) c.in-Some.prior
     (c.args.height - 1) p.here (c.in-Ok-None.ensures.left.told ∙ c.in-Ok.ensures.looks.left.told) p.spells in
-    floor_again_more
-    (g.S.PageStore.held c.args.store.now)
-    (g.S.PageStore.held c.fork_at.new.store) (g.S.PageStore.held c.floor_under.new.store) (g.S.PageStore.reads c.args.store.now)
-    (g.S.PageStore.reads c.fork_at.new.store) (g.S.PageStore.reads c.floor_under.new.store) (g.S.PageStore.reads c.last_under.new.store)
-    a.at a.number p.some (c.in-Ok-None.ensures.left.told ∙ c.in-Ok.ensures.looks.left.told) p.is (found.floor.found a.here a.spells)
-    c.in-Ok.ensures.looks.held
-    c.in-Ok.ensures.looks.held_is_free (found.touched a.here a.spells) (found.again a.here a.spells) (c.in-Ok-last_under.ensures.again p.here there)
+    floor_again_more (g.S.PageStore.held c.floor_under.new.store) (g.S.PageStore.reads c.floor_under.new.store) (g.S.PageStore.reads c.last_under.new.store)
+    (record {
+      at = a.at;
+      place = a.number;
+      some = p.some;
+      told = c.in-Ok-None.ensures.left.told ∙ c.in-Ok.ensures.looks.left.told;
+      is_prior = p.is;
+      lacks = found.floor.found a.here a.spells;
+    })
+    (record { touched = c.in-Ok.ensures.looks.held; free = c.in-Ok.ensures.looks.held_is_free }) (found.touched a.here a.spells) (found.again a.here a.spells) (c.in-Ok-last_under.ensures.again p.here there)
 
 pub returns-in-Err-clause-sound : goal.returns-in-Err-clause-sound
 returns-in-Err-clause-sound g t c = λ rs s. c.in-Err.ensures.sound c.args.height rs c.requires.height c.if-height-eq1.false s

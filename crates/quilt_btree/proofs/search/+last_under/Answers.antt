@@ -52,16 +52,14 @@ returns-in-Ok-clause-touched g t c = touched_last c.last_under.result
 pub returns-in-Ok-clause-again : goal.returns-in-Ok-clause-again
 returns-in-Ok-clause-again g t c = again_last (g.S.PageStore.told c.args.store.now)
     (g.S.PageStore.told c.last_child_at.new.store)
-    c.args.page c.args.height (g.S.PageStore.size c.args.store.now) c.in-Ok.ensures.shows.bytes c.in-Ok.child
-    (g.S.PageStore.held c.args.store.now) (g.S.PageStore.held c.last_child_at.new.store) (g.S.PageStore.reads c.args.store.now)
-    (g.S.PageStore.reads c.last_child_at.new.store) (g.S.PageStore.reads c.last_under.new.store)
+    c.args.page c.args.height (g.S.PageStore.size c.args.store.now) (g.S.PageStore.reads c.last_under.new.store)
     (read_of _ _ _ _ _ _ (record {
       some = c.requires.height;
       above = c.if-height-eq1.false;
       told = c.in-Ok.ensures.looks.left.told;
       many = g.met.S.PageStore.as_many c.args.store.now;
     }) c.in-Ok.ensures.shows.are)
-    c.in-Ok.ensures.shows.last c.in-Ok.ensures.looks.held c.in-Ok.ensures.looks.held_is_free c.last_under.ensures.again
+    c.in-Ok.ensures.shows.last (record { touched = c.in-Ok.ensures.looks.held; free = c.in-Ok.ensures.looks.held_is_free }) c.last_under.ensures.again
 
 pub returns-in-Ok-clause-bad : goal.returns-in-Ok-clause-bad
 returns-in-Ok-clause-bad g t c =

@@ -5,7 +5,7 @@ use Rattle.quilt_btree.proofs.spot.Spot.widened.Goals as goal
 pub returns-clause-good : goal.returns-clause-good
 returns-clause-good c told t some are is =
     elim c.if-lt.branch [
-      | then-lt w ↦ rw w.low-is (widened_from told t c.args.self.now.page c.args.self.now.low c.args.self.now.high c.args.bytes.now c.rec_in.result some are
+      | then-lt w ↦ rw w.low-is (widened_from c.rec_in.result some are
           c.rec_in.ensures.leaf is)
       | else-lt w ↦ rw w.low-is is
     ]

@@ -38,9 +38,7 @@ returns-then-now-most-clause-goes_on g c = record {
 
 pub returns-in-Ok-fault_at-clause-sound : goal.returns-in-Ok-fault_at-clause-sound
 returns-in-Ok-fault_at-clause-sound g c = λ low rs is b page e. rest_adds (g.S.PageStore.told c.args.store.now) c.args.self.now c.args.from.now
-    c.args.high.now c.in-Some.field-0 c.args.most (page_records c.in-Ok-add_at.ensures.adds.bytes) c.args.records.now.items c.add_at.new.records.items
-    rs
-    c.in-Ok.found.high (record {
+    c.args.high.now (record {
       some = let h = c.requires.height in omega arith;
       leads = (c.in-Ok.ensures.arrives c.in-Ok-add_at.ensures.adds.bytes (told_before _ _ _ _ (sym c.in-Ok.ensures.left.told) c.in-Ok-add_at.ensures.adds.are)).leads;
       cut = (c.in-Ok.ensures.arrives c.in-Ok-add_at.ensures.adds.bytes (told_before _ _ _ _ (sym c.in-Ok.ensures.left.told) c.in-Ok-add_at.ensures.adds.are)).cut;
@@ -48,8 +46,7 @@ returns-in-Ok-fault_at-clause-sound g c = λ low rs is b page e. rest_adds (g.S.
       added = c.in-Ok-add_at.ensures.adds.added;
       same = λ rs s. c.in-Ok-add_at.ensures.adds.same
           (page_records c.in-Ok-add_at.ensures.adds.bytes) ((c.in-Ok.ensures.arrives c.in-Ok-add_at.ensures.adds.bytes (told_before _ _ _ _ (sym c.in-Ok.ensures.left.told) c.in-Ok-add_at.ensures.adds.are)).leaf rs s);
-    }) is
-    b.0 b.1 b.2 c.in-Some.ensures.0 c.in-Some.ensures.1
+    }) is b c.in-Some.ensures
     ((c.in-Ok.ensures.arrives c.in-Ok-add_at.ensures.adds.bytes (told_before _ _ _ _ (sym c.in-Ok.ensures.left.told) c.in-Ok-add_at.ensures.adds.are)).least rs (tree_spells (g.S.PageStore.told c.args.store.now) c.args.self.now rs (let h = c.requires.height in omega arith) is).0)
     (let r = c.requires.room in omega (arith, c.args.records.now.ok.0))
     (λ same. c.if-now-most.false (let e = c.in-Ok-add_at.ensures.number in omega arith))
@@ -61,8 +58,8 @@ returns-in_default-clause-goes_on g c = record {
       search rules;
   goes_on =
       rw c.in-Some.is (λ low rs is b.
-      rest_next low c.args.from.now c.args.high.now c.args.most
-      (page_records c.in-Ok-add_at.ensures.adds.bytes) c.args.records.now.items c.add_at.new.records.items (record {
+      rest_next low
+      (record {
         some = let h = c.requires.height in omega arith;
         leads = (c.in-Ok.ensures.arrives c.in-Ok-add_at.ensures.adds.bytes (told_before _ _ _ _ (sym c.in-Ok.ensures.left.told) c.in-Ok-add_at.ensures.adds.are)).leads;
         cut = (c.in-Ok.ensures.arrives c.in-Ok-add_at.ensures.adds.bytes (told_before _ _ _ _ (sym c.in-Ok.ensures.left.told) c.in-Ok-add_at.ensures.adds.are)).cut;

@@ -1,20 +1,17 @@
-use Rattle.std.proofs.Common.{◌≡◌, true, ◌+◌, ◌*◌, ◌-◌, ◌≤◌, List, vec_len}
+use Rattle.std.proofs.Common.{◌≡◌, true, ◌+◌, ◌*◌, ◌-◌, ◌≤◌, vec_len}
 use Rattle.quilt_record.specs.declared.key.Key.{Key}
-use Rattle.quilt_record.specs.declared.record.Record.{Record}
 use Rattle.std.specs.List.{list_all}
 use Rattle.std.specs.Ordering.{is_le}
 use Rattle.quilt_record.specs.Records.{key_cmp}
 use Rattle.quilt_btree.specs.Lists.{is_from_to}
 use Rattle.quilt_store.specs.Calls.{IsOnlyRead}
 use Rattle.quilt_world.specs.Tale.{Goes}
-use Rattle.quilt_btree.specs.Trees.{IsTree, Before}
+use Rattle.quilt_btree.proofs.ranges.Rests.{GoesAsFar}
 use Rattle.quilt_btree.proofs.tree.Tree.add_rest.Given as goal
 
 abbrev pub invariant-loop-k : goal.invariant-loop-k
 invariant-loop-k g l = record {
-  goes_on : (low : Key) (rs : List Record) → IsTree (g.S.PageStore.told l.initial.store) l.self rs
-      → Before (g.S.PageStore.told l.initial.store) l.self low l.high l.most l.initial.next rs l.initial.records.items
-      → Before (g.S.PageStore.told l.initial.store) l.self low l.high l.most l.next rs l.records.items;
+  goes_on : GoesAsFar (g.S.PageStore.told l.initial.store) l.self l.high l.most l.initial.next l.initial.records.items l.next l.records.items;
   room : vec_len l.records ≤ l.most;
   within : (low : Key) → is_le (key_cmp low l.initial.next) ≡ true → list_all (is_from_to low l.high) l.initial.records.items ≡ true
       → (is_le (key_cmp low l.next) ≡ true) × (list_all (is_from_to low l.high) l.records.items ≡ true);

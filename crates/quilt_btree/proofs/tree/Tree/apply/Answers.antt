@@ -5,7 +5,7 @@ use Rattle.quilt_btree.specs.Batches.{edit_keys, more, looks, removed, records_p
 use Rattle.quilt_btree.specs.Stops.{NamesPage}
 use Rattle.quilt_btree.proofs.ways.Damage.{stops_behind, run_zero, run_names, run_cause}
 use Rattle.quilt_btree.proofs.batches.Whole.{rest, made_rest, made_all, rest_long, rest_ascends, rest_fails, rest_room, rest_cost, rest_cost_all, cost_take, cost_is, rest_looks, looks_take, looks_are}
-use Rattle.quilt_btree.proofs.stores.Reads.{reads_then, reads_more}
+use Rattle.quilt_world.proofs.ReadCounts.{reads_then, reads_more}
 use Rattle.quilt_btree.proofs.batches.Costs.{read_all}
 use Rattle.quilt_btree.proofs.batches.Lists.{edits_are}
 use Rattle.quilt_btree.proofs.batches.Rises.{whole_rises}
@@ -13,10 +13,9 @@ use Rattle.quilt_btree.proofs.tree.Tree.apply.Goals as goal
 
 pub loop-done-preserved : goal.loop-done-preserved
 loop-done-preserved g c = record {
-  made = made_rest (g.S.PageStore.told c.args.store.now) (g.S.PageStore.told c.loop-done.store) (g.S.PageStore.told c.apply_some.new.store)
-      (g.S.PageStore.free c.args.store.now) (g.S.PageStore.free c.loop-done.store) (g.S.PageStore.free c.apply_some.new.store)
-      (g.S.PageStore.size c.args.store.now) (g.S.PageStore.size c.loop-done.store) c.loop-done.done c.in-Ok.n c.args.self.now c.loop-done.self
-      c.apply_some.new.self c.edits-run.result.now
+  made = made_rest
+      c.loop-done.done c.in-Ok.n
+      c.edits-run.result.now
       c.loop-done.invariant.size c.loop-done.invariant.made c.in-Ok.ensures.counts.rooted c.in-Ok.ensures.counts.count c.in-Ok.ensures.edited;
   in_range = rest_long c.edits-run.result.now c.loop-done.done c.in-Ok.n c.loop-done-test.true c.in-Ok.ensures.counts.number.1;
   faults = let m = c.loop-done.invariant.faults in let n = c.in-Ok.ensures.left.cause.later in omega arith;
@@ -45,9 +44,7 @@ apply_some-requires-clause-room g c =
 pub returns-in-Err-clause-fails : goal.returns-in-Err-clause-fails
 returns-in-Err-clause-fails g c = rw (← c.edits-run.ensures.edits) (λ rs w.
     run_zero _ c.in-Err.e c.stop_behind.result c.loop-done.done (stops_behind c.in-Err.e c.stop_behind.result c.loop-done.done c.stop_behind.ensures)
-    (rest_fails c.in-Err.e (g.S.PageStore.told c.args.store.now) (g.S.PageStore.told c.loop-done.store) (g.S.PageStore.free c.args.store.now)
-    (g.S.PageStore.free c.loop-done.store) (g.S.PageStore.size c.args.store.now) (g.S.PageStore.size c.loop-done.store) c.loop-done.done
-    c.args.self.now c.loop-done.self c.edits-run.result.now c.loop-done.invariant.size c.loop-done.invariant.made c.in-Err.ensures.fails rs w))
+    (rest_fails c.in-Err.e c.loop-done.done c.edits-run.result.now c.loop-done.invariant.size c.loop-done.invariant.made c.in-Err.ensures.fails rs w))
 
 pub returns-in-Err-clause-names : goal.returns-in-Err-clause-names
 returns-in-Err-clause-names g c =

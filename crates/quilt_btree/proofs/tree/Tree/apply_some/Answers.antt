@@ -1,6 +1,7 @@
 use Rattle.std.proofs.Common.{◌≤◌, take, drop, arith}
+use Rattle.quilt_types.specs.Facts.{quota}
 use Rattle.quilt_btree.specs.Batches.{more, fewer}
-use Rattle.quilt_btree.proofs.batches.Whole.{whole_edited, whole_fails, some_left, stays_edited, stays_failed, more_take, some_cost, few_enough, still_rooted}
+use Rattle.quilt_btree.proofs.batches.Whole.{whole_edited, whole_fails, some_left, stays_edited, stays_failed, more_take, some_cost, few_enough, first_room, still_rooted}
 use Rattle.quilt_btree.proofs.batches.Costs.{first_spared, first_behind, first_made, first_stopped, some_taken, damaged_device}
 use Rattle.quilt_btree.proofs.batches.Whole.{some_looks}
 use Rattle.quilt_btree.proofs.ways.Damage.{named_along}
@@ -20,17 +21,15 @@ returns-in-Err-clause-fails g c rs w page is =
 pub returns-then-n-eq0-clause-edited : goal.returns-then-n-eq0-clause-edited
 returns-then-n-eq0-clause-edited g c =
     let same = c.in-Ok.ensures.takes.stays c.if-n-eq0.true in
-    stays_edited c.apply_first-then-n-eq0.result (g.S.PageStore.told c.args.store.now) (g.S.PageStore.told c.edit_under.new.store)
-    (g.S.PageStore.told c.apply_first-then-n-eq0.new.store) (g.S.PageStore.free c.args.store.now) (g.S.PageStore.free c.edit_under.new.store)
-    (g.S.PageStore.free c.apply_first-then-n-eq0.new.store) (g.S.PageStore.size c.args.store.now) (g.S.PageStore.size c.edit_under.new.store)
-    c.args.self.now c.apply_first-then-n-eq0.new.self c.args.run.now same.0 same.1 c.in-Ok.ensures.left.size c.apply_first-then-n-eq0.ensures.edited
+    stays_edited c.apply_first-then-n-eq0.result (g.S.PageStore.told c.apply_first-then-n-eq0.new.store)
+    (g.S.PageStore.free c.apply_first-then-n-eq0.new.store) c.args.self.now c.apply_first-then-n-eq0.new.self c.args.run.now
+    (record { same_pages = same.0; same_free = same.1; same_size = c.in-Ok.ensures.left.size }) c.apply_first-then-n-eq0.ensures.edited
 
 pub returns-then-n-eq0-clause-fails : goal.returns-then-n-eq0-clause-fails
 returns-then-n-eq0-clause-fails g c =
     let same = c.in-Ok.ensures.takes.stays c.if-n-eq0.true in
-    stays_failed c.apply_first-then-n-eq0.result (g.S.PageStore.told c.args.store.now) (g.S.PageStore.told c.edit_under.new.store)
-    (g.S.PageStore.free c.args.store.now) (g.S.PageStore.free c.edit_under.new.store) (g.S.PageStore.size c.args.store.now)
-    (g.S.PageStore.size c.edit_under.new.store) c.args.self.now c.args.run.now same.0 same.1 c.in-Ok.ensures.left.size c.apply_first-then-n-eq0.ensures.fails
+    stays_failed c.apply_first-then-n-eq0.result c.args.self.now c.args.run.now
+    (record { same_pages = same.0; same_free = same.1; same_size = c.in-Ok.ensures.left.size }) c.apply_first-then-n-eq0.ensures.fails
 
 pub returns-in-Err-clause-bad : goal.returns-in-Err-clause-bad
 returns-in-Err-clause-bad g c = c.in-Err.ensures.bad
@@ -73,9 +72,10 @@ pub returns-in-Some-clause-counts : goal.returns-in-Some-clause-counts
 returns-in-Some-clause-counts g c = record {
   number = (let h = c.if-n-eq0.false in omega arith, c.in-Ok.ensures.takes.number);
   rooted =
-      still_rooted (g.S.PageStore.size c.args.store.now) c.in-Some.records (more (take c.in-Ok.n c.args.run.now))
-      (more (drop c.in-Ok.n c.args.run.now)) (fewer (take c.in-Ok.n c.args.run.now)) (more c.args.run.now) c.args.self.now c.requires.rooted
-      c.if-self-eq0.false c.in-Some.ensures.some.0 (more_take c.in-Ok.n c.args.run.now) c.in-Some.ensures.some.1 c.requires.room;
+      still_rooted (more (take c.in-Ok.n c.args.run.now)) (fewer (take c.in-Ok.n c.args.run.now)) c.requires.rooted c.if-self-eq0.false
+      c.in-Some.ensures.some.0 c.in-Some.ensures.some.1
+      (first_room c.args.self.now.records (more (take c.in-Ok.n c.args.run.now)) (more (drop c.in-Ok.n c.args.run.now)) (more c.args.run.now)
+      (quota (g.S.PageStore.size c.args.store.now)) (more_take c.in-Ok.n c.args.run.now) c.requires.room);
   count = c.in-Some.ensures.some.0;
 }
 
@@ -83,8 +83,7 @@ pub returns-in-Some-clause-edited : goal.returns-in-Some-clause-edited
 returns-in-Some-clause-edited g c rs w =
     let one : 1 ≤ c.in-Ok.n = let h = c.if-n-eq0.false in omega arith in
     whole_edited (g.S.PageStore.told c.args.store.now) (g.S.PageStore.told c.edit_under.new.store) (g.S.PageStore.free c.args.store.now)
-    (g.S.PageStore.free c.edit_under.new.store) (g.S.PageStore.size c.args.store.now) c.in-Some.records c.args.self.now rs c.args.run.now
-    (take c.in-Ok.n c.args.run.now)
+    (g.S.PageStore.free c.edit_under.new.store) (g.S.PageStore.size c.args.store.now) c.in-Some.records c.args.self.now c.args.run.now
     (record {
       rooted = c.requires.rooted;
       least = (g.met.S.PageStore.in_range c.args.store.now).0;

@@ -5,7 +5,7 @@ use Rattle.quilt_btree.proofs.tree.Tree.enter.Goals as goal
 
 pub returns-in-Ok-page-clause-stands : goal.returns-in-Ok-page-clause-stands
 returns-in-Ok-page-clause-stands g c before after is p =
-    entered (g.S.PageStore.told c.args.store.now) c.args.self.now c.args.k.now before after c.in-Ok-page.bytes.now c.in-Ok.found.high
+    entered (g.S.PageStore.told c.args.store.now) c.args.self.now c.args.k.now before after
     (c.in-Ok.ensures.arrives c.in-Ok-page.bytes.now (are_before _ _ _ _ c.in-Ok.ensures.left.told c.in-Ok-page.ensures.bytes)) c.requires.some is p
 
 pub returns-in-Ok-page-clause-least : goal.returns-in-Ok-page-clause-least

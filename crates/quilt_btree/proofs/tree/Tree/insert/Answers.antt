@@ -43,8 +43,8 @@ returns-in-Ok-clause-inserts g c = record {
       λ rs w room.
       kept_first c.args.r.now (g.S.PageStore.told c.args.store.now) (g.S.PageStore.told c.write_new.new.store) (g.S.PageStore.free c.args.store.now)
       (g.S.PageStore.free c.write_new.new.store) (g.S.PageStore.size c.args.store.now) c.args.self.now rs c.in-Ok.root c.bytes.result.now
-      (g.met.S.PageStore.as_many c.args.store.now) c.if-self-eq0.true (c.bytes.ensures.leaf ∙ ap Some c.one-leaf.ensures)
-      c.in-Ok.ensures.page c.in-Ok.ensures.free c.in-Ok.ensures.taken c.in-Ok.ensures.told w;
+      (record { inside = c.in-Ok.ensures.page.1; many = g.met.S.PageStore.as_many c.args.store.now; wrote = c.in-Ok.ensures.told })
+      c.if-self-eq0.true (c.bytes.ensures.leaf ∙ ap Some c.one-leaf.ensures) c.in-Ok.ensures.free c.in-Ok.ensures.taken w;
   count = λ e. let z = (c.requires.rooted.none c.if-self-eq0.true).1 in omega arith;
 }
 
@@ -192,11 +192,7 @@ returns-in-Ok-write_new-clause-inserts g c = record {
       rw c.in-Ok-Split.field-0-is at c.in-Ok-Split.ensures.leaves.right in
       let new_in : (1 ≤ c.in-Ok-write_new.root) × (c.in-Ok-write_new.root < (g.S.PageStore.size c.args.store.now)) =
       subst (λ n. (1 ≤ c.in-Ok-write_new.root) × (c.in-Ok-write_new.root < n)) c.in-Ok-Split.ensures.left.size c.in-Ok-write_new.ensures.page in
-      kept_split c.args.r.now (g.S.PageStore.told c.insert_under.new.store)
-      (g.S.PageStore.told c.write_new-in-Ok-Split.new.store) (g.S.PageStore.free c.insert_under.new.store)
-      (g.S.PageStore.free c.write_new-in-Ok-Split.new.store)
-      c.in-Ok-Split.key c.in-Ok-Split.right c.in-Ok-write_new.root
-      c.bytes-in-Ok-Split.result.now (c.args.self.now.height - 1)
+      kept_split c.args.r.now
       c.requires.rooted (g.met.S.PageStore.as_many c.args.store.now) tall (rw c.in-Ok-Split.field-0-is at c.in-Ok-Split.ensures.inserted)
       (record {
         is_written = subst (λ (x : Inner). IsWritten c.bytes-in-Ok-Split.result.now x) c.pair-page.ensures c.bytes-in-Ok-Split.ensures.inner;
@@ -214,9 +210,7 @@ returns-in-Err-clause-goes g c rs w n room = c.in-Err.ensures.sound (let r = roo
 
 pub returns-then-self-eq3-clause-goes : goal.returns-then-self-eq3-clause-goes
 returns-then-self-eq3-clause-goes g c rs w n room =
-    absurd (kept_low c.args.r.now (g.S.PageStore.told c.insert_under.new.store)
-    (g.S.PageStore.free c.insert_under.new.store) (g.S.PageStore.size c.args.store.now)
-    c.in-Ok-Split.key c.in-Ok-Split.right
+    absurd (kept_low c.args.r.now
     c.requires.room (g.met.S.PageStore.in_range c.args.store.now).1 c.if-self-eq3.true (rw c.in-Ok-Split.field-0-is at c.in-Ok-Split.ensures.inserted)
     room n w)
 

@@ -36,7 +36,7 @@ returns-in-Ok-clause-previous g c before after is s =
     ] in
     let found = rw c.in-Ok-Some.field-0-is at c.in-Ok-Some.ensures in
     let same = c.in-Ok-Some.ensures.left.told in
-    back_over (g.S.PageStore.told c.args.store.now) c.args.self.now c.args.c.now c.in-Ok.found c.rec_in-first.result c.in-Ok-Some.r before after
+    back_over (g.S.PageStore.told c.args.store.now) c.args.self.now c.args.c.now c.rec_in-first.result before after c.in-Ok.found
     c.requires.some zero c.rec_in-first.ensures.stands found.lower
     (λ rs t. subst (λ o. IsSought o c.args.self.now c.in-Ok.found c.in-Ok-Some.r.key rs) same (c.in-Ok.ensures.sought rs
     (along_tree (g.S.PageStore.told c.args.store.now) (g.S.PageStore.told c.lower_under.new.store) c.args.self.now rs same t)))

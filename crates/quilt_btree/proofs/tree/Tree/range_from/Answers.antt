@@ -92,11 +92,11 @@ returns-in-Ok-add_rest-clause-left g c =
     (only_reads_then _ g.met.S.PageStore.goes_on _ _ _ c.in-Ok-add_in.ensures.looks.left c.in-Ok-add_rest.ensures.left)) _
 
 pub returns-in-Err-add_rest-clause-here : goal.returns-in-Err-add_rest-clause-here
-returns-in-Err-add_rest-clause-here g c = λ at last. absurd (never_on _ c.args.spot.now c.in-Ok.found c.args.high.now c.in-Some.next
+returns-in-Err-add_rest-clause-here g c = λ at last. absurd (never_on _ c.args.high.now c.in-Some.next
     (c.in-Ok.ensures.here at).0 last c.in-Some.ensures.0 c.in-Some.ensures.1)
 
 pub returns-in-Ok-add_rest-clause-here : goal.returns-in-Ok-add_rest-clause-here
-returns-in-Ok-add_rest-clause-here g c = λ at last. absurd (never_on _ c.args.spot.now c.in-Ok.found c.args.high.now c.in-Some.next
+returns-in-Ok-add_rest-clause-here g c = λ at last. absurd (never_on _ c.args.high.now c.in-Some.next
     (c.in-Ok.ensures.here at).0 last c.in-Some.ensures.0 c.in-Some.ensures.1)
 
 pub returns-in-Ok-add_rest-clause-placed : goal.returns-in-Ok-add_rest-clause-placed
