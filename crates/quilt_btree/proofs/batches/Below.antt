@@ -72,7 +72,7 @@ pub leaf_edited : {told now_told : Option (List (List ℕ))} {free now : ℕ →
     {rs : List Record} {used : List ℕ} {high : Option Key} {leaf new : List Record} {xs : List Edit} → WritesPage told now_told size page bytes
     → leaf_of bytes ≡ Some new → IsEdited leaf new xs → leaf ≡ rs → LieWithin b high xs xs → now ≡ free → (if is_root then 1 else 72) ≤ length new
     → CanEdit told free page 1 is_root b rs used → DidEdit xs told now_told free now page 1 is_root b rs used
-leaf_edited {told = told} {now_told} {free = free} {size = size} {page = page} {bytes} {is_root = is_root} {b = b} {rs = rs} {used = used} {new = new} {xs = xs} w is d same fits same_free least can =
+leaf_edited {told} {now_told} {free} {size} {page} {bytes} {is_root} {b} {rs} {used} {new} {xs} w is d same fits same_free least can =
     let pages = can.pages in
     let s = can.subtree in
     let written = tells_at (λ old new. new ≡ slice_set old page bytes) told now_told pages w.wrote can.is_told in

@@ -184,8 +184,7 @@ module _ (told now_told : Option (List (List ℕ))) (free now : ℕ → Bool) (s
       let number : length (edit_all xs rs) ≡ records =
       same (fewer xs) (more xs) (length_all xs rs rises.ascends did.due) w.number count in (
         did.due,
-        whole_again t.root
-            did.is tall did.becomes.subtree did.becomes.moves a.can.apart a.balance number,
+        whole_again t.root did.is tall did.becomes.subtree did.becomes.moves a.can.apart a.balance number,
       )
     where
       same : {a : ℕ} (f p : ℕ) {l r n : ℕ} → a + f ≡ l + p → l ≡ r → n + f ≡ r + p → a ≡ n

@@ -33,7 +33,7 @@ pending_taken {free = free} {page = page} {under = under} p = used_not_free free
 pub put_done : {told now_told : Option (List (List ℕ))} {free now : ℕ → Bool} {size page height : ℕ} {inner : Inner} {bytes : List ℕ} {is_root : Bool}
     {b : Bounds} {all : List Record} {under : List ℕ} → WritesPage told now_told size page bytes → IsWritten bytes inner → inner.height ≡ height
     → now ≡ free → IsPending told free page is_root b inner all under → DidPut told now_told free now page height is_root b (under ++ page ∷ []) all inserted.Done
-put_done {told = told} {now_told} {free = free} {now = now} {size} {page = page} {height} {inner = inner} {bytes} {is_root = is_root} {b = b} {all = all} {under = under} w is tall same p =
+put_done {told} {now_told} {free} {now} {size} {page} {height} {inner} {bytes} {is_root} {b} {all} {under} w is tall same p =
     let written = tells_at (λ old new. new ≡ slice_set old page bytes) told now_told p.pages w.wrote p.is_told in
     let news = slice_set p.pages page bytes in
     let becomes : Becomes p.pages news free free page (suc (suc p.below)) is_root b (under ++ page ∷ []) all =
@@ -84,7 +84,7 @@ pub put_split : {told now_told : Option (List (List ℕ))} {free now : ℕ → B
     {is_root : Bool} {b : Bounds} {all : List Record} {under : List ℕ} → WritesBoth told now_told free now size page new left right
     → AreParts inner left right key → inner.height ≡ height → IsPending told free page is_root b inner all under
     → DidPut told now_told free now page height is_root b (under ++ page ∷ []) all (inserted.Split key new)
-put_split {told = told} {now_told} {free = free} {now = now} {size} {page = page} {new = new} {inner = inner} {left} {right} {key} {b = b} {all = all} {under = under} w h tall p =
+put_split {told} {now_told} {free} {now} {size} {page} {new} {inner} {left} {right} {key} {b} {all} {under} w h tall p =
     let pages = p.pages in
     let S = Subtree pages (suc p.below) false in
     let news = slice_set (slice_set pages page left) new right in

@@ -58,7 +58,7 @@ pub kept_again : {pages news : List (List ℕ)} {now_told : Option (List (List �
     → KeepsAccount pages news free now used uses → AreApart free used
     → HasItsPages now_told now (record { root = root; height = height; records = records }) all
 unfolding tree_again
-kept_again {pages = pages} {news = news} {now_told = now_told} {free = free} {now = now} root height records {used = used} {uses = uses} {all} is some s m apart =
+kept_again {pages} {news} {now_told} {free} {now} root height records {used} {uses} {all} is some s m apart =
     let still = apart_then pages news free now used uses m apart in
     record {
       tree = tree_again news now_told now root height records uses all is some s still;
@@ -87,12 +87,11 @@ pub kept_split : (r : Record) {told : Option (List (List ℕ))} {mid_told now_to
     → t.height ≡ suc h → UnderRoot r told mid_told free mid size t (inserted.Split key right)
     → IsNewRoot t mid_told now_told mid now size key right new bytes → t.height < count_free free size → HasItsPages told free t rs
     → HasItsPages now_told now (record { root = new; height = t.height + 1; records = t.records + 1 }) (put r rs)
-kept_split r {told = told} {free = free} {size = size} {t = t} {rs = rs} {new} {h} rooted many tall f is room w =
+kept_split r {told} {free} {size} {t} {rs} {new} {h} rooted many tall f is room w =
     let ne : t.height ≢ 0 = omega arith in
     let a = at_root told free t rs ne w in
     let did = f true everywhere rs a.used (insert_can told free size t r.key rs room a) in
-    let grown = regrown_split
-    rooted many tall did.was did.is did.done.1 a.can.apart is in
+    let grown = regrown_split rooted many tall did.was did.is did.done.1 a.can.apart is in
     let some : 1 ≤ t.height + 1 = omega arith in
     kept_again new (t.height + 1) (t.records + 1)
     grown.is some grown.subtree grown.moves a.can.apart
@@ -145,7 +144,7 @@ pub kept_low : (r : Record) {told : Option (List (List ℕ))} {now_told : Option
     {t : Tree} {rs : List Record} {key : Key} {right : ℕ} → t.records < quota size → size ≤ 30000 → t.height ≡ 3
     → UnderRoot r told now_told free now size t (inserted.Split key right) → t.height < count_free free size → length rs ≡ t.records
     → HasItsPages told free t rs → ⊥
-kept_low r {told = told} {free = free} {size} {t = t} {rs = rs} {key} {right} few most tall f room number w =
+kept_low r {told} {free} {size} {t} {rs} {key} {right} few most tall f room number w =
     let ne : t.height ≢ 0 = omega arith in
     let a = at_root told free t rs ne w in
     let did = f true everywhere rs a.used (insert_can told free size t r.key rs room a) in

@@ -124,7 +124,7 @@ pub leaf_split : {told : Option (List (List ℕ))} {now_told : Option (List (Lis
     → IsGrowing told size page r rs i → AreHalves r rs i left right key start → new < size → free new ≡ true → FreesOnly new false free now
     → Goes (λ old now. now ≡ slice_set (slice_set old page left) new right) told now_told → CanInsert told free size page 1 is_root b r.key rs used
     → DidInsert r told now_told free now page 1 is_root b rs used (inserted.Split key new)
-leaf_split {told = told} {now_told} {free = free} {now = now} {size = size} {page = page} {new = new} {i} {r} {left} {right} {key} {start} {b = b} {rs = rs} {used = used} is h inside_new t f wrote can =
+leaf_split {told} {now_told} {free} {now} {size} {page} {new} {i} {r} {left} {right} {key} {start} {b} {rs} {used} is h inside_new t f wrote can =
     let pages = can.can_edit.pages in
     let told_is = can.can_edit.is_told in
     let s = can.can_edit.subtree in

@@ -43,26 +43,6 @@ head_low : (ks : List Key) (b : Bounds) → (head_bounds ks b).low ≡ b.low
 head_low [] b = refl
 head_low (k ∷ ks) b = refl
 
--- the bounds of a subtree leave room for a key
-some_key : (b : Bounds) (ks : List Key) → 1 ≤ length ks → are_within b ks ≡ true → (k : Key) × (is_above b.low k ≡ true) × (is_below b.high k ≡ true)
-some_key b [] h w = absurd (omega arith)
-some_key b (k ∷ ks) h w = let t = and_parts (is_above b.low k && is_below b.high k) (are_within b ks) w in let u =
-    and_parts (is_above b.low k) (is_below b.high k) t.0 in (k, u.0, u.1)
-
-pub has_key_within : (pages : List (List ℕ)) (height : ℕ) (is_root : Bool) (at : ℕ × Bounds) (rs : List Record) (used : List ℕ)
-    → Subtree pages height is_root at rs used
-    → (k : Key) × (is_above at.1.low k ≡ true) × (is_below at.1.high k ≡ true)
-has_key_within pages zero is_root at rs used s = absurd s
-has_key_within pages (suc zero) is_root at rs used s =
-    let list = leaf_list (slice_index_or pages at.0 []) rs s.page in
-    some_key at.1 (map (λ (r : Record). r.key) rs) (subst (λ n. 1 ≤ n) (sym (length-map rs (λ (r : Record). r.key))) list.least) s.within
-has_key_within pages (suc (suc h)) is_root at rs used s =
-    let list = inner_list (length pages) (slice_index_or pages at.0 []) s.inner s.page in
-    some_key at.1 s.inner.keys (some (length s.inner.children) (length s.inner.keys) list.least list.keys) s.within
-  where
-    some : (c k : ℕ) → 2 ≤ c → c ≡ k + 1 → 1 ≤ k
-    some c k h e = omega arith
-
 -- keys whose last is below another key are below it
 under_from : (ks : List Key) (b : Bounds) (key : Key) → is_ascending ks ≡ true
     → ((l : Key) → (from_keys ks b).low ≡ Some l → is_lt (key_cmp l key) ≡ true) → are_under key ks ≡ true

@@ -289,7 +289,7 @@ pub regrown_split : {told mid_told now_told : Option (List (List ℕ))} {pages m
     {all : List Record} {used : List ℕ} {key : Key} {right new : ℕ} {bytes : List ℕ} {h : ℕ} → IsRooted size t → TellsAll told size → t.height ≡ suc h
     → told ≡ Some pages → mid_told ≡ Some mids → Separated pages mids free mid t.root t.height everywhere used all key right → AreApart free used
     → IsNewRoot t mid_told now_told mid now size key right new bytes → IsRegrown pages now_told free now new (t.height + 1) used all
-regrown_split {told = told} {mid_told = mid_told} {now_told = now_told} {pages = pages} {mids = mids} {free = free} {mid = mid} {now = now} {size = size} {t = t} {all = all} {used = used} {key = key} {right = right} {new = new} {bytes = bytes} {h} rooted many tall was mid_is separated apart is =
+regrown_split {told} {mid_told} {now_told} {pages} {mids} {free} {mid} {now} {size} {t} {all} {used} {key} {right} {new} {bytes} {h} rooted many tall was mid_is separated apart is =
     let some : 1 ≤ t.height = omega arith in
     let S = Subtree mids (suc h) false in
     let U = separated.rest_uses ++ separated.first_uses in
@@ -358,12 +358,10 @@ module _ (r : Record) (told now_told : Option (List (List ℕ))) (free now : ℕ
       let ne : t.height ≢ 0 = omega arith in
       let x = insert_from told free size t rs i ne w in
       let did = f true everywhere rs x.used (whole_can told free size t.root t.height r.key rs i.rooted.height x) in
-      let grown = regrown_split
-      i.rooted i.many tall did.was did.is did.done.1 x.apart is in
+      let grown = regrown_split i.rooted i.many tall did.was did.is did.done.1 x.apart is in
       let some_now : 1 ≤ t.height + 1 = omega arith in (
         sym (ap not did.done.0),
-        whole_again new
-            grown.is some_now grown.subtree grown.moves x.apart x.balance (more_records r rs t.records w.number),
+        whole_again new grown.is some_now grown.subtree grown.moves x.apart x.balance (more_records r rs t.records w.number),
       )
 
   pub whole_first : t.height ≡ 0 → leaf_of bytes ≡ Some (r ∷ []) → (1 ≤ new) × (new < size) → free new ≡ true → FreesOnly new false free now

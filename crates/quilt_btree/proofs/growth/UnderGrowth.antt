@@ -342,7 +342,7 @@ pub sound_under : (e : Stop) {told : Option (List (List ℕ))} {then_told : Opti
     → ((is_root : Bool) (b : Bounds) (rs : List Record) (used : List ℕ) → CanInsert then_told then_free then_size child (height - 1) is_root b k rs used → AreFew rs
     → IsNotDamage e)
     → CanInsert told free size page height is_root b k rs used → AreFew rs → IsNotDamage e
-sound_under e {told = told} {then_told} {free = free} {then_free} {size = size} {then_size} {page = page} {height = height} {child} {i} {k = k} {inner} {is_root = is_root} {b = b} {rs = rs} {used = used} l f can few =
+sound_under e {told} {then_told} {free} {then_free} {size} {then_size} {page} {height} {child} {i} {k} {inner} {is_root} {b} {rs} {used} l f can few =
     let x = insert_below told then_told free then_free size then_size page height child i k inner is_root b rs used l can in
     f false (child_bounds inner b i) x.at.here x.at.here_used
     (child_can told then_told free then_free size then_size page height child i k inner is_root b rs used l can x)

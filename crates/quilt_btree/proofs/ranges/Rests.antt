@@ -113,7 +113,7 @@ module _ (told : Option (List (List ℕ))) (t : Tree) (low high : Key) where
 pub rest_next : {told : Option (List (List ℕ))} {t : Tree} (low : Key) {from high : Key} {next : Key} {most : ℕ} {leaf old new : List Record}
     {rs : List Record} {up : Option Key} (c : CameTo told t from high most leaf old new up) (is : IsTree told t rs)
     → Before told t low high most from rs old → up ≡ Some next → Before told t low high most next rs new
-rest_next {told = told} {t = t} low {from} {high} {next = next} {most} {leaf} {old} {new} {rs = rs} {up = up} c is b e =
+rest_next {told} {t} low {from} {high} {next} {most} {leaf} {old} {new} {rs} {up} c is b e =
     let l = rest_so_far told t low from high most leaf old new rs up c is b in
     rest_goes_on told t low c is l.0 l.1 b.3 e
 
@@ -164,7 +164,7 @@ pub loop_goes_on : {o : Option Key} {told now : Option (List (List ℕ))} {t : T
     (new : List Record) → now ≡ told → o ≡ Some next → GoesAsFar told t high most start first from old
     → IfSome o (λ k. GoesAsFar now t high most from old k new) → GoesAsFar told t high most start first next new
 loop_goes_on {o = None} new same is s f = cc
-loop_goes_on {o = (Some k)} {told} {now} {t} {high} {from = from} {next = next} {most} {old = old} new same is s f = λ low rs tree b.
+loop_goes_on {o = (Some k)} {told} {now} {t} {high} {from} {next} {most} {old} new same is s f = λ low rs tree b.
     let e : k ≡ next = cc in
     subst (λ n. Before told t low high most n rs new) e
     (along_before now told t low high most k rs new (sym same)
@@ -173,12 +173,12 @@ loop_goes_on {o = (Some k)} {told} {now} {t} {high} {from = from} {next = next} 
 pub loop_ends : {o : Option Key} {told now : Option (List (List ℕ))} {t : Tree} {high start from : Key} {most : ℕ} {first old : List Record}
     (new : List Record) → now ≡ told → o ≡ None → GoesAsFar told t high most start first from old → (o ≡ None → GoesToEnd now t high most from old new)
     → GoesToEnd told t high most start first new
-loop_ends {told = told} {now = now} {t} {high} {from = from} {most} {old = old} new same is s f = λ low rs tree b.
+loop_ends {told} {now} {t} {high} {from} {most} {old} new same is s f = λ low rs tree b.
     f is low rs (along_tree told now t rs same tree) (along_before told now t low high most from rs old same (s low rs tree b))
 
 pub loop_sound : (e : Stop) {told now : Option (List (List ℕ))} {t : Tree} {high start from : Key} {most : ℕ} {first old : List Record} → now ≡ told
     → GoesAsFar told t high most start first from old → StopsSound now t high most from old e → StopsSound told t high most start first e
-loop_sound e {told} {now} {t} {high} {from = from} {most} {old = old} same s f = λ low rs tree b.
+loop_sound e {told} {now} {t} {high} {from} {most} {old} same s f = λ low rs tree b.
     f low rs (along_tree told now t rs same tree) (along_before told now t low high most from rs old same (s low rs tree b))
 
 -- three reads more, for at least one record more

@@ -199,8 +199,7 @@ module _ (k : Key) (told mid between : Option (List (List ℕ))) (free was then 
       let among = among_child told free page height i inner k is_root b rs used a in
       let did = f false (child_bounds inner b i) at.here at.here_used
       (child_edit told mid free was page height child i inner k is_root b rs used a c.is_mid c.is_free c.is_child) in
-      let l = child_left
-      a c.is_mid c.is_free c.is_child did.1.was did.1.is did.1.left in
+      let l = child_left a c.is_mid c.is_free c.is_child did.1.was did.1.is did.1.left in
       let S = Subtree l.news (suc a.below) false in
       let changed = middle_changed S a.below (same_subtree l.news a.below) ((slice_index inner.children i, child_bounds inner b i) ∷ []) (without k at.here)
       (around free page at (subst (AreApart free) a.is_used a.apart)) (row_one S (slice_index inner.children i, child_bounds inner b i) (without k at.here) l.uses l.subtree) l.moves in
@@ -287,8 +286,7 @@ module _ (k : Key) (told mid between : Option (List (List ℕ))) (free was then 
       let did = f false (child_bounds inner b i) at.here at.here_used
       (child_edit told mid free was page height child i inner k is_root b rs used a c.is_mid c.is_free c.is_child) in
       let left = did.1.left in
-      let l = child_left
-      a c.is_mid c.is_free c.is_child did.1.was did.1.is left.1 in
+      let l = child_left a c.is_mid c.is_free c.is_child did.1.was did.1.is left.1 in
       let nearly : IsNearlyFull l.news (suc a.below) underfull = subst (λ n. IsNearlyFull l.news (suc a.below) n) c.is_child
       (subst (λ n. IsNearlyFull l.news n child) (one_less height a.below a.is_height) (left.0 refl)) in
       let T = Partly l.news (suc a.below) underfull in

@@ -195,7 +195,7 @@ pub neighbours : {told : Option (List (List ℕ))} {free : ℕ → Bool} {page h
     {right : ℕ} → j + 1 < length inner.children → (j ≡ i) ⊎ (j + 1 ≡ i) → next ≡ suc j → left ≡ slice_index inner.children j
     → right ≡ slice_index inner.children next → slice_get inner.keys j ≡ Some key
     → Neighbours told free page s.below inner j left key right is_root b rs used
-neighbours {free = free} {page = page} {inner = inner} {i = i} {b = b} {rs = rs} {used = used} s j {next = next} {left = left} {key} {right = right} lt one nx l r k =
+neighbours {free} {page} {inner} {i} {b} {rs} {used} s j {next} {left} {key} {right} lt one nx l r k =
     let list = inner_list (length s.pages) (slice_index_or s.pages page []) inner s.page_is in
     let cut = cut_two inner.children inner.keys list.keys lt nx l r k in
     let underfull = slice_index inner.children i in

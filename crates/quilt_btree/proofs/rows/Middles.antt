@@ -69,7 +69,7 @@ pub record CutTwo (cs : List ℕ) (ks : List Key) (j left : ℕ) (key : Key) (ri
 
 pub cut_two : (cs : List ℕ) (ks : List Key) {j : ℕ} {next left : ℕ} {key : Key} {right : ℕ} → length cs ≡ length ks + 1 → j + 1 < length cs
     → next ≡ suc j → left ≡ slice_index cs j → right ≡ slice_index cs next → slice_get ks j ≡ Some key → CutTwo cs ks j left key right
-cut_two cs ks {j} {left = left} {key} n lt nx l r k =
+cut_two cs ks {j} {left} {key} n lt nx l r k =
     let here : j < length cs = omega arith in
     let there : suc j < length cs = omega arith in
     let low : j ≤ length cs = omega arith in
@@ -186,7 +186,7 @@ pub middle_changed : (T : Reading) {pages news : List (List ℕ)} {free now : �
     (others : List (ℕ × Bounds)) {behind : List (ℕ × Bounds)} {first : List Record} (all : List Record) {last : List Record} {hu uses under : List ℕ}
     → StandsAround (Subtree pages (suc h) false) free page before behind first last hu under → Row T others all uses
     → KeepsAccount pages news free now hu uses → RowChanged T pages news free now page (before ++ (others ++ behind)) (first ++ (all ++ last)) under
-middle_changed T {pages = pages} {news = news} {free = free} {now = now} h {page} embed {before} others {behind} {first} all {last} {hu = hu} {uses = uses} {under = under} beside row moves =
+middle_changed T {pages} {news} {free} {now} h {page} embed {before} others {behind} {first} all {last} {hu} {uses} {under} beside row moves =
     let fu = beside.first_used in
     let lu = beside.last_used in
     let is = beside.is_under in

@@ -47,7 +47,7 @@ module _ (pages news : List (List ℕ)) where
       → (at : AtPlace (Subtree pages (suc h) false) before middle behind rs under) → Row (Subtree news (suc h) false) others all uses
       → KeepsAccount pages news free now at.here_used uses → RowMoved pages news free now h page (before ++ (others ++ behind))
       (at.first ++ (all ++ at.last)) under
-  middle_moved {free} {now} h page {before} {behind = behind} others {under = under} all {uses} apart at row moves =
+  middle_moved {free} {now} h page {before} {behind} others {under} all {uses} apart at row moves =
       let total : (p : ℕ) → multiplicity p (under ++ page ∷ []) ≡ multiplicity p at.last_used + multiplicity p at.here_used + multiplicity p at.first_used + multiplicity p (page ∷ []) =
       λ p. times-append p under (page ∷ [])
       ∙ ap (λ n. n + multiplicity p (page ∷ [])) (ap (multiplicity p) at.is_used ∙ times-three p at.last_used at.here_used at.first_used) in

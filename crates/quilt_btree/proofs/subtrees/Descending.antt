@@ -262,7 +262,7 @@ pub leads_up : (r : Result Found Stop) (leaf : List Record) {old new : Option (L
     → IfOk r (λ f. (rs : List Record) (s : SpellsSubtree new child (height - 1) rs) → s.bounds.high ≡ high → LeadsToLeaf k rs leaf high f.high)
     → IfOk r (λ f. (rs : List Record) (s : SpellsSubtree old page height rs) → s.bounds.high ≡ start → LeadsToLeaf k rs leaf start f.high)
 leads_up (Err e) leaf start a is f = f
-leads_up (Ok v) leaf {old = old} {new = new} {page} {height} {i = i} {k = k} {inner} start {high = high} a is f = λ rs s h.
+leads_up (Ok v) leaf {old} {new} {page} {height} {i} {k} {inner} start {high} a is f = λ rs s h.
     let at = subst (λ o. LeadsBelow old height inner i k rs o) h (leads_below old page height inner i k a.some a.above s a.reads a.place) in
     let same : at.high ≡ high = at.is_next ∙ sym is in
     let g = subst (λ (c : ℕ). (rs : List Record) (s : SpellsSubtree new c (height - 1) rs) → s.bounds.high ≡ high → LeadsToLeaf k rs leaf high v.high) a.is_child f in

@@ -20,8 +20,7 @@ returns-in_err-rest-clause-sound g c =
 
 pub returns-then-not-leaves_ascend-clause-sound : goal.returns-then-not-leaves_ascend-clause-sound
 returns-then-not-leaves_ascend-clause-sound g c = λ height b rs used one m page e.
-    not_leaves (g.S.PageStore.told c.args.store.now) (g.S.PageStore.free c.args.store.now)
-    one c.in_ok-first.ensures.leaf
+    not_leaves (g.S.PageStore.told c.args.store.now) (g.S.PageStore.free c.args.store.now) one c.in_ok-first.ensures.leaf
     (λ pages t. c.in_ok-rest.ensures.leaf pages (c.in_ok-first.ensures.left.told ∙ t)) c.leaves_ascend.ensures c.if-not-leaves_ascend.true m
 
 pub returns-in-Ok-clause-rebalanced : goal.returns-in-Ok-clause-rebalanced
@@ -44,15 +43,13 @@ returns-in-Ok-clause-rebalanced g c = λ height b rs used one m.
 
 pub returns-in-Err-clause-sound : goal.returns-in-Err-clause-sound
 returns-in-Err-clause-sound g c = λ height b rs used one m.
-    let t = leaves_taken (g.S.PageStore.told c.args.store.now) (g.S.PageStore.free c.args.store.now)
-    one
+    let t = leaves_taken (g.S.PageStore.told c.args.store.now) (g.S.PageStore.free c.args.store.now) one
     (c.in_ok-rest.ensures.left.free ∙ c.in_ok-first.ensures.left.free) m in
     c.in-Err.ensures.sound t.0 t.1
 
 pub returns-in-Err-write_both-clause-sound : goal.returns-in-Err-write_both-clause-sound
 returns-in-Err-write_both-clause-sound g c = λ height b rs used one m.
-    let t = leaves_taken (g.S.PageStore.told c.args.store.now) (g.S.PageStore.free c.args.store.now)
-    one
+    let t = leaves_taken (g.S.PageStore.told c.args.store.now) (g.S.PageStore.free c.args.store.now) one
     (c.in_ok-rest.ensures.left.free ∙ c.in_ok-first.ensures.left.free) m in
     c.in-Err-write_both.ensures.sound t.0 t.1
 

@@ -30,8 +30,7 @@ returns-in-Ok-write_split-clause-put g c is_root b rs used same can =
     let e = c.len.ensures.length in
     let r = c.len.ensures.range in
     let f = c.if-len-lt-MOST_RECORDS.false in
-    leaf_split
-    (record {
+    leaf_split (record {
       inside = c.requires.page.1;
       many = g.met.S.PageStore.as_many c.args.store.now;
       gap = subst (λ (l : List Record). IsGap c.args.r.now.key l c.args.i) same c.requires.place;

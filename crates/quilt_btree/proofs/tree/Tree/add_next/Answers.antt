@@ -58,8 +58,7 @@ returns-in_default-clause-goes_on g c = record {
       search rules;
   goes_on =
       rw c.in-Some.is (λ low rs is b.
-      rest_next low
-      (record {
+      rest_next low (record {
         some = let h = c.requires.height in omega arith;
         leads = (c.in-Ok.ensures.arrives c.in-Ok-add_at.ensures.adds.bytes (told_before _ _ _ _ (sym c.in-Ok.ensures.left.told) c.in-Ok-add_at.ensures.adds.are)).leads;
         cut = (c.in-Ok.ensures.arrives c.in-Ok-add_at.ensures.adds.bytes (told_before _ _ _ _ (sym c.in-Ok.ensures.left.told) c.in-Ok-add_at.ensures.adds.are)).cut;

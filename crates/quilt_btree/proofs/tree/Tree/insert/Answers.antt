@@ -192,8 +192,7 @@ returns-in-Ok-write_new-clause-inserts g c = record {
       rw c.in-Ok-Split.field-0-is at c.in-Ok-Split.ensures.leaves.right in
       let new_in : (1 ≤ c.in-Ok-write_new.root) × (c.in-Ok-write_new.root < (g.S.PageStore.size c.args.store.now)) =
       subst (λ n. (1 ≤ c.in-Ok-write_new.root) × (c.in-Ok-write_new.root < n)) c.in-Ok-Split.ensures.left.size c.in-Ok-write_new.ensures.page in
-      kept_split c.args.r.now
-      c.requires.rooted (g.met.S.PageStore.as_many c.args.store.now) tall (rw c.in-Ok-Split.field-0-is at c.in-Ok-Split.ensures.inserted)
+      kept_split c.args.r.now c.requires.rooted (g.met.S.PageStore.as_many c.args.store.now) tall (rw c.in-Ok-Split.field-0-is at c.in-Ok-Split.ensures.inserted)
       (record {
         is_written = subst (λ (x : Inner). IsWritten c.bytes-in-Ok-Split.result.now x) c.pair-page.ensures c.bytes-in-Ok-Split.ensures.inner;
         right_in = right_in;
@@ -210,8 +209,7 @@ returns-in-Err-clause-goes g c rs w n room = c.in-Err.ensures.sound (let r = roo
 
 pub returns-then-self-eq3-clause-goes : goal.returns-then-self-eq3-clause-goes
 returns-then-self-eq3-clause-goes g c rs w n room =
-    absurd (kept_low c.args.r.now
-    c.requires.room (g.met.S.PageStore.in_range c.args.store.now).1 c.if-self-eq3.true (rw c.in-Ok-Split.field-0-is at c.in-Ok-Split.ensures.inserted)
+    absurd (kept_low c.args.r.now c.requires.room (g.met.S.PageStore.in_range c.args.store.now).1 c.if-self-eq3.true (rw c.in-Ok-Split.field-0-is at c.in-Ok-Split.ensures.inserted)
     room n w)
 
 pub returns-in-Err-insert_under-clause-goes : goal.returns-in-Err-insert_under-clause-goes
