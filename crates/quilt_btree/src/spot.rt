@@ -1,5 +1,4 @@
-ghost use Rattle.std.specs.Prelude.{◌≡◌, ◌≢◌, ℕ, ◌+◌, ◌*◌, ◌<◌, ◌≤◌, true, IfOk, IfErr, IfSome, OnOk, List, Option, Some, None, vec_len};
-ghost use Rattle.std.specs.List.{list_all};
+ghost use Rattle.std.specs.Prelude.{◌≡◌, ℕ, ◌+◌, ◌*◌, ◌<◌, ◌≤◌, true, IfOk, IfErr, IfSome, OnOk, List, Option, Some, None, vec_len};
 ghost use Rattle.std.specs.Ordering.{is_le};
 ghost use Rattle.quilt_record.specs.declared.record.Record.{Record};
 ghost use Rattle.quilt_record.specs.Records.{key_cmp};
@@ -7,12 +6,11 @@ ghost use Rattle.quilt_node.specs.Tree.{is_below};
 ghost use Rattle.quilt_store.specs.Calls.{OnlyReads};
 ghost use Rattle.quilt_store.specs.Stops.{IsNotDamage};
 ghost use Rattle.quilt_world.specs.Tale.{Goes};
-ghost use Rattle.quilt_types.specs.declared.stop.Stop.TheVariants.{Damaged};
 ghost use Rattle.quilt_btree.specs.Damage.{NamesBad};
-ghost use Rattle.quilt_btree.specs.Lists.{value_at_key, floor_of, range_of, is_from_to};
+ghost use Rattle.quilt_btree.specs.Lists.{value_at_key, floor_of, range_of};
 ghost use Rattle.quilt_btree.specs.Looks.{LooksAt, AddsFrom};
 ghost use Rattle.quilt_btree.specs.Searches.{AreOf};
-ghost use Rattle.quilt_btree.specs.Spots.{IsSpot, IsSpotIf, IsAtSpot, IsAtKey};
+ghost use Rattle.quilt_btree.specs.Spots.{IsSpot, IsSpotIf, IsAtSpot, IsAtKey, LeadsFrom, LooksFrom, RangesFrom, FitsRange, StopsAtBad};
 ghost use Rattle.quilt_btree.specs.Stops.{NamesPage};
 ghost use Rattle.quilt_btree.specs.Trees.{IsRooted, IsTree};
 ghost use Rattle.quilt_btree.specs.declared.tree.Tree.{Tree as AnyTree};
@@ -74,8 +72,7 @@ impl Tree {
         ensures bad { IfErr result (NamesBad (S.told store.old) self.now.height self.now.root) }
         ensures left { OnlyReads S.PageStore store.old store.new result }
         ensures reads { Goes (λ old new. new ≤ old + 3) (S.reads store.old) (S.reads store.new) }
-        ensures here { IsAtSpot (S.size store.old) spot.old k.now → Goes (λ old new. new ≤ old + 1) (S.reads store.old) (S.reads store.new) }
-        ensures placed { OnOk result (1 ≤ self.now.height → IsAtSpot (S.size store.old) spot.new k.now) }
+        ensures from { LooksFrom (S.size store.old) self.now k.now spot.old spot.new (S.reads store.old) (S.reads store.new) result }
     {
         if self.height == 0 {
             return Ok(None);
@@ -172,15 +169,11 @@ impl Tree {
             → records.items ≡ range_of low.now high.now most rs) }
         ensures spot { OnOk result (IsSpotIf (S.told store.old) self.now spot.new) }
         ensures sound { IfErr result (λ e. (rs : List Record) → IsTree (S.told store.old) self.now rs → IsNotDamage e) }
-        ensures names { IfErr result (NamesPage (S.size store.old)) }
-        ensures bad { IfErr result (λ e. e ≢ Damaged 0 → NamesBad (S.told store.old) self.now.height self.now.root e) }
+        ensures stops { StopsAtBad (S.told store.old) (S.size store.old) self.now result }
         ensures left { OnlyReads S.PageStore store.old store.new result }
-        ensures number { IfOk result (λ records. vec_len records ≤ most) }
-        ensures within { IfOk result (λ records. list_all (is_from_to low.now high.now) records.items ≡ true) }
+        ensures fits { IfOk result (λ records. FitsRange low.now high.now most (vec_len records) records.items) }
         ensures reads { IfOk result (λ records. Goes (λ old new. new ≤ old + 6 + 3 * vec_len records) (S.reads store.old) (S.reads store.new)) }
-        ensures here { IsAtSpot (S.size store.old) spot.old low.now → IsAtSpot (S.size store.old) spot.old high.now
-            → Goes (λ old new. new ≤ old + 1) (S.reads store.old) (S.reads store.new) }
-        ensures placed { OnOk result (1 ≤ self.now.height → IsAtSpot (S.size store.old) spot.new low.now) }
+        ensures from { RangesFrom (S.size store.old) self.now low.now high.now spot.old spot.new (S.reads store.old) (S.reads store.new) result }
     {
         let mut records = Vec::new(alloc);
         if self.height == 0 {
@@ -217,9 +210,7 @@ impl Tree {
         requires rooted { IsRooted (S.size store.old) self.now }
         requires some { 1 ≤ self.now.height }
         requires spot { IsSpotIf (S.told store.old) self.now spot.now }
-        ensures page { IfOk result (λ s. (1 ≤ s.page) × (s.page < S.size store.old)) }
-        ensures spot { IfOk result (IsSpot (S.told store.old) self.now) }
-        ensures keys { IfOk result (λ s. (is_le (key_cmp s.low k.now) ≡ true) × (is_below s.high k.now ≡ true)) }
+        ensures leads { LeadsFrom (S.told store.old) (S.size store.old) self.now k.now result }
         ensures here { IsAtSpot (S.size store.old) spot.now k.now → IfOk result (λ s. spot.now ≡ Some s)
             × Goes (λ old new. new ≤ old) (S.reads store.old) (S.reads store.new) }
         ensures sound { IfErr result (λ e. (rs : List Record) → IsTree (S.told store.old) self.now rs → IsNotDamage e) }

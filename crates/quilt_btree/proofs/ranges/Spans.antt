@@ -63,6 +63,9 @@ first_within low high most leaf new is =
     ap (list_all (is_from_to low high)) is ∙ all_take (is_from_to low high) (filter (is_from_to low high) leaf) most
     (all_filter (is_from_to low high) leaf)
 
+pub first_few : (most : ℕ) (some new : List Record) → new ≡ take most ([] ++ some) → length new ≤ most
+first_few most some new is = (added_most most [] some new is (omega arith)).0
+
 pub above_bound : (k next : Key) (high : Option Key) → (is_below None k ≡ true → is_below high k ≡ true) → high ≡ Some next
     → is_lt (key_cmp k next) ≡ true
 above_bound k next high f is = subst (λ o. is_below o k ≡ true) is (f refl)

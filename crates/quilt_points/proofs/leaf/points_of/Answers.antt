@@ -31,7 +31,7 @@ returns-in-Ok-clause-sound g c =
 pub returns-in-Ok-clause-reads : goal.returns-in-Ok-clause-reads
 returns-in-Ok-clause-reads g c =
     if_ok_of c.points_said.result
-    (reads_range _ c.args.layer.bucket _ _ (let most = c.in-Ok.ensures.number in let is = c.from.ensures in omega (arith, most, is)) c.in-Ok.ensures.reads)
+    (reads_range _ c.args.layer.bucket _ _ (let most = c.in-Ok.ensures.fits.number in let is = c.from.ensures in omega (arith, most, is)) c.in-Ok.ensures.reads)
 
 pub returns-in-Ok-clause-row : goal.returns-in-Ok-clause-row
 returns-in-Ok-clause-row g c =

@@ -5,6 +5,5 @@ use Rattle.quilt_btree.proofs.tree.Tree.floor_here.Goals as goal
 pub returns-in-Ok-page-clause-floor : goal.returns-in-Ok-page-clause-floor
 returns-in-Ok-page-clause-floor g c =
     let found = c.in-Ok.found in
-    floor_of_spot c.args.k.now
-    c.floor_in.result c.in-Ok.ensures.spot c.in-Ok.ensures.keys.1
+    floor_of_spot c.args.k.now c.floor_in.result c.in-Ok.ensures.leads.spot c.in-Ok.ensures.leads.keys.1
     (are_before _ _ _ _ c.in-Ok.ensures.left.told c.in-Ok-page.ensures.bytes) c.floor_in.ensures

@@ -9,6 +9,5 @@ returns-then-self-eq0-clause-value g c = λ rs is. no_value (g.S.PageStore.told 
 pub returns-in-Ok-page-clause-value : goal.returns-in-Ok-page-clause-value
 returns-in-Ok-page-clause-value g c =
     let found = c.in-Ok.found in
-    value_from c.args.k.now
-    c.in-Ok.ensures.spot c.in-Ok.ensures.keys.0 c.in-Ok.ensures.keys.1
+    value_from c.args.k.now c.in-Ok.ensures.leads.spot c.in-Ok.ensures.leads.keys.0 c.in-Ok.ensures.leads.keys.1
     (are_before _ _ _ _ c.in-Ok.ensures.left.told c.in-Ok-page.ensures.bytes) c.value_in.ensures
