@@ -1,20 +1,17 @@
 -- A child behind another one, where a key parts the two.
-use Rattle.std.proofs.Common.{◌≡◌, ℕ, zero, suc, ◌+◌, ◌<◌, ◌≤◌, Bool, true, ◌&&◌, List, [], ◌∷◌, ◌++◌, length, take, drop, Option, Some, slice_index}
+use Rattle.std.proofs.Common.{◌≡◌, ℕ, zero, suc, ◌+◌, ◌<◌, true, ◌&&◌, List, [], ◌∷◌, ◌++◌, length, take, drop, Option, Some, slice_index}
 use Rattle.std.proofs.lemmas.Bool.{and_from, and_parts}
-use Rattle.std.proofs.Common.{slice_index_or, refl, sym, ◌∙◌, ap, subst, arith, take-append-drop, map}
-use Rattle.std.proofs.lemmas.List.{length-map}
+use Rattle.std.proofs.Common.{refl, sym, ◌∙◌, ap, subst, arith, take-append-drop}
 use Rattle.std.specs.List.{insert, list_all}
 use Rattle.std.specs.Ordering.{is_lt}
 use Rattle.quilt_record.specs.declared.key.Key.{Key}
-use Rattle.quilt_record.specs.declared.record.Record.{Record}
 use Rattle.quilt_record.specs.Records.{key_cmp}
 use Rattle.quilt_node.specs.Pages.{Inner, is_ascending}
 use Rattle.quilt_node.specs.Tree.{Bounds, bounded, are_within, is_above, is_below}
 use Rattle.quilt_node.proofs.Ascending.{ascending_insert, ascending_take, ascending_drop}
-use Rattle.quilt_btree.specs.Subtree.{Subtree}
 use Rattle.quilt_record.proofs.Orders.{lt_le, lt_to_le}
 use Rattle.quilt_btree.proofs.lists.Rising.{all_follow, all_parts, all_append, above_on, below_on}
-use Rattle.quilt_btree.proofs.subtrees.Trees.{leaf_list, inner_list, ascending_first, ascending_rest}
+use Rattle.quilt_btree.proofs.subtrees.Trees.{ascending_first, ascending_rest}
 use Rattle.quilt_btree.proofs.rows.Places.{front, from_keys, head_bounds, tail_places, bounded_front, bounded_head, high_from}
 use Rattle.quilt_btree.proofs.subtrees.Descents.{child_bounds, as_long, behind_many}
 use Rattle.quilt_btree.proofs.lists.Fitting.{are_under, are_over}
