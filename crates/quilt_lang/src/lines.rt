@@ -136,8 +136,9 @@ impl Lines {
                 Ok(Some(command))
             }
             Front::There(line, what) => {
-                let (command, len) =
-                    front_command(alloc, self.level, format, rest, line, what, ended)?;
+                let (command, len) = front_command(
+                    alloc, self.level, format, rest, line, what, ended,
+                )?;
                 self.pass(len);
                 Ok(Some(command))
             }

@@ -1,4 +1,4 @@
-use Rattle.std.proofs.Common.{List, ℕ, take, map, refl}
+use Rattle.std.proofs.Common.{take, map, refl}
 use Rattle.quilt_words.specs.Items.{held}
 use Rattle.quilt_lang.specs.Cutting.{grouped}
 use Rattle.quilt_lang.proofs.command_front.front_command.Goals as goal

@@ -1,4 +1,4 @@
-use Rattle.std.proofs.Common.{List, ℕ, take, map}
+use Rattle.std.proofs.Common.{take, map}
 use Rattle.quilt_lang.specs.Cutting.{grouped}
 use Rattle.quilt_lang.proofs.front.front_item.Goals as goal
 
