@@ -1,5 +1,5 @@
 -- Hexadecimal digits, and the bytes that two of them spell.
-use Rattle.std.proofs.Common.{◌≡◌, ℕ, ◌+◌, ◌-◌, ◌*◌, ◌%◌, ◌<◌, ◌≤◌, ◌&&◌, min, max, Bool, true, false, cond, List, ◌∷◌, Option, Some, None, unwrap_or, IfSome}
+use Rattle.std.proofs.Common.{◌≡◌, ℕ, ◌+◌, ◌-◌, ◌*◌, ◌%◌, ◌<◌, ◌≤◌, ◌&&◌, min, max, true, false, cond, List, ◌∷◌, Option, Some, None, unwrap_or, IfSome}
 use Rattle.std.proofs.Common.{refl, ◌∙◌, ap, arith, ◌⊎◌, inl, inr, nat_le}
 use Rattle.std.proofs.lemmas.Bool.{le-leb, leb-true, leb-false, cases_Bool, and_parts}
 use Rattle.quilt_words.specs.Spelling.{hex_digit, row, cons_both}

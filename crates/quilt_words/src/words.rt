@@ -84,12 +84,12 @@ pub fn line_words(alloc: Global, line: &[u8]) -> Result<Vec<&[u8]>, AllocError>
     Ok(words)
 }
 
-/// Whether each byte is one that a line may have. They are tested eight at a time: the last eight together, whether some of them
-/// were tested before or not.
+/// Whether each byte is one that a line may have. Those of a short line are tested eight at a time: the last eight together,
+/// whether some of them were tested before or not.
 pub fn is_plain_line(line: &[u8]) -> bool
     ensures { result ≡ list_all is_plain line.now }
 {
-    if line.len() < 8 {
+    if line.len() < 8 || line.len() > 32 {
         return are_plain(line);
     }
     let mut from = 0;
