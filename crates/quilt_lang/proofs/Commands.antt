@@ -12,14 +12,10 @@ use Rattle.quilt_words.specs.Made.{further_of, nothing_further}
 use Rattle.quilt_words.proofs.SpelledLaws.{spelled_fits}
 use Rattle.quilt_lang.specs.declared.asked.Asked.{Asked}
 use Rattle.quilt_lang.specs.declared.asked.Asked.TheVariants as kinds
-use Rattle.quilt_lang.specs.declared.command_front.LineCommand.{LineCommand}
-use Rattle.quilt_lang.specs.declared.command_front.LineCommand.TheVariants as commands_of
-use Rattle.quilt_lang.specs.Reading.{Gives, GivesCommand, Unread}
+use Rattle.quilt_lang.specs.Reading.{Gives, GivesCommand}
 use Rattle.quilt_lang.specs.Cutting.{Cuts, CutsUpTo, IsAsked, grouped, holding}
-use Rattle.quilt_lang.specs.Commanding.{IsLineCommand, IsWordsCommand}
-use Rattle.quilt_lang.proofs.Asking.{holds, line_asks, line_odd}
+use Rattle.quilt_lang.proofs.Asking.{holds}
 use Rattle.quilt_lang.proofs.Groups.{cuts_none, front_gives}
-use Rattle.quilt_lang.proofs.LineLaws.{asked_long}
 use Rattle.quilt_lang.proofs.Long.{long_item}
 use Rattle.quilt_lang.proofs.Pieces.{drop_min, given}
 
@@ -46,24 +42,17 @@ held_form f n line more what short asks =
 alone_form : (f n : ℕ) (line : List ℕ) → is_long line ≡ false → asked n line ≡ 0 → form f (held f n (grouped line [])) ≡ form_of_line f line nothing_further
 alone_form f n line short none = held_form f n line [] kinds.Nothing short (record { number = none; kind = tt })
 
-pub long_line : (f : ℕ) (line : List ℕ) → is_long line ≡ true → IsLineCommand f line (commands_of.Given (Err codes_of.Long))
-long_line f line long = λ n. (asked_long n line long, long_form f n line [] long)
+pub odd_line : (f n : ℕ) (line : List ℕ) → is_long line ≡ false → list_all is_plain line ≡ false → asked n line ≡ 0
+    → form f (held f n (grouped line [])) ≡ Err codes_of.Bytes
+odd_line f n line short odd none =
+    let refused : form_of_line f line nothing_further ≡ Err codes_of.Bytes = rw odd refl in alone_form f n line short none ∙ refused
 
-pub odd_line : (f : ℕ) (line : List ℕ) → is_long line ≡ false → list_all is_plain line ≡ false
-    → IsLineCommand f line (commands_of.Given (Err codes_of.Bytes))
-odd_line f line short odd = λ n.
-    let none : asked n line ≡ 0 = (line_odd n line odd).number in
-    let refused : form_of_line f line nothing_further ≡ Err codes_of.Bytes = rw odd refl in
-    (none, alone_form f n line short none ∙ refused)
-
-pub plain_line : (f : ℕ) (line : List ℕ) (ws : List (List ℕ)) (r : LineCommand) → is_long line ≡ false → list_all is_plain line ≡ true → ws ≡ words_of line →
-    IsWordsCommand f ws r → IsLineCommand f line r
-plain_line f line ws (commands_of.Given spelled) short plain same is = λ n.
-    let none : asked n line ≡ 0 = (line_asks n line ws kinds.Nothing short plain (record { number = is.0 n; kind = tt }) same).number in
+pub plain_line : (f n : ℕ) (line : List ℕ) (ws : List (List ℕ)) (spelled : Result Command Code) → is_long line ≡ false → list_all is_plain line ≡ true
+    → ws ≡ words_of line → form_of_words f nothing_further ws ≡ spelled → asked n line ≡ 0 → form f (held f n (grouped line [])) ≡ spelled
+plain_line f n line ws spelled short plain same is none =
     let words : form_of_line f line nothing_further ≡ form_of_words f nothing_further ws =
     rw plain (ap (form_of_words f nothing_further) (sym same)) in
-    (none, alone_form f n line short none ∙ words ∙ is.1)
-plain_line f line ws (commands_of.Asks what) short plain same is = λ n. line_asks n line ws what short plain (is n) same
+    alone_form f n line short none ∙ words ∙ is
 
 either : (e : Bool) → (e || true) ≡ true
 either true = refl
@@ -91,12 +80,11 @@ given_alone e n f spelled text k m loud first least is =
     )
 
 -- the next command, and the lines behind it that begin none
-pub given_command : (e : Bool) (f : ℕ) (s : Unread) (spelled : Result Command Code) (bytes behind : List ℕ) (from m j : ℕ) → drop from bytes ≡ s.rest →
-    GivesCommand e s.level f spelled s.rest (drop m s.rest) → behind ≡ drop (from + m) bytes → ((n : ℕ) → Gives false n [] behind (drop j behind)) →
-    GivesCommand e s.level f spelled s.rest (drop (from + m + j) bytes)
-given_command e f s spelled bytes behind from m j rest one back silent = record {
+pub given_command : (e : Bool) (n f : ℕ) (spelled : Result Command Code) (old behind new : List ℕ) → GivesCommand e n f spelled old behind
+    → ((n : ℕ) → Gives false n [] behind new) → GivesCommand e n f spelled old new
+given_command e n f spelled old behind new one silent = record {
   item = one.item;
-  gives = given e f s one.item bytes behind from m j rest one.gives back silent;
+  gives = given e n f one.item old behind new one.gives silent;
   is = one.is;
 }
 

@@ -1,10 +1,56 @@
 -- Hexadecimal digits, and the bytes that two of them spell.
-use Rattle.std.proofs.Common.{◌≡◌, ℕ, ◌+◌, ◌*◌, ◌<◌, ◌≤◌, max, List, ◌∷◌, Option, Some, None, unwrap_or, IfSome, refl, ◌∙◌, ap, arith}
-use Rattle.std.proofs.Common.{◌⊎◌, inl, inr, nat_le}
-use Rattle.std.proofs.lemmas.Bool.{leb-true, leb-false, cases_Bool}
+use Rattle.std.proofs.Common.{◌≡◌, ℕ, ◌+◌, ◌-◌, ◌*◌, ◌%◌, ◌<◌, ◌≤◌, ◌&&◌, min, max, true, false, cond, List, ◌∷◌, Option, Some, None, unwrap_or, IfSome}
+use Rattle.std.proofs.Common.{refl, ◌∙◌, ap, arith, ◌⊎◌, inl, inr, nat_le}
+use Rattle.std.proofs.lemmas.Bool.{le-leb, leb-true, leb-false, cases_Bool, and_parts}
 use Rattle.quilt_words.specs.Spelling.{hex_digit, row, cons_both}
 use Rattle.quilt_words.proofs.Holding.{digit_low}
 use Rattle.quilt_lang.specs.Spelled.{with_byte}
+
+-- ---- how far a byte stands behind digits and letters
+
+inside : (low high c : ℕ) → (nat_le low c && nat_le c high) ≡ true → (low ≤ c) × (c ≤ high)
+inside low high c is = let both = and_parts (nat_le low c) (nat_le c high) is in (leb-true low c both.0, leb-true c high both.1)
+
+outside : (low high c : ℕ) → (nat_le low c && nat_le c high) ≡ false → low ≤ c → high < c
+outside low high c is le = let other : nat_le c high ≡ false = rw (le-leb low c le) at is in leb-false c high other
+
+pub digit_is : (c d : ℕ) → c < 256 → d ≡ (c + 208) % 256 → d ≤ 9 → d ≡ unwrap_or (hex_digit c) 16
+digit_is c d byte is few =
+    let low : 48 ≤ c = omega (arith, byte, is, few) in
+    let high : c ≤ 57 = omega (arith, byte, is, few) in
+    rw (le-leb 48 c low, le-leb c 57 high) (omega (arith, byte, is, few))
+
+upper_is : (c a u v : ℕ) → c < 256 → a ≡ (c + 159) % 256 → u ≡ (c + 191) % 256 → v ≡ min (min a u) 6 + 10
+    → (97 ≤ c → 102 < c) → v ≡ unwrap_or (cond (nat_le 65 c && nat_le c 70) (Some (c - 55)) None) 16
+upper_is c a u v byte first second is past = elim (cases_Bool (nat_le 65 c && nat_le c 70)) [
+  | inl yes_ ↦ let within = inside 65 70 c yes_ in rw yes_ (omega (arith, byte, first, second, is, within.0, within.1))
+  | inr not_ ↦ rw not_ (far (outside 65 70 c not_))
+]
+  where
+    far : (65 ≤ c → 70 < c) → v ≡ 16
+    far over = elim (cases_Bool (nat_le 97 c)) [
+      | inl low ↦ let above : 102 < c = past (leb-true 97 c low) in omega (arith, byte, first, second, is, above)
+      | inr below ↦ elim (cases_Bool (nat_le 65 c)) [
+        | inl low ↦ let above : 70 < c = over (leb-true 65 c low) in let under : c < 97 = leb-false 97 c below in omega (arith, first, second, is, above, under)
+        | inr under ↦ let less : c < 65 = leb-false 65 c under in omega (arith, first, second, is, less)
+      ]
+    ]
+
+letter_is : (c a u v : ℕ) → c < 256 → a ≡ (c + 159) % 256 → u ≡ (c + 191) % 256 → v ≡ min (min a u) 6 + 10
+    → v ≡ unwrap_or (cond (nat_le 97 c && nat_le c 102) (Some (c - 87)) (cond (nat_le 65 c && nat_le c 70) (Some (c - 55)) None)) 16
+letter_is c a u v byte first second is = elim (cases_Bool (nat_le 97 c && nat_le c 102)) [
+  | inl yes_ ↦ let within = inside 97 102 c yes_ in rw yes_ (omega (arith, byte, first, second, is, within.0, within.1))
+  | inr not_ ↦ rw not_ (upper_is c a u v byte first second is (outside 97 102 c not_))
+]
+
+pub other_is : (c d a u v : ℕ) → c < 256 → d ≡ (c + 208) % 256 → 9 < d → a ≡ (c + 159) % 256 → u ≡ (c + 191) % 256 → v ≡ min (min a u) 6 + 10
+    → v ≡ unwrap_or (hex_digit c) 16
+other_is c d a u v byte digit many first second is = elim (cases_Bool (nat_le 48 c && nat_le c 57)) [
+  | inl yes_ ↦ let within = inside 48 57 c yes_ in absurd (omega (arith, byte, digit, many, within.0, within.1))
+  | inr not_ ↦ rw not_ (letter_is c a u v byte first second is)
+]
+
+-- ---- two digits
 
 some_digit : (o : Option ℕ) (v : ℕ) → v ≡ unwrap_or o 16 → v ≤ 15 → o ≡ Some v
 some_digit None v is low = absurd (omega (arith, is, low))

@@ -5,7 +5,7 @@ use Rattle.std.proofs.lemmas.List.{drop_all, drop-drop}
 use Rattle.std.proofs.lemmas.Bool.{ltb-true, ltb-false, cases_Bool}
 use Rattle.quilt_words.specs.declared.item.Item.{Item}
 use Rattle.quilt_words.specs.Items.{Group, is_silent, items_of, whole_items, held}
-use Rattle.quilt_lang.specs.Reading.{Unread, MayFollow, Gives, GivesItem, Same, HasNone, HasNewline, IsLine, begins_silent}
+use Rattle.quilt_lang.specs.Reading.{MayFollow, Gives, GivesItem, Same, HasNone, HasNewline, IsLine, begins_silent}
 use Rattle.quilt_lang.proofs.LineLaws.{silent_next, whole_silent_next, whole_part, last_silent, begins_line}
 
 -- lists that hold the same
@@ -81,19 +81,21 @@ drop_min m l = elim (cases_Bool (nat_lt (length l) m)) [
   | inr within ↦ let under : m ≤ length l = ltb-false (length l) m within in let same : min (length l) m ≡ m = omega arith in rw same refl
 ]
 
--- the next item, and the lines behind it that begin none
-pub given : (e : Bool) (f : ℕ) (s : Unread) (i : Item) (bytes behind : List ℕ) (from m j : ℕ) → drop from bytes ≡ s.rest →
-    GivesItem e s.level f i s.rest (drop m s.rest) → behind ≡ drop (from + m) bytes → ((n : ℕ) → Gives false n [] behind (drop j behind)) →
-    GivesItem e s.level f i s.rest (drop (from + m + j) bytes)
-given e f s i bytes behind from m j rest one back silent =
-    let n = s.level in
-    let same : behind ≡ drop m s.rest = back ∙ sym (drop-drop m from bytes) ∙ ap (drop m) rest in
+-- what stands behind so many bytes, and behind the lines there that begin no item
+pub passed : (rest bytes behind : List ℕ) (from m j : ℕ) → drop from bytes ≡ rest → behind ≡ drop (from + m) bytes
+    → ((n : ℕ) → Gives false n [] behind (drop j behind)) → (n : ℕ) → Gives false n [] (drop m rest) (drop (from + m + j) bytes)
+passed rest bytes behind from m j is back silent = λ n.
+    let same : behind ≡ drop m rest = back ∙ sym (drop-drop m from bytes) ∙ ap (drop m) is in
     let new : drop j behind ≡ drop (from + m + j) bytes = ap (drop j) back ∙ drop-drop j (from + m) bytes in
-    let Q : List ℕ → Type 0 = λ (l : List ℕ). Gives e n (one.group ∷ []) s.rest l in
+    let P : List ℕ → Type 0 = λ (l : List ℕ). Gives false n [] l (drop (from + m + j) bytes) in
     let R : List ℕ → Type 0 = λ (l : List ℕ). Gives false n [] behind l in
-    record {
-      group = one.group;
-      is = one.is;
-      gives = gives_then e n (one.group ∷ []) [] s.rest behind (drop (from + m + j) bytes) (subst Q (sym same) one.gives)
-          (gives_ended e n [] behind (drop (from + m + j) bytes) (subst R new (silent n)));
-    }
+    subst P same (subst R new (silent n))
+
+-- the next item, and the lines behind it that begin none
+pub given : (e : Bool) (n f : ℕ) (i : Item) (old behind new : List ℕ) → GivesItem e n f i old behind
+    → ((n : ℕ) → Gives false n [] behind new) → GivesItem e n f i old new
+given e n f i old behind new one silent = record {
+  group = one.group;
+  is = one.is;
+  gives = gives_then e n (one.group ∷ []) [] old behind new one.gives (gives_ended e n [] behind new (silent n));
+}

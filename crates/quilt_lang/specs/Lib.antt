@@ -1,4 +1,3 @@
-pub mod Commanding
 pub mod Cutting
 pub mod Progress
 pub mod Reading

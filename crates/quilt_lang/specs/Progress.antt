@@ -10,7 +10,7 @@ use Rattle.quilt_lang.specs.declared.front.Front.TheVariants as fronts
 use Rattle.quilt_lang.specs.declared.first_line.FirstLine.{FirstLine}
 use Rattle.quilt_lang.specs.declared.first_line.FirstLine.TheVariants as firsts
 use Rattle.quilt_words.specs.Items.{asked, is_silent, whole_lines, words_of}
-use Rattle.quilt_lang.specs.Reading.{Gives, GivesItem, HasNone, IsLine, begins_silent, kept_limit, limit_behind, unfinished}
+use Rattle.quilt_lang.specs.Reading.{Gives, HasNone, IsLine, begins_silent, kept_limit, limit_behind, unfinished}
 use Rattle.quilt_lang.specs.Shortening.{Misses, bounds_of}
 use Rattle.quilt_lang.specs.Cutting.{Cuts, IsAsked, further_count}
 
@@ -48,10 +48,12 @@ abbrev pub IsProgress : ℕ → Progress → List ℕ → Type 0
 IsProgress n (progresses.Begun scanned) text = IsUncut scanned text
 IsProgress n (progresses.Waiting waiting) text = IsWaiting false n waiting text
 
--- what the item at the front is, with its number of bytes, or how far it is cut where none can be given
-abbrev pub IsFront : Bool → ℕ → ℕ → List ℕ → Front → Type 0
-IsFront ended n f text (fronts.Given item len) = (len ≤ length text) × GivesItem ended n f item text (drop len text)
-IsFront ended n f text (fronts.Waits progress) = HasNone ended n text × IsProgress n progress text
+-- where the item at the front stands, with all further lines that its line asks for, or where the input has ended; or how far it is cut
+-- where none can be given
+abbrev pub IsFront : Bool → ℕ → List ℕ → Front → Type 0
+IsFront ended n text (fronts.There line what) =
+    IsFrontLine ended n line what text × (ended ≡ false → further_count n what ≤ length (whole_lines (drop (line + 1) text)))
+IsFront ended n text (fronts.Waits progress) = HasNone ended n text × IsProgress n progress text
 
 -- what the first line is: one that begins no item, with its number of bytes, or another
 abbrev pub IsFirstLine : List ℕ → FirstLine → Type 0

@@ -1,21 +1,18 @@
 //! The command of the item at the front of a text, taken from where its lines lie.
-ghost use Rattle.std.specs.Prelude.{◌≡◌, ◌<◌, ℕ, false, List, Result, length, map, IfOk, OnErr};
+ghost use Rattle.std.specs.Prelude.{◌≡◌, ◌+◌, ◌<◌, ◌≤◌, ℕ, false, [], List, Result, drop, length, map, IfOk, OnErr};
 ghost use Rattle.quilt_types.specs.declared.code.Code.{Code};
 ghost use Rattle.quilt_words.specs.declared.command.Command.{Command};
-ghost use Rattle.quilt_words.specs.Items.{asked, held, words_of};
-ghost use Rattle.quilt_words.specs.Forms.{form};
-ghost use Rattle.quilt_words.specs.Made.{further_of, spelled_by};
+ghost use Rattle.quilt_words.specs.Items.{asked, held, whole_lines, words_of};
+ghost use Rattle.quilt_words.specs.Forms.{form, form_of_words};
+ghost use Rattle.quilt_words.specs.Made.{further_of, nothing_further, spelled_by};
 ghost use Rattle.quilt_words.specs.Parsing.{IsParsedAs};
-ghost use Rattle.quilt_lang.specs.Reading.{begins_silent};
-ghost use Rattle.quilt_lang.specs.Cutting.{IsAsked, grouped, holding};
-ghost use Rattle.quilt_lang.specs.Progress.{IsProgress, IsUncut, IsWaiting};
-ghost use Rattle.quilt_lang.specs.Commanding.{IsCommandFront, IsLineCommand, IsWordsCommand};
+ghost use Rattle.quilt_lang.specs.Reading.{GivesCommand};
+ghost use Rattle.quilt_lang.specs.Cutting.{IsAsked, further_count, grouped, holding};
+ghost use Rattle.quilt_lang.specs.Progress.{IsFrontLine};
 
-use crate::asked::{Asked, asked_by_words};
-use crate::first_line::line_len;
-use crate::front::{held_lines, waits_on};
+use crate::asked::Asked;
+use crate::front::held_lines;
 use crate::held::{points_in, rings_in, rows_in};
-use crate::progress::{CutLines, Progress, Waiting};
 use quilt_types::Code;
 use quilt_words::{
     Command, FurtherLines, LINE_LIMIT, ParseErr, few_words, is_plain_line, line_words, parse_line,
@@ -23,104 +20,20 @@ use quilt_words::{
 };
 use std::alloc::{AllocError, Global};
 
-/// What stands at the front of a text.
-#[derive(Drop)]
-pub enum CommandFront {
-    /// An item, whose lines have so many bytes: the command that it spells, or why it is refused.
-    Given(Result<Command, Code>, usize),
-    /// None that can be given yet, and how far it is cut.
-    Waits(Progress),
-}
-
-/// What a line comes to that begins an item.
-#[derive(Drop)]
-pub enum LineCommand {
-    /// It asks for no further lines, and this is what it spells.
-    Given(Result<Command, Code>),
-    /// It asks for further lines.
-    Asks(Asked),
-}
-
-/// What the item at the front spells, where all of its lines stand there with their newlines, or where the input has ended.
-pub fn front_command(
+/// What a line spells that asks for no further lines. It takes no memory where the line has at most 8 words.
+pub fn line_command(
     alloc: Global,
-    level: u8,
     format: u8,
-    text: &[u8],
-    progress: Progress,
-    ended: bool,
-) -> Result<CommandFront, AllocError>
-    requires loud { begins_silent text.now ≡ false }
-    requires cut { IsProgress level progress text.now }
-    ensures { IfOk result (IsCommandFront ended level format text.now) }
-{
-    match progress {
-        Progress::Waiting(waiting) => further_command(alloc, level, format, text, waiting, ended),
-        Progress::Begun(scanned) => begun_command(alloc, level, format, text, scanned, ended),
-    }
-}
-
-/// The same where the line that begins the item is not cut yet, and so many bytes have no newline.
-fn begun_command(
-    alloc: Global,
-    level: u8,
-    format: u8,
-    text: &[u8],
-    scanned: usize,
-    ended: bool,
-) -> Result<CommandFront, AllocError>
-    requires loud { begins_silent text.now ≡ false }
-    requires cut { IsUncut scanned text.now }
-    ensures { IfOk result (IsCommandFront ended level format text.now) }
-{
-    let Some(line) = line_len(text, scanned, ended) else {
-        return Ok(CommandFront::Waits(Progress::Begun(text.len())));
-    };
-    let begun = line_command(alloc, format, &text[..line])?;
-    match begun {
-        LineCommand::Given(command) => {
-            let len = text.len().min(line + 1);
-            Ok(CommandFront::Given(command, len))
-        }
-        LineCommand::Asks(what) => {
-            let cut = CutLines::NONE;
-            let waiting = Waiting { line, what, cut };
-            further_command(alloc, level, format, text, waiting, ended)
-        }
-    }
-}
-
-/// The same where the line that begins the item is cut.
-fn further_command(
-    alloc: Global,
-    level: u8,
-    format: u8,
-    text: &[u8],
-    waiting: Waiting,
-    ended: bool,
-) -> Result<CommandFront, AllocError>
-    requires { IsWaiting ended level waiting text.now }
-    ensures { IfOk result (IsCommandFront ended level format text.now) }
-{
-    if let Some(progress) = waits_on(level, text, waiting, ended) {
-        return Ok(CommandFront::Waits(progress));
-    }
-    let Waiting { line, what, .. } = waiting;
-    let (more, len) = held_lines(alloc, level, text, line, what, ended)?;
-    let command = held_command(alloc, level, format, &text[..line], what, &more)?;
-    Ok(CommandFront::Given(command, len))
-}
-
-/// What a line comes to. It takes no memory where the line has at most 8 words.
-fn line_command(alloc: Global, format: u8, line: &[u8]) -> Result<LineCommand, AllocError>
-    ensures form { IfOk result (IsLineCommand format line.now) }
+    line: &[u8],
+) -> Result<Result<Command, Code>, AllocError>
+    ensures form { IfOk result (λ command. (n : ℕ) → asked n line.now ≡ 0 → form format (held format n (grouped line.now [])) ≡ command) }
     ensures memory { OnErr result (8 < length (words_of line.now)) }
 {
     if line.len() > LINE_LIMIT {
-        return Ok(LineCommand::Given(Err(Code::Long)));
+        return Ok(Err(Code::Long));
     }
     if !is_plain_line(line) {
-        return Ok(LineCommand::Given(Err(Code::Bytes)));
+        return Ok(Err(Code::Bytes));
     }
     let few = few_words(line);
     match &few {
@@ -132,17 +45,32 @@ fn line_command(alloc: Global, format: u8, line: &[u8]) -> Result<LineCommand, A
     }
 }
 
-/// What the words of a line come to. It takes no memory.
-fn words_command(format: u8, words: &[&[u8]]) -> LineCommand
-    ensures { IsWordsCommand format (map (λ w. w.now) words.now) result }
+/// What the words of a line spell. It takes no memory.
+fn words_command(format: u8, words: &[&[u8]]) -> Result<Command, Code>
+    ensures { form_of_words format nothing_further (map (λ w. w.now) words.now) ≡ result }
 {
-    match asked_by_words(words) {
-        Asked::Nothing => {
-            let mut further = FurtherLines::none();
-            LineCommand::Given(parse_words(format, words, &mut further))
-        }
-        what => LineCommand::Asks(what),
-    }
+    let mut further = FurtherLines::none();
+    parse_words(format, words, &mut further)
+}
+
+/// What the item at the front spells, whose line has so many bytes and asks for this, and how many bytes all of its lines have.
+pub fn front_command(
+    alloc: Global,
+    level: u8,
+    format: u8,
+    text: &[u8],
+    line: usize,
+    what: Asked,
+    ended: bool,
+) -> Result<(Result<Command, Code>, usize), AllocError>
+    requires first { IsFrontLine ended level line what text.now }
+    requires there { ended ≡ false → further_count level what ≤ length (whole_lines (drop (line + 1) text.now)) }
+    ensures within { IfOk result (λ f. f.1 ≤ length text.now) }
+    ensures gives { IfOk result (λ f. GivesCommand ended level format f.0 text.now (drop f.1 text.now)) }
+{
+    let (more, len) = held_lines(alloc, level, text, line, what, ended)?;
+    let command = held_command(alloc, level, format, &text[..line], what, &more)?;
+    Ok((command, len))
 }
 
 /// The command or the refusal, where memory did not run out.

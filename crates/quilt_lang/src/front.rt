@@ -1,4 +1,4 @@
-//! The item at the front of a text: a line, with the further lines that there are of those that it asks for.
+//! Where the item at the front of a text stands: a line, with the further lines that there are of those that it asks for.
 ghost use Rattle.std.specs.Prelude.{◌≡◌, ◌+◌, ◌≤◌, false, [], ◌∷◌, length, take, drop, map, IfOk, MatchOption};
 ghost use Rattle.quilt_words.specs.Items.{whole_lines};
 ghost use Rattle.quilt_lang.specs.Reading.{Gives, GivesItem, HasNone, begins_silent};
@@ -14,45 +14,44 @@ use quilt_words::Item;
 use std::alloc::{AllocError, Global};
 
 /// What stands at the front of a text.
-#[derive(Drop)]
+#[derive(Clone, Copy)]
 pub enum Front {
-    /// An item, whose lines have so many bytes.
-    Given(Item, usize),
-    /// None that can be given yet, and how far it is cut.
+    /// The line of an item: so many bytes, and what it asks for. Its further lines all stand there with their newlines, or the
+    /// input has ended.
+    There(usize, Asked),
+    /// No item that can be given yet, and how far it is cut.
     Waits(Progress),
 }
 
-/// The item at the front, where all of its lines stand there with their newlines, or where the input has ended.
-pub fn front_item(
+/// Where the item at the front stands, where all of its lines stand there with their newlines, or where the input has ended.
+pub fn find_front(
     alloc: Global,
     level: u8,
-    format: u8,
     text: &[u8],
     progress: Progress,
     ended: bool,
 ) -> Result<Front, AllocError>
     requires loud { begins_silent text.now ≡ false }
     requires cut { IsProgress level progress text.now }
-    ensures { IfOk result (IsFront ended level format text.now) }
+    ensures { IfOk result (IsFront ended level text.now) }
 {
     match progress {
-        Progress::Waiting(waiting) => further_item(alloc, level, format, text, waiting, ended),
-        Progress::Begun(scanned) => begun_item(alloc, level, format, text, scanned, ended),
+        Progress::Waiting(waiting) => Ok(waiting_front(level, text, waiting, ended)),
+        Progress::Begun(scanned) => begun_front(alloc, level, text, scanned, ended),
     }
 }
 
 /// The same where the line that begins the item is not cut yet, and so many bytes have no newline.
-fn begun_item(
+fn begun_front(
     alloc: Global,
     level: u8,
-    format: u8,
     text: &[u8],
     scanned: usize,
     ended: bool,
 ) -> Result<Front, AllocError>
     requires loud { begins_silent text.now ≡ false }
     requires cut { IsUncut scanned text.now }
-    ensures { IfOk result (IsFront ended level format text.now) }
+    ensures { IfOk result (IsFront ended level text.now) }
 {
     let Some(line) = line_len(text, scanned, ended) else {
         return Ok(Front::Waits(Progress::Begun(text.len())));
@@ -60,28 +59,38 @@ fn begun_item(
     let what = further_asked(alloc, &text[..line])?;
     let cut = CutLines::NONE;
     let waiting = Waiting { line, what, cut };
-    further_item(alloc, level, format, text, waiting, ended)
+    Ok(waiting_front(level, text, waiting, ended))
 }
 
 /// The same where the line that begins the item is cut.
-fn further_item(
+fn waiting_front(level: u8, text: &[u8], waiting: Waiting, ended: bool) -> Front
+    requires { IsWaiting ended level waiting text.now }
+    ensures { IsFront ended level text.now result }
+{
+    match waits_on(level, text, waiting, ended) {
+        Some(progress) => Front::Waits(progress),
+        None => Front::There(waiting.line, waiting.what),
+    }
+}
+
+/// The item at the front, whose line has so many bytes and asks for this, and how many bytes all of its lines have.
+pub fn front_item(
     alloc: Global,
     level: u8,
     format: u8,
     text: &[u8],
-    waiting: Waiting,
+    line: usize,
+    what: Asked,
     ended: bool,
-) -> Result<Front, AllocError>
-    requires { IsWaiting ended level waiting text.now }
-    ensures { IfOk result (IsFront ended level format text.now) }
+) -> Result<(Item, usize), AllocError>
+    requires first { IsFrontLine ended level line what text.now }
+    requires there { ended ≡ false → further_count level what ≤ length (whole_lines (drop (line + 1) text.now)) }
+    ensures within { IfOk result (λ f. f.1 ≤ length text.now) }
+    ensures gives { IfOk result (λ f. GivesItem ended level format f.0 text.now (drop f.1 text.now)) }
 {
-    if let Some(progress) = waits_on(level, text, waiting, ended) {
-        return Ok(Front::Waits(progress));
-    }
-    let Waiting { line, what, .. } = waiting;
     let (more, len) = held_lines(alloc, level, text, line, what, ended)?;
     let item = item_of(alloc, level, format, &text[..line], what, &more)?;
-    Ok(Front::Given(item, len))
+    Ok((item, len))
 }
 
 /// How far an item is cut whose first line is cut, where it waits for further lines.

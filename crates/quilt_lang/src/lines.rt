@@ -6,9 +6,10 @@ ghost use Rattle.quilt_lang.specs.Reading.{Gives, GivesCommand, GivesItem, HasNo
 ghost use Rattle.quilt_lang.specs.Progress.{told_len};
 ghost use Rattle.quilt_lang.specs.Shortening.{IsTextPart, KeepsShort, bounds_of};
 
-use crate::command_front::{CommandFront, front_command};
+use crate::asked::Asked;
+use crate::command_front::{front_command, line_command};
 use crate::first_line::silent_front;
-use crate::front::{Front, front_item};
+use crate::front::{Front, find_front, front_item};
 use crate::kept::kept_progress;
 use crate::progress::Progress;
 use crate::short_lines::{is_short, shortened};
@@ -93,17 +94,14 @@ impl Lines {
     {
         let alloc = *self.bytes.allocator();
         let rest = &self.bytes[self.from..];
-        match front_item(alloc, self.level, format, rest, self.progress, ended)? {
+        match find_front(alloc, self.level, rest, self.progress, ended)? {
             Front::Waits(progress) => {
                 self.progress = progress;
                 Ok(None)
             }
-            Front::Given(item, len) => {
-                let from = self.from + len;
-                let (silent, scanned) = silent_front(&self.bytes[from..], 0);
-                self.from = from + silent;
-                self.progress = Progress::Begun(scanned);
-                self.let_go();
+            Front::There(line, what) => {
+                let (item, len) = front_item(alloc, self.level, format, rest, line, what, ended)?;
+                self.pass(len);
                 Ok(Some(item))
             }
         }
@@ -126,17 +124,22 @@ impl Lines {
     {
         let alloc = *self.bytes.allocator();
         let rest = &self.bytes[self.from..];
-        match front_command(alloc, self.level, format, rest, self.progress, ended)? {
-            CommandFront::Waits(progress) => {
+        match find_front(alloc, self.level, rest, self.progress, ended)? {
+            Front::Waits(progress) => {
                 self.progress = progress;
                 Ok(None)
             }
-            CommandFront::Given(command, len) => {
-                let from = self.from + len;
-                let (silent, scanned) = silent_front(&self.bytes[from..], 0);
-                self.from = from + silent;
-                self.progress = Progress::Begun(scanned);
-                self.let_go();
+            Front::There(line, Asked::Nothing) => {
+                let len = rest.len().min(line + 1);
+                let command = line_command(alloc, format, &rest[..line])?;
+                self.pass(len);
+                Ok(Some(command))
+            }
+            Front::There(line, what) => {
+                let (command, len) = front_command(
+                    alloc, self.level, format, rest, line, what, ended,
+                )?;
+                self.pass(len);
                 Ok(Some(command))
             }
         }
@@ -147,6 +150,19 @@ impl Lines {
 const MUCH: usize = 65536;
 
 impl Lines {
+    /// Goes on behind so many bytes of the rest, and behind the lines there that begin no item.
+    fn pass(&mut self, len: usize)
+        requires { len ≤ length self.old.rest }
+        ensures level { self.new.level ≡ self.old.level }
+        ensures passed { (n : ℕ) → Gives false n [] (drop len self.old.rest) self.new.rest }
+    {
+        let from = self.from + len;
+        let (silent, scanned) = silent_front(&self.bytes[from..], 0);
+        self.from = from + silent;
+        self.progress = Progress::Begun(scanned);
+        self.let_go();
+    }
+
     /// Gives the memory back of what was given, where it is much and at least half of all, so that each byte is copied but once for
     /// two that are let go. Where there is no memory for what is left, all stays.
     fn let_go(&mut self)

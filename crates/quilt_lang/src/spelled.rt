@@ -31,18 +31,17 @@ fn asked_by_word(word: &[u8], name: &[u8], k: &[u8], most: u32) -> u32
     number_of(1, most, k).unwrap_or(0)
 }
 
-/// The value of a hexadecimal digit of either case, and 16 for each other byte.
+/// The value of a hexadecimal digit of either case, and 16 for each other byte. How far it stands behind `0`, and behind the nearer of
+/// `A` and `a`, round and round, tells it with one branch.
 fn digit_value(c: u8) -> u8
     ensures { result ≡ unwrap_or (hex_digit c) 16 }
 {
-    if 48 <= c && c <= 57 {
-        c - 48
-    } else if 97 <= c && c <= 102 {
-        c - 87
-    } else if 65 <= c && c <= 70 {
-        c - 55
+    let digit = c.wrapping_sub(b'0');
+    let letter = c.wrapping_sub(b'a').min(c.wrapping_sub(b'A'));
+    if digit <= 9 {
+        digit
     } else {
-        16
+        letter.min(6) + 10
     }
 }
 

@@ -84,12 +84,30 @@ pub fn line_words(alloc: Global, line: &[u8]) -> Result<Vec<&[u8]>, AllocError>
     Ok(words)
 }
 
-/// Whether each byte is one that a line may have. No byte is branched on, so that many are looked at at once.
+/// Whether each byte is one that a line may have. Those of a short line are tested eight at a time: the last eight together,
+/// whether some of them were tested before or not.
 pub fn is_plain_line(line: &[u8]) -> bool
     ensures { result ≡ list_all is_plain line.now }
 {
+    if line.len() < 8 || line.len() > 32 {
+        return are_plain(line);
+    }
+    let mut from = 0;
+    while from + 8 < line.len() {
+        if !are_plain(&line[from..from + 8]) {
+            return false;
+        }
+        from += 8;
+    }
+    are_plain(&line[line.len() - 8..])
+}
+
+/// The same of some bytes. No byte is branched on, so that many are looked at at once.
+fn are_plain(bytes: &[u8]) -> bool
+    ensures { result ≡ list_all is_plain bytes.now }
+{
     let mut most = 0_u8;
-    for c in line {
+    for c in bytes {
         most = most.max(behind_space(*c));
     }
     most <= 94

@@ -1,28 +1,48 @@
-use Rattle.std.proofs.Common.{◌≡◌, ◌∙◌, ◌+◌, ◌-◌, ap, List, ℕ, take, drop, length}
+use Rattle.std.proofs.Common.{◌≡◌, ◌∙◌, ◌-◌, ap, List, ℕ, take, drop, length}
+use Rattle.quilt_lang.specs.declared.asked.Asked.TheVariants as kinds
 use Rattle.quilt_lang.specs.Reading.{Unread}
+use Rattle.quilt_lang.specs.Progress.{IsFrontLine}
 use Rattle.quilt_words.proofs.Slices.{behind}
-use Rattle.quilt_lang.proofs.Commands.{given_command, given_spelled, given_fits}
+use Rattle.quilt_lang.proofs.Commands.{given_alone, given_command, given_spelled, given_fits}
 use Rattle.quilt_lang.proofs.lines.Lines.take_command.Goals as goal
 
-pub returns-in-Given-clause-given : goal.returns-in-Given-clause-given
-returns-in-Given-clause-given c =
+pub returns-in_ok-command-in-There-default-Nothing-clause-given : goal.returns-in_ok-command-in-There-default-Nothing-clause-given
+returns-in_ok-command-in-There-default-Nothing-clause-given c =
     let bytes : List ℕ = c.self.inside.bytes.items in
     let from = c.self.inside.from in
-    let m = c.in-Given.len in
-    let level : c.self.inside.level ≡ c.args.self.now.level = ap (λ (s : Unread). s.level) c.self.view_is in
-    let rest : drop from bytes ≡ c.args.self.now.rest = ap (λ (s : Unread). s.rest) c.self.view_is in
+    let text : List ℕ = c.args.self.now.rest in
+    let n : ℕ = c.args.self.now.level in
+    let line = c.in-There-default-Nothing.line in
+    let level : c.self.inside.level ≡ n = ap (λ (s : Unread). s.level) c.self.view_is in
     let now : List ℕ = c.deref.result.now in
-    let same : take (length now - from) (drop from now) ≡ c.args.self.now.rest = rw c.deref.ensures.value (behind from bytes ∙ rest) in
-    let then_ : List ℕ = c.deref-in-Given.result.now in
-    let back : take (length then_ - (from + m)) (drop (from + m) then_) ≡ drop (from + m) bytes = rw c.deref-in-Given.ensures.value (behind (from + m) bytes) in
-    let kept = ap (λ (s : Unread). s.rest) c.let_go.ensures in
-    rw kept
-    (given_command c.args.ended c.args.format c.args.self.now c.in-Given.command bytes (take (length then_ - (from + m)) (drop (from + m) then_))
-    from m c.silent_front-silent.result.0 rest
-    (rw (same, level) at ((rw c.in-Given.is at c.in_ok-progress.ensures).1)) back c.silent_front-silent.ensures.gives)
+    let same : take (length now - from) (drop from now) ≡ text = rw c.deref.ensures.value (behind from bytes ∙ ap (λ (s : Unread). s.rest) c.self.view_is) in
+    let first : IsFrontLine c.args.ended n line kinds.Nothing text =
+    rw (same, level, c.in-There-default-Nothing.field-1-is) at ((rw c.in-There-default-Nothing.is at c.in_ok-progress.ensures).0) in
+    let form = rw same at c.in_ok-command-in-There-default-Nothing.ensures.form in
+    given_command c.args.ended n c.args.format c.in_ok-command-in-There-default-Nothing.command text (drop c.min-len.result text) _
+    (given_alone c.args.ended n c.args.format c.in_ok-command-in-There-default-Nothing.command text line c.min-len.result first.loud first.cuts
+    (rw same at c.min-len.ensures) (first.asks.number, form n first.asks.number)).1
+    c.pass.ensures.passed
 
-pub returns-in-Given-clause-spelled : goal.returns-in-Given-clause-spelled
-returns-in-Given-clause-spelled c = given_spelled c.args.ended _ _ _ _ _ (returns-in-Given-clause-given c)
+pub returns-in_ok-command-in-There-default-Nothing-clause-fitting : goal.returns-in_ok-command-in-There-default-Nothing-clause-fitting
+returns-in_ok-command-in-There-default-Nothing-clause-fitting c =
+    given_fits c.args.ended _ _ _ _ _ (returns-in_ok-command-in-There-default-Nothing-clause-given c)
 
-pub returns-in-Given-clause-fitting : goal.returns-in-Given-clause-fitting
-returns-in-Given-clause-fitting c = given_fits c.args.ended _ _ _ _ _ (returns-in-Given-clause-given c)
+pub returns-in_ok-command-in-There : goal.returns-in_ok-command-in-There
+returns-in_ok-command-in-There c =
+    let bytes : List ℕ = c.self.inside.bytes.items in
+    let from = c.self.inside.from in
+    let text : List ℕ = c.args.self.now.rest in
+    let level : c.self.inside.level ≡ c.args.self.now.level = ap (λ (s : Unread). s.level) c.self.view_is in
+    let now : List ℕ = c.deref.result.now in
+    let same : take (length now - from) (drop from now) ≡ text = rw c.deref.ensures.value (behind from bytes ∙ ap (λ (s : Unread). s.rest) c.self.view_is) in
+    let one =
+    given_command c.args.ended c.args.self.now.level c.args.format c.in_ok-command-in-There.command text (drop c.in_ok-command-in-There.len text) _
+    (rw (same, level) at c.in_ok-command-in-There.ensures.gives) c.pass-in-There.ensures.passed in
+    record {
+      level = c.pass-in-There.ensures.level;
+      given = one;
+      spelled = given_spelled c.args.ended _ _ _ _ _ one;
+      fitting = given_fits c.args.ended _ _ _ _ _ one;
+      err = tt;
+    }

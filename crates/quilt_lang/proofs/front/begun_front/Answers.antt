@@ -1,8 +1,8 @@
 use Rattle.quilt_lang.proofs.Counts.{count_first}
-use Rattle.quilt_lang.proofs.front.begun_item.Goals as goal
+use Rattle.quilt_lang.proofs.front.begun_front.Goals as goal
 
-pub further_item-requires : goal.further_item-requires
-further_item-requires c = record {
+pub waiting_front-requires : goal.waiting_front-requires
+waiting_front-requires c = record {
   first = record {
     within = c.in-Some.ensures.within;
     whole = c.in-Some.ensures.whole;
