@@ -67,17 +67,12 @@ pub fn plan_add<S: PageStore>(
         layer,
         level,
     };
-    match view.segment(store, id) {
-        Err(e) => Err(e),
-        Ok(Some(_)) => Ok(None),
-        Ok(None) => {
-            let arrival = Arrival { view, t, id, s };
-            match arrival.edits(alloc, store) {
-                Err(e) => Err(e),
-                Ok(edits) => Ok(Some(edits)),
-            }
-        }
+    if view.segment(store, id)?.is_some() {
+        return Ok(None);
     }
+    let arrival = Arrival { view, t, id, s };
+    let edits = arrival.edits(alloc, store)?;
+    Ok(Some(edits))
 }
 
 /// A segment that comes to a line layer under an id. A block that more than `t` segments then meet is split.
@@ -130,10 +125,8 @@ impl Arrival {
             y: self.s.y1,
         });
         let all = whole_square(self.view.level);
-        match self.add_in(alloc, store, &mut search, &mut change, all) {
-            Err(e) => Err(e),
-            Ok(()) => edits_of(alloc, change.gone, change.come),
-        }
+        self.add_in(alloc, store, &mut search, &mut change, all)?;
+        edits_of(alloc, change.gone, change.come)
     }
 
     /// Adds the records of the facts that change in a block, from the blocks of the layer in it that the segment meets.
@@ -166,19 +159,14 @@ impl Arrival {
         if !meets(self.s, b) {
             return Ok(());
         }
-        match self.view.ids_near(alloc, store, search, b) {
-            Err(e) => return Err(e),
-            Ok(Some(ids)) => return self.add_block(alloc, store, change, b, &ids),
-            Ok(None) => {}
+        if let Some(ids) = self.view.ids_near(alloc, store, search, b)? {
+            return self.add_block(alloc, store, change, b, &ids);
         }
         if b.side <= 1 {
             return Err(DAMAGED);
         }
         for q in quarters(b) {
-            match self.add_in(alloc, store, search, change, q) {
-                Err(e) => return Err(e),
-                Ok(()) => {}
-            }
+            self.add_in(alloc, store, search, change, q)?;
         }
         Ok(())
     }
@@ -258,10 +246,7 @@ impl Arrival {
             Err(_) => return Err(Stop::Memory),
             Ok(()) => {}
         }
-        let mut list = match self.view.segments(alloc, store, ids) {
-            Err(e) => return Err(e),
-            Ok(list) => list,
-        };
+        let mut list = self.view.segments(alloc, store, ids)?;
         match list.push(self.id, self.s) {
             Err(_) => return Err(Stop::Memory),
             Ok(()) => {}

@@ -92,14 +92,10 @@ impl LineView {
             (λ ids. Goes (λ old new. new ≤ old + (12 + 3 * vec_len ids)) (S.reads store.old) (S.reads store.new))) }
     {
         let mut search = Search::new(hint.at);
-        match self.ids_near(alloc, store, &mut search, b) {
-            Err(e) => Err(e),
-            Ok(found) => {
-                hint.block = self.block_seen(&search);
-                hint.spot = search.spot;
-                Ok(found)
-            }
-        }
+        let found = self.ids_near(alloc, store, &mut search, b)?;
+        hint.block = self.block_seen(&search);
+        hint.spot = search.spot;
+        Ok(found)
     }
 
     /// The ids of the segments that meet a block: None where it is none of the layer's. A block that holds the known one needs no look,

@@ -92,13 +92,10 @@ impl LineView {
             item: u32::MAX,
             ..low
         };
-        match self
+        let records = self
             .tree
-            .range_from(alloc, store, spot, &low, &high, u32::MAX)
-        {
-            Err(e) => Err(e),
-            Ok(records) => self.ids_said(alloc, &records, b),
-        }
+            .range_from(alloc, store, spot, &low, &high, u32::MAX)?;
+        self.ids_said(alloc, &records, b)
     }
 
     /// The ids that the records of a block say: None where there are no records.
@@ -126,10 +123,8 @@ impl LineView {
         if self.says_none(records, b) {
             return Ok(Some(Vec::new(alloc)));
         }
-        match self.all_ids(alloc, records, b) {
-            Err(e) => Err(e),
-            Ok(ids) => Ok(Some(ids)),
-        }
+        let ids = self.all_ids(alloc, records, b)?;
+        Ok(Some(ids))
     }
 
     /// Whether the records of a block are the one that says that no segment meets it.

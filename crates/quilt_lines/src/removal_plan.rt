@@ -61,23 +61,18 @@ pub fn plan_remove<S: PageStore>(
         (s : AnySeg) → finmap.get segs id ≡ Some s →
         Goes (λ old new. new ≤ old + (3 + reach level segs cover (is_met_above level s))) (S.reads store.old) (S.reads store.new))) }
 {
-    match segment(store, tree, layer, level, id) {
-        Err(e) => Err(e),
-        Ok(None) => Ok(None),
-        Ok(Some(s)) => {
-            let removal = Removal {
-                layer,
-                level,
-                threshold: t,
-                id,
-                segment: s,
-            };
-            match removal.plan(alloc, store, tree) {
-                Err(e) => Err(e),
-                Ok(edits) => Ok(Some(edits)),
-            }
-        }
-    }
+    let Some(s) = segment(store, tree, layer, level, id)? else {
+        return Ok(None);
+    };
+    let removal = Removal {
+        layer,
+        level,
+        threshold: t,
+        id,
+        segment: s,
+    };
+    let edits = removal.plan(alloc, store, tree)?;
+    Ok(Some(edits))
 }
 
 impl Removal {
@@ -100,10 +95,8 @@ impl Removal {
             x: self.segment.x1,
             y: self.segment.y1,
         });
-        match self.settle(alloc, store, tree, &mut search, whole_square(self.level)) {
-            Err(e) => Err(e),
-            Ok(all) => self.edits(alloc, &all),
-        }
+        let all = self.settle(alloc, store, tree, &mut search, whole_square(self.level))?;
+        self.edits(alloc, &all)
     }
 
     /// The records that go and those that come, by what becomes of the whole square.

@@ -122,13 +122,9 @@ impl LineView {
         let high = segment_key(self.layer, run.last);
         let count = run.last - run.first + 1;
         let mut spot = spot_of(&known.ids);
-        let records = match self
+        let records = self
             .tree
-            .range_from(alloc, store, &mut spot, &low, &high, count)
-        {
-            Err(e) => return Err(e),
-            Ok(records) => records,
-        };
+            .range_from(alloc, store, &mut spot, &low, &high, count)?;
         known.ids = mark_of(&spot);
         let mut next = u64::from(run.first);
         for r in &records {
@@ -174,12 +170,10 @@ impl LineView {
         ensures few_fresh { OnOk result (length ids.now ≤ 1 →
             Goes (λ old new. new + 3 * many_known known.old ≤ old + 3 * many_known known.new) (S.reads store.old) (S.reads store.new)) }
     {
-        match run_of(ids, known) {
-            None => self.segments_known(alloc, store, known, ids),
-            Some(run) => match self.read_run(alloc, store, known, run) {
-                Err(e) => Err(e),
-                Ok(()) => self.segments_known(alloc, store, known, ids),
-            },
-        }
+        let Some(run) = run_of(ids, known) else {
+            return self.segments_known(alloc, store, known, ids);
+        };
+        self.read_run(alloc, store, known, run)?;
+        self.segments_known(alloc, store, known, ids)
     }
 }

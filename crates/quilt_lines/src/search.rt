@@ -144,13 +144,9 @@ impl LineView {
             Some(look) => return Ok(look.last),
             None => {}
         }
-        match self.last_at(store, &mut search.spot, search.at) {
-            Err(e) => Err(e),
-            Ok(last) => {
-                search.home = Some(Look { last });
-                Ok(last)
-            }
-        }
+        let last = self.last_at(store, &mut search.spot, search.at)?;
+        search.home = Some(Look { last });
+        Ok(last)
     }
 
     /// The records from a key on, up to another one and without it, which is no other key where its item is 0. It reads nothing
@@ -204,12 +200,10 @@ impl LineView {
         ensures reads { IfOk result (λ v. Goes (λ old new. new ≤ old + (3 + 3 * vec_len v)) (S.reads store.old) (S.reads store.new)) }
         ensures first { last.now.key.item ≡ 0 → Goes (λ old new. new ≤ old) (S.reads store.old) (S.reads store.new) }
     {
-        match self.records_before(alloc, store, spot, low, &last.key) {
-            Err(e) => Err(e),
-            Ok(mut records) => match records.push(*last) {
-                Err(_) => Err(Stop::Memory),
-                Ok(()) => Ok(records),
-            },
+        let mut records = self.records_before(alloc, store, spot, low, &last.key)?;
+        match records.push(*last) {
+            Err(_) => Err(Stop::Memory),
+            Ok(()) => Ok(records),
         }
     }
 
@@ -241,12 +235,10 @@ impl LineView {
             item: u32::MAX,
             ..low
         };
-        match self.last_in(store, search, b) {
-            Err(e) => Err(e),
-            Ok(found) => match between(found, &low, &high) {
-                None => Ok(Vec::new(alloc)),
-                Some(last) => self.records_to(alloc, store, &mut search.spot, &low, &last),
-            },
+        let found = self.last_in(store, search, b)?;
+        match between(found, &low, &high) {
+            None => Ok(Vec::new(alloc)),
+            Some(last) => self.records_to(alloc, store, &mut search.spot, &low, &last),
         }
     }
 
@@ -273,9 +265,7 @@ impl LineView {
         ensures reads { IfOk result (λ o. MatchOption o (Goes (λ old new. new ≤ old + 9) (S.reads store.old) (S.reads store.new))
             (λ ids. Goes (λ old new. new ≤ old + (12 + 3 * vec_len ids)) (S.reads store.old) (S.reads store.new))) }
     {
-        match self.records_near(alloc, store, search, b) {
-            Err(e) => Err(e),
-            Ok(records) => self.ids_said(alloc, &records, b),
-        }
+        let records = self.records_near(alloc, store, search, b)?;
+        self.ids_said(alloc, &records, b)
     }
 }

@@ -91,10 +91,8 @@ pub fn scan<S: PageStore>(
     };
     let low = segment_key(layer, 0);
     let high = segment_key(layer, u32::MAX);
-    match tree.range(alloc, store, &low, &high, u32::MAX) {
-        Err(e) => Err(e),
-        Ok(records) => view.all_segments(alloc, &records),
-    }
+    let records = tree.range(alloc, store, &low, &high, u32::MAX)?;
+    view.all_segments(alloc, &records)
 }
 
 /// The key of the segment with an id.
@@ -160,13 +158,12 @@ impl LineView {
         ensures reads { Goes (λ old new. new ≤ old + 3) (S.reads store.old) (S.reads store.new) }
     {
         let key = segment_key(self.layer, id);
-        match self.tree.get_from(store, spot, &key) {
-            Err(e) => Err(e),
-            Ok(None) => Ok(None),
-            Ok(Some(value)) => match self.segment_said(&Record { key, value }) {
-                Some((_, s)) => Ok(Some(s)),
-                None => Err(DAMAGED),
-            },
+        let Some(value) = self.tree.get_from(store, spot, &key)? else {
+            return Ok(None);
+        };
+        match self.segment_said(&Record { key, value }) {
+            Some((_, s)) => Ok(Some(s)),
+            None => Err(DAMAGED),
         }
     }
 
@@ -207,10 +204,7 @@ impl LineView {
         let mut list = SegList::new(alloc);
         let mut spot = None;
         for id in ids {
-            match self.add_segment(store, &mut spot, &mut list, *id) {
-                Err(e) => return Err(e),
-                Ok(()) => {}
-            }
+            self.add_segment(store, &mut spot, &mut list, *id)?;
         }
         Ok(list)
     }
@@ -236,13 +230,12 @@ impl LineView {
         ensures left { OnlyReads S.PageStore store.old store.new result }
         ensures reads { Goes (λ old new. new ≤ old + 3) (S.reads store.old) (S.reads store.new) }
     {
-        match self.segment_from(store, spot, id) {
-            Err(e) => Err(e),
-            Ok(None) => Err(DAMAGED),
-            Ok(Some(s)) => match list.push(id, s) {
-                Ok(()) => Ok(()),
-                Err(_) => Err(Stop::Memory),
-            },
+        let Some(s) = self.segment_from(store, spot, id)? else {
+            return Err(DAMAGED);
+        };
+        match list.push(id, s) {
+            Ok(()) => Ok(()),
+            Err(_) => Err(Stop::Memory),
         }
     }
 
@@ -276,12 +269,10 @@ impl LineView {
             Ok(list) => list,
         };
         for id in ids {
-            match self.segment_known(store, known, *id) {
-                Err(e) => return Err(e),
-                Ok(s) => match list.push(*id, s) {
-                    Err(_) => return Err(Stop::Memory),
-                    Ok(()) => {}
-                },
+            let s = self.segment_known(store, known, *id)?;
+            match list.push(*id, s) {
+                Err(_) => return Err(Stop::Memory),
+                Ok(()) => {}
             }
         }
         Ok(list)
@@ -310,22 +301,17 @@ impl LineView {
         ensures fresh { OnOk result (Goes (λ old new. new + 3 * many_known known.old ≤ old + 3 * many_known known.new)
             (S.reads store.old) (S.reads store.new)) }
     {
-        match known.find(id) {
-            Some(s) => Ok(s),
-            None => {
-                let mut spot = spot_of(&known.ids);
-                match self.segment_from(store, &mut spot, id) {
-                    Err(e) => Err(e),
-                    Ok(None) => Err(DAMAGED),
-                    Ok(Some(s)) => {
-                        known.ids = mark_of(&spot);
-                        match known.keep(id, s) {
-                            Err(_) => Err(Stop::Memory),
-                            Ok(()) => Ok(s),
-                        }
-                    }
-                }
-            }
+        if let Some(s) = known.find(id) {
+            return Ok(s);
+        }
+        let mut spot = spot_of(&known.ids);
+        let Some(s) = self.segment_from(store, &mut spot, id)? else {
+            return Err(DAMAGED);
+        };
+        known.ids = mark_of(&spot);
+        match known.keep(id, s) {
+            Err(_) => Err(Stop::Memory),
+            Ok(()) => Ok(s),
         }
     }
 

@@ -55,13 +55,12 @@ impl Removal {
             layer: self.layer,
             level: self.level,
         };
-        match view.ids_near(alloc, store, search, b) {
-            Err(e) => Err(e),
-            Ok(Some(ids)) => match self.kept(alloc, b, &ids) {
+        match view.ids_near(alloc, store, search, b)? {
+            Some(ids) => match self.kept(alloc, b, &ids) {
                 Err(_) => Err(Stop::Memory),
                 Ok(kept) => Ok(kept),
             },
-            Ok(None) => {
+            None => {
                 if !self.enters(b) {
                     return Ok(Settled::new(alloc, false));
                 }
@@ -108,12 +107,10 @@ impl Removal {
     {
         let mut all = Settled::new(alloc, true);
         for q in quarters(b) {
-            match self.settle(alloc, store, tree, search, q) {
-                Err(e) => return Err(e),
-                Ok(x) => match all.gather(&x, self.threshold) {
-                    Err(_) => return Err(Stop::Memory),
-                    Ok(()) => {}
-                },
+            let x = self.settle(alloc, store, tree, search, q)?;
+            match all.gather(&x, self.threshold) {
+                Err(_) => return Err(Stop::Memory),
+                Ok(()) => {}
             }
         }
         match self.joined(alloc, b, all) {

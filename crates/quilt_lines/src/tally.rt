@@ -45,10 +45,8 @@ pub fn block_counts<S: PageStore>(
         level,
     };
     let mut counts = [0; 13];
-    match view.count_in(store, &mut counts, level, whole_square(level)) {
-        Err(e) => Err(e),
-        Ok(()) => Ok(counts),
-    }
+    view.count_in(store, &mut counts, level, whole_square(level))?;
+    Ok(counts)
 }
 
 /// Whether the key of a record is this one or a greater one.
@@ -93,22 +91,15 @@ impl LineView {
             HasLines (S.told store.old) self.now.tree self.now.layer self.now.level t segs cover →
             Goes (λ old new. new ≤ old + pages_in cover k b) (S.reads store.old) (S.reads store.new)) }
     {
-        match self.has_block(store, b) {
-            Err(e) => return Err(e),
-            Ok(true) => {
-                count_one(counts, k);
-                return Ok(());
-            }
-            Ok(false) => {}
+        if self.has_block(store, b)? {
+            count_one(counts, k);
+            return Ok(());
         }
         if k == 0 {
             return Err(DAMAGED);
         }
         for q in quarters(b) {
-            match self.count_in(store, counts, k - 1, q) {
-                Err(e) => return Err(e),
-                Ok(()) => {}
-            }
+            self.count_in(store, counts, k - 1, q)?;
         }
         Ok(())
     }
@@ -129,10 +120,9 @@ impl LineView {
             item: u32::MAX,
             ..low
         };
-        match self.tree.floor(store, &high) {
-            Err(e) => Err(e),
-            Ok(None) => Ok(false),
-            Ok(Some(r)) => Ok(is_from(&low, &r)),
+        match self.tree.floor(store, &high)? {
+            None => Ok(false),
+            Some(r) => Ok(is_from(&low, &r)),
         }
     }
 }

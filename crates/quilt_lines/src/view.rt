@@ -102,19 +102,14 @@ impl<S: PageStore> SegBlocks<S> for LineView {
         if !is_rooted(&self.tree, store.pages()) {
             return Err(DAMAGED);
         }
-        match self.ids_at(alloc, store, b) {
-            Err(e) => Err(e),
-            Ok(None) => {
-                if b.side <= 1 {
-                    return Err(DAMAGED);
-                }
-                Ok(Part::Split)
+        let Some(ids) = self.ids_at(alloc, store, b)? else {
+            if b.side <= 1 {
+                return Err(DAMAGED);
             }
-            Ok(Some(ids)) => match self.segments(alloc, store, &ids) {
-                Err(e) => Err(e),
-                Ok(list) => Ok(Part::Leaf(list)),
-            },
-        }
+            return Ok(Part::Split);
+        };
+        let list = self.segments(alloc, store, &ids)?;
+        Ok(Part::Leaf(list))
     }
 
     /// Damage is named as `part` names it.
@@ -148,30 +143,21 @@ impl<S: PageStore> SegBlocks<S> for LineView {
             block: known.block,
             spot: spot_of(&known.pairs),
         };
-        match self.ids_known(alloc, store, &mut hint, b) {
-            Err(e) => Err(e),
-            Ok(None) => {
-                known.block = hint.block;
-                known.pairs = mark_of(&hint.spot);
-                if b.side < 2 {
-                    return Err(DAMAGED);
-                }
-                Ok(Part::Split)
+        let Some(ids) = self.ids_known(alloc, store, &mut hint, b)? else {
+            known.block = hint.block;
+            known.pairs = mark_of(&hint.spot);
+            if b.side < 2 {
+                return Err(DAMAGED);
             }
-            Ok(Some(ids)) => {
-                known.pairs = mark_of(&hint.spot);
-                if known.block.is_none() {
-                    return match self.segments_known(alloc, store, known, &ids) {
-                        Err(e) => Err(e),
-                        Ok(list) => Ok(Part::Leaf(list)),
-                    };
-                }
-                match self.segments_ahead(alloc, store, known, &ids) {
-                    Err(e) => Err(e),
-                    Ok(list) => Ok(Part::Leaf(list)),
-                }
-            }
+            return Ok(Part::Split);
+        };
+        known.pairs = mark_of(&hint.spot);
+        if known.block.is_none() {
+            let list = self.segments_known(alloc, store, known, &ids)?;
+            return Ok(Part::Leaf(list));
         }
+        let list = self.segments_ahead(alloc, store, known, &ids)?;
+        Ok(Part::Leaf(list))
     }
 
     ghost lines = { λ v s l h. record { inside = h.has.spelled.valid.inside; each = h.has.spelled.valid.each; once = h.has.spelled.valid.once } };

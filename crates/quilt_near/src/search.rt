@@ -49,10 +49,9 @@ fn open<S: PageStore, B: SegBlocks<S>>(
     ensures ended { IfErr result (EndsLook (B.looked blocks.now b) store.old store.new) }
     ensures left { OnlyReads S.PageStore store.old store.new result }
 {
-    match blocks.part_known(alloc, store, known, b) {
-        Err(e) => Err(e),
-        Ok(Part::Leaf(list)) => Ok(best_of(list.items(), p, best)),
-        Ok(Part::Split) => match push_quarters(queue, p, b) {
+    match blocks.part_known(alloc, store, known, b)? {
+        Part::Leaf(list) => Ok(best_of(list.items(), p, best)),
+        Part::Split => match push_quarters(queue, p, b) {
             Err(_) => Err(Stop::Memory),
             Ok(()) => Ok(best),
         },
@@ -99,10 +98,7 @@ pub fn nearest<S: PageStore, B: SegBlocks<S>>(
         if is_past(&best, distance) {
             break;
         }
-        match open(alloc, blocks, store, &mut queue, &mut known, best, p, block) {
-            Err(e) => return Err(e),
-            Ok(now) => best = now,
-        }
+        best = open(alloc, blocks, store, &mut queue, &mut known, best, p, block)?;
     }
     Ok(reduced(best))
 }

@@ -61,13 +61,12 @@ fn open<S: PageStore, B: SegBlocks<S>>(
     ensures looked { OnOk result (GivesPart (B.looked blocks.now b) store.old store.new) }
     ensures left { OnlyReads S.PageStore store.old store.new result }
 {
-    match blocks.part_known(alloc, store, known, b) {
-        Err(e) => Err(e),
-        Ok(Part::Leaf(list)) => match rank_all(ranks, list.items(), p, k) {
+    match blocks.part_known(alloc, store, known, b)? {
+        Part::Leaf(list) => match rank_all(ranks, list.items(), p, k) {
             Err(_) => Err(Stop::Memory),
             Ok(()) => Ok(()),
         },
-        Ok(Part::Split) => match push_quarters(queue, p, b) {
+        Part::Split => match push_quarters(queue, p, b) {
             Err(_) => Err(Stop::Memory),
             Ok(()) => Ok(()),
         },
@@ -106,12 +105,9 @@ pub fn ranked<S: PageStore, B: SegBlocks<S>>(
         if ranks.is_past(k as usize, distance) {
             break;
         }
-        match open(
+        open(
             alloc, blocks, store, &mut queue, &mut ranks, &mut known, p, k as usize, block,
-        ) {
-            Err(e) => return Err(e),
-            Ok(()) => {}
-        }
+        )?;
     }
     match ranks.listed(alloc) {
         Err(_) => Err(Stop::Memory),

@@ -115,13 +115,12 @@ fn open<S: PageStore, B: SegBlocks<S>>(
     if near.is_empty() {
         return Ok(());
     }
-    match blocks.part_known(alloc, store, known, b) {
-        Err(e) => Err(e),
-        Ok(Part::Leaf(list)) => match gather(found, list.items(), near) {
+    match blocks.part_known(alloc, store, known, b)? {
+        Part::Leaf(list) => match gather(found, list.items(), near) {
             Err(_) => Err(Stop::Memory),
             Ok(()) => Ok(()),
         },
-        Ok(Part::Split) => match push_quarters(alloc, stack, b, near) {
+        Part::Split => match push_quarters(alloc, stack, b, near) {
             Err(_) => Err(Stop::Memory),
             Ok(()) => Ok(()),
         },
@@ -173,12 +172,9 @@ pub fn select<S: PageStore, B: SegBlocks<S>>(
     }
     let mut found = BTreeMap::new(alloc);
     while let Some((block, near)) = stack.pop() {
-        match open(
+        open(
             alloc, blocks, store, &mut stack, &mut found, &mut known, block, &near,
-        ) {
-            Err(e) => return Err(e),
-            Ok(()) => {}
-        }
+        )?;
     }
     match listed(alloc, &found) {
         Err(_) => Err(Stop::Memory),

@@ -58,12 +58,10 @@ pub fn clipped<S: PageStore, B: SegBlocks<S>>(
     ensures sound { IfErr result (λ e. (l : Lines) → B.shows blocks.now store.old l → IsNotDamage e) }
     ensures left { OnlyReads S.PageStore store.old store.new result }
 {
-    match cross(alloc, blocks, store, w) {
-        Err(e) => Err(e),
-        Ok(list) => match clips_of(alloc, list.items(), w) {
-            Err(_) => Err(Stop::Memory),
-            Ok(clips) => Ok(clips),
-        },
+    let list = cross(alloc, blocks, store, w)?;
+    match clips_of(alloc, list.items(), w) {
+        Err(_) => Err(Stop::Memory),
+        Ok(clips) => Ok(clips),
     }
 }
 

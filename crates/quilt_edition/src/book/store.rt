@@ -56,10 +56,7 @@ impl<W: Disk> PageStore for Book<W> {
         let State::Idle = self.journal.state() else {
             return Err(StoreErr::Memory);
         };
-        match self.pool.bring(&mut self.journal, &mut self.world, page) {
-            Ok(()) => {}
-            Err(err) => return Err(err),
-        }
+        self.pool.bring(&mut self.journal, &mut self.world, page)?;
         Ok(self.pool.lent(page))
     }
 
@@ -67,10 +64,7 @@ impl<W: Disk> PageStore for Book<W> {
         let State::Idle = self.journal.state() else {
             return Err(StoreErr::Memory);
         };
-        match self.pool.bring(&mut self.journal, &mut self.world, page) {
-            Ok(()) => {}
-            Err(err) => return Err(err),
-        }
+        self.pool.bring(&mut self.journal, &mut self.world, page)?;
         self.pool.mark(page);
         Ok(self.pool.lend(page))
     }

@@ -8,7 +8,7 @@ use Rattle.quilt_near.proofs.search.open.Goals as goal
 
 pub best_of-requires-clause-ends : goal.best_of-requires-clause-ends
 best_of-requires-clause-ends g c =
-    let h = subst (λ (part : Part). PartFits (g.B.SegBlocks.level_of c.args.blocks.now) c.args.b part) c.in-Ok-Leaf.field-0-is c.in-Ok-Leaf.ensures.part_of in
+    let h = subst (λ (part : Part). PartFits (g.B.SegBlocks.level_of c.args.blocks.now) c.args.b part) c.in-Leaf.is c.in_ok-list.ensures.part_of in
     ends_small _ _ c.requires.low (subst (All (λ e. is_in_square (g.B.SegBlocks.level_of c.args.blocks.now) e.1 ≡ true)) (sym c.items.ensures) h)
 
 pub push_quarters-requires-clause-valid : goal.push_quarters-requires-clause-valid

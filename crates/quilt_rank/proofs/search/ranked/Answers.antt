@@ -1,4 +1,5 @@
 use Rattle.std.proofs.Common.{◌≡◌, ◌+◌, ◌≤◌, List, length, inl, inr, refl, sym, ◌∙◌, subst, arith}
+use Rattle.std.proofs.lemmas.Result.{err_from_is_err_and}
 use Rattle.quilt_store.proofs.Reading.{only_reads_then, only_reads_same, read_on, only_reads_err}
 use Rattle.quilt_types.specs.Quadtrees.{reach}
 use Rattle.quilt_world.specs.Tale.{Goes}
@@ -47,9 +48,10 @@ open-requires-clause-reached g c l s =
     c.loop-distance.invariant.going c.in-Some.ensures.taken l
     (g.met.B.SegBlocks.same c.args.blocks.now c.loop-distance.store c.args.store.now l (sym c.loop-distance.invariant.left.told) s)
 
-pub returns-in-Err-open-clause-sound : goal.returns-in-Err-open-clause-sound
-returns-in-Err-open-clause-sound g c l s =
-    c.in-Err-open.ensures.sound l (g.met.B.SegBlocks.same c.args.blocks.now c.args.store.now c.loop-distance.store l c.loop-distance.invariant.left.told s)
+pub returns-in_err-open-clause-sound : goal.returns-in_err-open-clause-sound
+returns-in_err-open-clause-sound g c =
+    let p = err_from_is_err_and c.from_residual.result c.from_residual.ensures.1 in
+    rw (p.1, p.2) (λ l s. c.in_err-open.ensures.sound l (g.met.B.SegBlocks.same c.args.blocks.now c.args.store.now c.loop-distance.store l c.loop-distance.invariant.left.told s))
 
 pub loop-distance-smaller : goal.loop-distance-smaller
 loop-distance-smaller g c =
@@ -58,7 +60,7 @@ loop-distance-smaller g c =
     (g.S.PageStore.reads c.loop-distance.store) c.loop-distance.queue c.pop.new.self c.loop-distance.ranks (c.in-Some.distance, c.in-Some.block)
     c.loop-distance.invariant.going c.in-Some.ensures.taken
     (g.S.PageStore.reads c.open.new.store) c.open.new.queue c.open.new.ranks (g.B.SegBlocks.shows c.args.blocks.now c.loop-distance.store)
-    c.in-Ok-open.ensures.opened
+    c.in_ok-open.ensures.opened
 
 pub loop-distance-preserved : goal.loop-distance-preserved
 loop-distance-preserved g c =
@@ -70,12 +72,12 @@ loop-distance-preserved g c =
           (c.in-Some.distance, c.in-Some.block) c.loop-distance.invariant.going c.in-Some.ensures.taken
           (g.S.PageStore.reads c.open.new.store) c.open.new.queue c.open.new.ranks (g.B.SegBlocks.shows c.args.blocks.now c.loop-distance.store)
           (λ l s. g.met.B.SegBlocks.same c.args.blocks.now c.args.store.now c.loop-distance.store l i.left.told s)
-          c.in-Some.ensures.least (sym c.is_past.ensures ∙ c.if-is_past.false) c.in-Ok-open.ensures.opened;
+          c.in-Some.ensures.least (sym c.is_past.ensures ∙ c.if-is_past.false) c.in_ok-open.ensures.opened;
       left = read_on _ g.met.S.PageStore.goes_on c.args.store.now c.loop-distance.store c.open.new.store i.left c.open.ensures.left;
       known = knows_where _ (g.B.SegBlocks.shows c.args.blocks.now c.loop-distance.store) _ (g.B.SegBlocks.marked c.args.blocks.now c.loop-distance.store) _ c.open.new.known
           (λ l s. g.met.B.SegBlocks.same c.args.blocks.now c.args.store.now c.loop-distance.store l i.left.told s)
-          (λ m s. g.met.B.SegBlocks.same_marks c.args.blocks.now c.loop-distance.store c.args.store.now m (sym i.left.told) s) c.in-Ok-open.ensures.known;
-      ended = inl (c.in-Some.block, c.loop-distance.store, inr (refl, c.in-Ok-open.ensures.looked));
+          (λ m s. g.met.B.SegBlocks.same_marks c.args.blocks.now c.loop-distance.store c.args.store.now m (sym i.left.told) s) c.in_ok-open.ensures.known;
+      ended = inl (c.in-Some.block, c.loop-distance.store, inr (refl, c.in_ok-open.ensures.looked));
     }
 
 -- at either end those so far are the answer
@@ -112,8 +114,10 @@ returns-clause-reads g c l s long =
     (g.S.PageStore.reads c.loop-distance.store) c.loop-distance.queue c.loop-distance.ranks c.loop-distance.invariant.going l s (found g c l s))
     long
 
-pub returns-in-Err-open-clause-left : goal.returns-in-Err-open-clause-left
-returns-in-Err-open-clause-left g c = only_reads_err _ (only_reads_then _ g.met.S.PageStore.goes_on _ _ _ c.loop-distance.invariant.left c.in-Err-open.ensures.left)
+pub returns-in_err-open-clause-left : goal.returns-in_err-open-clause-left
+returns-in_err-open-clause-left g c =
+    let p = err_from_is_err_and c.from_residual.result c.from_residual.ensures.1 in
+    rw (p.1, p.2) (only_reads_err _ (only_reads_then _ g.met.S.PageStore.goes_on _ _ _ c.loop-distance.invariant.left c.in_err-open.ensures.left))
 
 pub returns-clause-firsts : goal.returns-clause-firsts
 returns-clause-firsts g c l s = first_are l.segs c.args.p c.args.k _ (c.in-Ok-listed.ensures ∙ found g c l s)

@@ -17,10 +17,10 @@ returns-then-is_empty-clause-opened g c = record {
   reads = tells_same (λ x y. y ≤ x + 0) (λ x. omega arith) (g.S.PageStore.reads c.args.store.now);
 }
 
-pub returns-in-Ok-Leaf-clause-opened : goal.returns-in-Ok-Leaf-clause-opened
-returns-in-Ok-Leaf-clause-opened g c = record {
-  part = Some (Leaf c.in-Ok-Leaf.list);
-  found = λ l s. subst (λ (part : Part). IsPart l c.args.b part) c.in-Ok-Leaf.field-0-is (c.in-Ok-Leaf.ensures.part l s);
+pub returns-in-Leaf-clause-opened : goal.returns-in-Leaf-clause-opened
+returns-in-Leaf-clause-opened g c = record {
+  part = Some (Leaf c.in-Leaf.list);
+  found = λ l s. subst (λ (part : Part). IsPart l c.args.b part) c.in-Leaf.is (c.in_ok-list.ensures.part l s);
   after = (
     some_length (length c.args.near.now) (sym c.is_empty.ensures ∙ c.if-is_empty.false),
     refl,
@@ -28,7 +28,7 @@ returns-in-Ok-Leaf-clause-opened g c = record {
   );
   reads =
       subst (λ (part : Part). Goes (λ old new. new ≤ old + pages_for part) (g.S.PageStore.reads c.args.store.now)
-      (g.S.PageStore.reads c.part_known.new.store)) c.in-Ok-Leaf.field-0-is c.in-Ok-Leaf.ensures.reads;
+      (g.S.PageStore.reads c.part_known.new.store)) c.in-Leaf.is c.in_ok-list.ensures.reads;
 }
 
 pub push_quarters-requires-clause-valid : goal.push_quarters-requires-clause-valid
@@ -37,14 +37,14 @@ push_quarters-requires-clause-valid g c = IsBlock-up _ 12 _ c.requires.low c.req
 pub returns-clause-opened : goal.returns-clause-opened
 returns-clause-opened g c = record {
   part = Some Split;
-  found = λ l s. subst (λ (part : Part). IsPart l c.args.b part) c.in-Ok-Split.field-0-is (c.in-Ok-Split.ensures.part l s);
+  found = λ l s. subst (λ (part : Part). IsPart l c.args.b part) c.in-Split.is (c.in_ok-list.ensures.part l s);
   after = (
     some_length (length c.args.near.now) (sym c.is_empty.ensures ∙ c.if-is_empty.false),
-    subst (λ (part : Part). PartFits (g.B.SegBlocks.level_of c.args.blocks.now) c.args.b part) c.in-Ok-Split.field-0-is c.in-Ok-Split.ensures.part_of,
+    subst (λ (part : Part). PartFits (g.B.SegBlocks.level_of c.args.blocks.now) c.args.b part) c.in-Split.is c.in_ok-list.ensures.part_of,
     c.in-Ok-push_quarters.ensures,
     refl,
   );
   reads =
       subst (λ (part : Part). Goes (λ old new. new ≤ old + pages_for part) (g.S.PageStore.reads c.args.store.now)
-      (g.S.PageStore.reads c.part_known.new.store)) c.in-Ok-Split.field-0-is c.in-Ok-Split.ensures.reads;
+      (g.S.PageStore.reads c.part_known.new.store)) c.in-Split.is c.in_ok-list.ensures.reads;
 }

@@ -1,4 +1,5 @@
 use Rattle.std.proofs.Common.{List, ◌∙◌, ap, sym, subst, refl, arith}
+use Rattle.std.proofs.lemmas.Result.{err_from_is_err_and}
 use Rattle.quilt_store.proofs.Reading.{only_reads_then, only_reads_same, read_on, only_reads_err}
 use Rattle.quilt_types.specs.declared.plane.Window.{Window}
 use Rattle.quilt_types.specs.Plane.{whole}
@@ -41,9 +42,10 @@ open-requires-clause-reached g c l s =
     c.loop-block.invariant.going c.in-Some.ensures.taken
     l (g.met.B.SegBlocks.same c.args.blocks.now c.loop-block.store c.args.store.now l (sym c.loop-block.invariant.left.told) s)
 
-pub returns-in-Err-open-clause-sound : goal.returns-in-Err-open-clause-sound
-returns-in-Err-open-clause-sound g c l s =
-    c.in-Err-open.ensures.sound l (g.met.B.SegBlocks.same c.args.blocks.now c.args.store.now c.loop-block.store l c.loop-block.invariant.left.told s)
+pub returns-in_err-open-clause-sound : goal.returns-in_err-open-clause-sound
+returns-in_err-open-clause-sound g c =
+    let p = err_from_is_err_and c.from_residual.result c.from_residual.ensures.1 in
+    rw (p.1, p.2) (λ l s. c.in_err-open.ensures.sound l (g.met.B.SegBlocks.same c.args.blocks.now c.args.store.now c.loop-block.store l c.loop-block.invariant.left.told s))
 
 pub loop-block-smaller : goal.loop-block-smaller
 loop-block-smaller g c =
@@ -54,7 +56,7 @@ loop-block-smaller g c =
     (g.S.PageStore.reads c.open.new.store) c.open.new.stack c.open.new.found.entries (g.B.SegBlocks.shows c.args.blocks.now c.loop-block.store)
     (subst (λ (near : List Window). IsBlockVisited c.in-Some.block near (g.B.SegBlocks.shows c.args.blocks.now c.loop-block.store)
     c.pop.new.self c.open.new.stack c.loop-block.found.entries c.open.new.found.entries (g.S.PageStore.reads c.loop-block.store)
-    (g.S.PageStore.reads c.open.new.store)) c.deref-in-Some.ensures.value c.in-Ok-open.ensures.opened)
+    (g.S.PageStore.reads c.open.new.store)) c.deref-in-Some.ensures.value c.in_ok-open.ensures.opened)
 
 pub loop-block-preserved : goal.loop-block-preserved
 loop-block-preserved g c =
@@ -68,11 +70,11 @@ loop-block-preserved g c =
           (λ l s. g.met.B.SegBlocks.same c.args.blocks.now c.args.store.now c.loop-block.store l i.left.told s)
           (subst (λ (near : List Window). IsBlockVisited c.in-Some.block near (g.B.SegBlocks.shows c.args.blocks.now c.loop-block.store)
           c.pop.new.self c.open.new.stack c.loop-block.found.entries c.open.new.found.entries (g.S.PageStore.reads c.loop-block.store)
-          (g.S.PageStore.reads c.open.new.store)) c.deref-in-Some.ensures.value c.in-Ok-open.ensures.opened);
+          (g.S.PageStore.reads c.open.new.store)) c.deref-in-Some.ensures.value c.in_ok-open.ensures.opened);
       left = read_on _ g.met.S.PageStore.goes_on c.args.store.now c.loop-block.store c.open.new.store i.left c.open.ensures.left;
       known = knows_where _ (g.B.SegBlocks.shows c.args.blocks.now c.loop-block.store) _ (g.B.SegBlocks.marked c.args.blocks.now c.loop-block.store) _ c.open.new.known
           (λ l s. g.met.B.SegBlocks.same c.args.blocks.now c.args.store.now c.loop-block.store l i.left.told s)
-          (λ m s. g.met.B.SegBlocks.same_marks c.args.blocks.now c.loop-block.store c.args.store.now m (sym i.left.told) s) c.in-Ok-open.ensures.known;
+          (λ m s. g.met.B.SegBlocks.same_marks c.args.blocks.now c.loop-block.store c.args.store.now m (sym i.left.told) s) c.in_ok-open.ensures.known;
     }
 
 pub returns-clause-selected : goal.returns-clause-selected
@@ -88,5 +90,7 @@ returns-clause-reads g c l s =
     (g.met.B.SegBlocks.lines c.args.blocks.now c.args.store.now) (g.S.PageStore.reads c.args.store.now)
     (g.S.PageStore.reads c.loop-block.store) c.loop-block.stack c.loop-block.found.entries c.loop-block.invariant.going l s
 
-pub returns-in-Err-open-clause-left : goal.returns-in-Err-open-clause-left
-returns-in-Err-open-clause-left g c = only_reads_err _ (only_reads_then _ g.met.S.PageStore.goes_on _ _ _ c.loop-block.invariant.left c.in-Err-open.ensures.left)
+pub returns-in_err-open-clause-left : goal.returns-in_err-open-clause-left
+returns-in_err-open-clause-left g c =
+    let p = err_from_is_err_and c.from_residual.result c.from_residual.ensures.1 in
+    rw (p.1, p.2) (only_reads_err _ (only_reads_then _ g.met.S.PageStore.goes_on _ _ _ c.loop-block.invariant.left c.in_err-open.ensures.left))

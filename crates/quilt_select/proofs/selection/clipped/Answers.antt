@@ -6,5 +6,5 @@ use Rattle.quilt_select.proofs.selection.clipped.Goals as goal
 
 pub returns-clause-clipped : goal.returns-clause-clipped
 returns-clause-clipped g c l s =
-    clipped_all c.args.w (finmap.entries l.segs) c.in-Ok.list c.in-Ok-clips_of.clips
-    (c.in-Ok-clips_of.ensures ∙ ap (clips_of_list c.args.w) c.items.ensures) (c.in-Ok.ensures.cross l s)
+    clipped_all c.args.w (finmap.entries l.segs) c.in_ok-list.list c.in-Ok.clips
+    (c.in-Ok.ensures ∙ ap (clips_of_list c.args.w) c.items.ensures) (c.in_ok-list.ensures.cross l s)

@@ -1,5 +1,5 @@
 use Rattle.std.proofs.Common.{◌≡◌, ◌+◌, ◌≤◌, true, [], ◌++◌, ◌∷◌, List, sym, ◌∙◌, ap, subst}
-use Rattle.std.proofs.lemmas.Result.{IfErr-weaker}
+use Rattle.std.proofs.lemmas.Result.{IfErr-weaker, err_from_is_err_and}
 use Rattle.quilt_record.specs.declared.record.Record.{Record}
 use Rattle.quilt_types.specs.declared.plane.Block.{Block}
 use Rattle.quilt_types.specs.Plane.{whole}
@@ -13,16 +13,17 @@ use Rattle.quilt_lines.proofs.Sums.{reads_more}
 use Rattle.quilt_lines.proofs.Results.{if_ok_both, memory_sound, if_ok_any}
 use Rattle.quilt_lines.proofs.addition.Arrival.edits.Goals as goal
 
-pub returns-in-Err-add_in-clause-sound : goal.returns-in-Err-add_in-clause-sound
-returns-in-Err-add_in-clause-sound g c segs cover h new =
-    let self = c.args.self.now in
+pub returns-in_err-add_in-clause-sound : goal.returns-in_err-add_in-clause-sound
+returns-in_err-add_in-clause-sound g c =
+    let p = err_from_is_err_and c.from_residual.result c.from_residual.ensures.1 in
+    rw (p.1, p.2) (λ segs cover h new. let self = c.args.self.now in
     let valid = h.spelled.valid in
-    c.in-Err-add_in.ensures.sound segs cover h
+    c.in_err-add_in.ensures.sound segs cover h
     (subst (λ (b : Block). is_reached cover b ≡ true) (sym c.whole_square-all.ensures)
-    (reached_whole self.view.level (record { segs = segs; cover = cover }) (record { inside = valid.inside; each = valid.each; once = valid.once })))
+    (reached_whole self.view.level (record { segs = segs; cover = cover }) (record { inside = valid.inside; each = valid.each; once = valid.once }))))
 
-pub returns-in-Ok-add_in-clause-plan : goal.returns-in-Ok-add_in-clause-plan
-returns-in-Ok-add_in-clause-plan g c =
+pub returns-clause-plan : goal.returns-clause-plan
+returns-clause-plan g c =
     let self = c.args.self.now in
     let row = c.segment_record-row.ensures self.view.level in
     if_ok_both c.edits_of.result _ _ _ (λ edits pr pa segs cover h new.
@@ -32,11 +33,11 @@ returns-in-Ok-add_in-clause-plan g c =
     (added_whole self.view.level self.view.layer self.t segs self.id self.s cover c.whole_square-all.result c.new.result.items
     c.add_in.new.change.gone.items c.push.new.self.items c.add_in.new.change.come.items c.segment_record-row.result c.whole_square-all.ensures
     c.new.ensures.items (c.in-Ok.ensures.items ∙ ap (λ (rs : List Record). rs ++ c.segment_record-row.result ∷ []) c.new-2.ensures.items) (row.written [])
-    (c.in-Ok-add_in.ensures.added segs cover h new self.view.level (ap (λ (b : Block). b.side) c.whole_square-all.ensures)))
+    (c.in_ok-add_in.ensures.added segs cover h new self.view.level (ap (λ (b : Block). b.side) c.whole_square-all.ensures)))
     edits pr pa) c.edits_of.ensures.remove c.edits_of.ensures.add
 
-pub returns-in-Ok-add_in-clause-sound : goal.returns-in-Ok-add_in-clause-sound
-returns-in-Ok-add_in-clause-sound g c =
+pub returns-clause-sound : goal.returns-clause-sound
+returns-clause-sound g c =
     let self = c.args.self.now in
     let row = c.segment_record-row.ensures self.view.level in
     IfErr-weaker c.edits_of.result _ _ (λ e f segs cover h new.
@@ -47,10 +48,10 @@ returns-in-Ok-add_in-clause-sound g c =
     (added_whole self.view.level self.view.layer self.t segs self.id self.s cover c.whole_square-all.result c.new.result.items
     c.add_in.new.change.gone.items c.push.new.self.items c.add_in.new.change.come.items c.segment_record-row.result c.whole_square-all.ensures
     c.new.ensures.items (c.in-Ok.ensures.items ∙ ap (λ (rs : List Record). rs ++ c.segment_record-row.result ∷ []) c.new-2.ensures.items) (row.written [])
-    (c.in-Ok-add_in.ensures.added segs cover h new self.view.level (ap (λ (b : Block). b.side) c.whole_square-all.ensures)))))) c.edits_of.ensures.memory
+    (c.in_ok-add_in.ensures.added segs cover h new self.view.level (ap (λ (b : Block). b.side) c.whole_square-all.ensures)))))) c.edits_of.ensures.memory
 
-pub returns-in-Ok-add_in-clause-reads : goal.returns-in-Ok-add_in-clause-reads
-returns-in-Ok-add_in-clause-reads g c =
+pub returns-clause-reads : goal.returns-clause-reads
+returns-clause-reads g c =
     let self = c.args.self.now in
     if_ok_any c.edits_of.result _ (λ e segs cover h.
     let valid = h.spelled.valid in
@@ -58,7 +59,7 @@ returns-in-Ok-add_in-clause-reads g c =
     reads_more _ _ (due self.view.level (is_met self.s) segs cover (whole self.view.level)) (reach self.view.level segs cover (is_met self.s)) all
     (subst (λ (b : Block). Goes (λ old new. new ≤ old + due self.view.level (is_met self.s) segs cover b) (g.S.PageStore.reads c.args.store.now)
     (g.S.PageStore.reads c.add_in.new.store)) c.whole_square-all.ensures
-    (c.in-Ok-add_in.ensures.reads segs cover h
+    (c.in_ok-add_in.ensures.reads segs cover h
     (subst (λ (b : Block). is_reached cover b ≡ true) (sym c.whole_square-all.ensures)
     (reached_whole self.view.level (record { segs = segs; cover = cover }) (record { inside = valid.inside; each = valid.each; once = valid.once }))))))
 

@@ -1,5 +1,5 @@
 use Rattle.std.proofs.Common.{◌≡◌, ℕ, zero, suc, ◌+◌, ◌*◌, List, take, length, sum_by, get_or, sym, ◌∙◌, ap, subst, arith, Contains, pow-suc, vec_len}
-use Rattle.std.proofs.lemmas.Result.{IfOk-weaker, IfErr-weaker}
+use Rattle.std.proofs.lemmas.Result.{IfOk-weaker, IfErr-weaker, err_from_is_err_and}
 use Rattle.std.proofs.lemmas.List.{take_all}
 use Rattle.std.proofs.lemmas.Option.{MatchOption-at_none, MatchOption-at_some}
 use Rattle.quilt_store.proofs.Reading.{read_on}
@@ -22,34 +22,36 @@ use Rattle.quilt_lines.proofs.Sums.{reads_sum, reads_more}
 use Rattle.quilt_lines.proofs.Quarters.{quarter_in, quarter_at}
 use Rattle.quilt_lines.proofs.removal.Removal.+settle.Goals as goal
 
-pub settle-returns-in-Err-clause-sound : goal.settle-returns-in-Err-clause-sound
-settle-returns-in-Err-clause-sound g t c segs cover h = c.in-Err.ensures.sound c.args.self.now.threshold segs cover h
+pub settle-returns-in_err-ids-clause-sound : goal.settle-returns-in_err-ids-clause-sound
+settle-returns-in_err-ids-clause-sound g t c =
+    let p = err_from_is_err_and c.from_residual.result c.from_residual.ensures.1 in
+    rw (p.1, p.2) (λ segs cover h. c.in_err-ids.ensures.sound c.args.self.now.threshold segs cover h)
 
-pub settle-returns-in-Ok-Some-clause-settled : goal.settle-returns-in-Ok-Some-clause-settled
-settle-returns-in-Ok-Some-clause-settled g t c k segs cover e h =
+pub settle-returns-in-Some-clause-settled : goal.settle-returns-in-Some-clause-settled
+settle-returns-in-Some-clause-settled g t c k segs cover e h =
     c.in-Ok.ensures k segs cover (subst (AreIdsAt segs cover c.args.b) (sym c.deref.ensures.value)
-    (MatchOption-at_some _ _ c.in-Ok-Some.ids c.in-Ok-Some.field-0-is (c.in-Ok-Some.ensures.ids c.args.self.now.threshold segs cover h)))
+    (MatchOption-at_some _ _ c.in-Some.ids c.in-Some.is (c.in_ok-ids.ensures.ids c.args.self.now.threshold segs cover h)))
 
 pub settle-returns-then-not-enters-clause-settled : goal.settle-returns-then-not-enters-clause-settled
 settle-returns-then-not-enters-clause-settled g t c k segs cover e h =
     unmet_settles c.args.self.now.level c.args.self.now.layer c.args.self.now.threshold c.args.self.now.id segs cover c.args.self.now.segment k c.args.b
     c.new.result e
-    (MatchOption-at_none _ _ c.in-Ok-None.field-0-is (c.in-Ok-None.ensures.ids c.args.self.now.threshold segs cover h))
+    (MatchOption-at_none _ _ c.in-None.is (c.in_ok-ids.ensures.ids c.args.self.now.threshold segs cover h))
     (c.enters.ensures.unmet c.if-not-enters.true) c.new.ensures.one c.new.ensures.coming c.new.ensures.going c.new.ensures.staying c.new.ensures.emptied
 
 pub settle-returns-clause-settled : goal.settle-returns-clause-settled
 settle-returns-clause-settled g t c =
     IfOk-weaker c.settle_quarters.result _ _ (λ x f k segs cover e h.
     f k segs cover e (lines_along _ _ c.args.tree.now c.args.self.now.layer c.args.self.now.level c.args.self.now.threshold segs cover
-    c.in-Ok-None.ensures.left.told h)
-    (MatchOption-at_none _ _ c.in-Ok-None.field-0-is (c.in-Ok-None.ensures.ids c.args.self.now.threshold segs cover h)))
+    c.in_ok-ids.ensures.left.told h)
+    (MatchOption-at_none _ _ c.in-None.is (c.in_ok-ids.ensures.ids c.args.self.now.threshold segs cover h)))
     c.settle_quarters.ensures.settled
 
 pub settle-returns-clause-sound : goal.settle-returns-clause-sound
 settle-returns-clause-sound g t c =
     IfErr-weaker c.settle_quarters.result _ _ (λ x f segs cover h.
     f segs cover (lines_along _ _ c.args.tree.now c.args.self.now.layer c.args.self.now.level c.args.self.now.threshold segs cover
-    c.in-Ok-None.ensures.left.told h)) c.settle_quarters.ensures.sound
+    c.in_ok-ids.ensures.left.told h)) c.settle_quarters.ensures.sound
 
 pub settle_quarters-quarters-q-items-requires-clause-valid :
     goal.settle_quarters-quarters-q-items-requires-clause-valid
@@ -71,9 +73,11 @@ settle_quarters-settle-requires g t c κs within =
     c.loop-q.invariant.search in
     (omega arith, (within, (subst (λ (z : ℕ). IsRooted z c.args.tree.now) (sym c.loop-q.invariant.left.size) c.requires.rooted, (search, is.block))))
 
-pub settle_quarters-returns-in-Err-clause-sound : goal.settle_quarters-returns-in-Err-clause-sound
-settle_quarters-returns-in-Err-clause-sound g t c segs cover h = c.in-Err.ensures.sound segs cover
-    (lines_along _ _ c.args.tree.now c.args.self.now.layer c.args.self.now.level c.args.self.now.threshold segs cover c.loop-q.invariant.left.told h)
+pub settle_quarters-returns-in_err-x-clause-sound : goal.settle_quarters-returns-in_err-x-clause-sound
+settle_quarters-returns-in_err-x-clause-sound g t c =
+    let p = err_from_is_err_and c.from_residual.result c.from_residual.ensures.1 in
+    rw (p.1, p.2) (λ segs cover h. c.in_err-x.ensures.sound segs cover
+    (lines_along _ _ c.args.tree.now c.args.self.now.layer c.args.self.now.level c.args.self.now.threshold segs cover c.loop-q.invariant.left.told h))
 
 pub settle_quarters-loop-q-preserved : goal.settle_quarters-loop-q-preserved
 settle_quarters-loop-q-preserved g t c =
@@ -90,14 +94,14 @@ settle_quarters-loop-q-preserved g t c =
           subst (λ (l : List Block). Gathers c.args.self.now.level c.args.self.now.layer c.args.self.now.threshold c.args.self.now.id segs cover
           c.args.self.now.segment k l c.gather.new.self) (sym (take_next qs c.loop-q.q-index none (omega arith)))
           (gathers_next c.args.self.now.level c.args.self.now.layer c.args.self.now.threshold c.args.self.now.id segs cover c.args.self.now.segment k
-          (take c.loop-q.q-index qs) q c.loop-q.all c.in-Ok.x c.gather.new.self
+          (take c.loop-q.q-index qs) q c.loop-q.all c.in_ok-x.x c.gather.new.self
           (c.loop-q.invariant.gathered k segs cover e h)
-          (c.in-Ok.ensures.settled k segs cover (omega arith)
+          (c.in_ok-x.ensures.settled k segs cover (omega arith)
           (lines_along _ _ c.args.tree.now c.args.self.now.layer c.args.self.now.level c.args.self.now.threshold segs cover c.loop-q.invariant.left.told h))
-          c.in-Ok-gather.ensures);
+          c.in-Ok.ensures);
       search = search_along _ _ c.args.tree.now c.args.self.now.level c.args.self.now.layer c.settle.new.search (sym c.loop-q.invariant.left.told)
-          c.in-Ok.ensures.search;
-      left = read_on _ g.met.S.PageStore.goes_on _ _ _ c.loop-q.invariant.left c.in-Ok.ensures.left;
+          c.in_ok-x.ensures.search;
+      left = read_on _ g.met.S.PageStore.goes_on _ _ _ c.loop-q.invariant.left c.in_ok-x.ensures.left;
       reads = λ segs cover h reached away.
           let n = c.args.self.now.level in
           let s = c.args.self.now.segment in
@@ -106,7 +110,7 @@ settle_quarters-loop-q-preserved g t c =
           let lt = c.loop-q-test.true in
           reads_next (due n (is_met_above n s) segs cover) qs c.loop-q.q-index none 0 _ _ _ (omega arith)
           (c.loop-q.invariant.reads segs cover h reached away)
-          (c.in-Ok.ensures.reads segs cover
+          (c.in_ok-x.ensures.reads segs cover
           (lines_along _ _ c.args.tree.now c.args.self.now.layer n c.args.self.now.threshold segs cover c.loop-q.invariant.left.told h)
           (reached_quarter n (record { segs = segs; cover = cover }) (record { inside = valid.inside; each = valid.each; once = valid.once })
           c.args.b q c.requires.block c.requires.wide reached away (quarter_in c.args.b qs c.loop-q.q-index none c.quarters-q-items.ensures.value lt))
@@ -128,38 +132,38 @@ settle_quarters-returns-in-Ok-joined-clause-settled g t c k segs cover e h away 
         c.args.self.now.segment j l c.loop-q.all)
         (take_all c.loop-q.q-index c.quarters-q-items.result (omega arith) ∙ c.quarters-q-items.ensures.value) (c.loop-q.invariant.gathered j segs cover e' h))
 
-pub settle-returns-in-Ok-Some-clause-reads : goal.settle-returns-in-Ok-Some-clause-reads
-settle-returns-in-Ok-Some-clause-reads g t c segs cover h reached above =
+pub settle-returns-in-Some-clause-reads : goal.settle-returns-in-Some-clause-reads
+settle-returns-in-Some-clause-reads g t c segs cover h reached above =
     let n = c.args.self.now.level in
     let counts = is_met_above n c.args.self.now.segment in
-    let ids = c.in-Ok-Some.ids.items in
+    let ids = c.in-Some.ids.items in
     let le = due_leaf n counts segs cover c.args.b c.requires.block above reached ids
-    (MatchOption-at_some _ _ c.in-Ok-Some.ids c.in-Ok-Some.field-0-is (c.in-Ok-Some.ensures.ids c.args.self.now.threshold segs cover h)) in
+    (MatchOption-at_some _ _ c.in-Some.ids c.in-Some.is (c.in_ok-ids.ensures.ids c.args.self.now.threshold segs cover h)) in
     let same = ap length c.deref.ensures.value in
     let len = c.deref.ensures.len in
-    reads_more _ _ (12 + 3 * vec_len c.in-Ok-Some.ids) (due n counts segs cover c.args.b) (omega arith)
-    (MatchOption-at_some _ _ c.in-Ok-Some.ids c.in-Ok-Some.field-0-is c.in-Ok-Some.ensures.reads)
+    reads_more _ _ (12 + 3 * vec_len c.in-Some.ids) (due n counts segs cover c.args.b) (omega arith)
+    (MatchOption-at_some _ _ c.in-Some.ids c.in-Some.is c.in_ok-ids.ensures.reads)
 
 pub settle-returns-then-not-enters-clause-reads : goal.settle-returns-then-not-enters-clause-reads
 settle-returns-then-not-enters-clause-reads g t c segs cover h reached above =
     let n = c.args.self.now.level in
     let counts = is_met_above n c.args.self.now.segment in
     let le = due_cut n counts segs cover c.args.b c.requires.block above reached
-    (MatchOption-at_none _ _ c.in-Ok-None.field-0-is (c.in-Ok-None.ensures.ids c.args.self.now.threshold segs cover h)) in
+    (MatchOption-at_none _ _ c.in-None.is (c.in_ok-ids.ensures.ids c.args.self.now.threshold segs cover h)) in
     reads_more _ _ 9 (due n counts segs cover c.args.b) (omega arith)
-    (MatchOption-at_none _ _ c.in-Ok-None.field-0-is c.in-Ok-None.ensures.reads)
+    (MatchOption-at_none _ _ c.in-None.is c.in_ok-ids.ensures.reads)
 
 pub settle-returns-clause-reads : goal.settle-returns-clause-reads
 settle-returns-clause-reads g t c =
     IfOk-weaker c.settle_quarters.result _ _ (λ x f segs cover h reached above.
     let n = c.args.self.now.level in
     let counts = is_met_above n c.args.self.now.segment in
-    let away = MatchOption-at_none _ _ c.in-Ok-None.field-0-is (c.in-Ok-None.ensures.ids c.args.self.now.threshold segs cover h) in
+    let away = MatchOption-at_none _ _ c.in-None.is (c.in_ok-ids.ensures.ids c.args.self.now.threshold segs cover h) in
     let rest = sum_by (due n counts segs cover) (quarters_of c.args.b) in
     let le = due_split n counts segs cover c.args.b c.requires.block above reached away (c.enters.ensures.wide c.if-not-enters.false) in
     reads_sum _ _ _ 9 rest (due n counts segs cover c.args.b) (omega arith)
-    (MatchOption-at_none _ _ c.in-Ok-None.field-0-is c.in-Ok-None.ensures.reads)
-    (f segs cover (lines_along _ _ c.args.tree.now c.args.self.now.layer n c.args.self.now.threshold segs cover c.in-Ok-None.ensures.left.told h) reached away))
+    (MatchOption-at_none _ _ c.in-None.is c.in_ok-ids.ensures.reads)
+    (f segs cover (lines_along _ _ c.args.tree.now c.args.self.now.layer n c.args.self.now.threshold segs cover c.in_ok-ids.ensures.left.told h) reached away))
     c.settle_quarters.ensures.reads
 
 pub settle_quarters-returns-in-Ok-joined-clause-reads : goal.settle_quarters-returns-in-Ok-joined-clause-reads

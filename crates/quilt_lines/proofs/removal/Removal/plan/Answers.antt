@@ -1,5 +1,5 @@
 use Rattle.std.proofs.Common.{◌≡◌, ◌≤◌, ◌+◌, true, sym, subst, ap}
-use Rattle.std.proofs.lemmas.Result.{IfOk-weaker, IfErr-weaker}
+use Rattle.std.proofs.lemmas.Result.{IfOk-weaker, IfErr-weaker, err_from_is_err_and}
 use Rattle.quilt_types.specs.declared.plane.Block.{Block}
 use Rattle.quilt_types.specs.Plane.{whole, IsBlock}
 use Rattle.quilt_types.specs.Quadtrees.{is_reached, reach}
@@ -16,27 +16,29 @@ use Rattle.quilt_lines.proofs.removal.Removal.plan.Goals as goal
 pub settle-requires-clause-block : goal.settle-requires-clause-block
 settle-requires-clause-block g c = subst (IsBlock c.args.self.now.level) (sym c.whole_square.ensures) (IsBlock-whole c.args.self.now.level)
 
-pub returns-in-Err-clause-sound : goal.returns-in-Err-clause-sound
-returns-in-Err-clause-sound g c segs cover h had = c.in-Err.ensures.sound segs cover h
+pub returns-in_err-all-clause-sound : goal.returns-in_err-all-clause-sound
+returns-in_err-all-clause-sound g c =
+    let p = err_from_is_err_and c.from_residual.result c.from_residual.ensures.1 in
+    rw (p.1, p.2) (λ segs cover h had. c.in_err-all.ensures.sound segs cover h)
 
-pub returns-in-Ok-clause-plan : goal.returns-in-Ok-clause-plan
-returns-in-Ok-clause-plan g c =
+pub returns-clause-plan : goal.returns-clause-plan
+returns-clause-plan g c =
     let r = c.args.self.now in
     IfOk-weaker c.edits.result _ _ (λ e f segs cover h had.
-    f segs cover h.spelled.valid had (subst (λ (b : Block). SettlesBlock r.level r.layer r.threshold r.id segs cover r.segment r.level b c.in-Ok.all)
+    f segs cover h.spelled.valid had (subst (λ (b : Block). SettlesBlock r.level r.layer r.threshold r.id segs cover r.segment r.level b c.in_ok-all.all)
     c.whole_square.ensures
-    (c.in-Ok.ensures.settled r.level segs cover (ap (λ (b : Block). b.side) c.whole_square.ensures) h))) c.edits.ensures.plan
+    (c.in_ok-all.ensures.settled r.level segs cover (ap (λ (b : Block). b.side) c.whole_square.ensures) h))) c.edits.ensures.plan
 
-pub returns-in-Ok-clause-sound : goal.returns-in-Ok-clause-sound
-returns-in-Ok-clause-sound g c =
+pub returns-clause-sound : goal.returns-clause-sound
+returns-clause-sound g c =
     let r = c.args.self.now in
     IfErr-weaker c.edits.result _ _ (λ e f segs cover h had.
-    f segs cover h.spelled.valid had (subst (λ (b : Block). SettlesBlock r.level r.layer r.threshold r.id segs cover r.segment r.level b c.in-Ok.all)
+    f segs cover h.spelled.valid had (subst (λ (b : Block). SettlesBlock r.level r.layer r.threshold r.id segs cover r.segment r.level b c.in_ok-all.all)
     c.whole_square.ensures
-    (c.in-Ok.ensures.settled r.level segs cover (ap (λ (b : Block). b.side) c.whole_square.ensures) h))) c.edits.ensures.sound
+    (c.in_ok-all.ensures.settled r.level segs cover (ap (λ (b : Block). b.side) c.whole_square.ensures) h))) c.edits.ensures.sound
 
-pub returns-in-Ok-clause-reads : goal.returns-in-Ok-clause-reads
-returns-in-Ok-clause-reads g c =
+pub returns-clause-reads : goal.returns-clause-reads
+returns-clause-reads g c =
     let r = c.args.self.now in
     if_ok_any c.edits.result _ (λ e segs cover h.
     let valid = h.spelled.valid in
@@ -44,7 +46,7 @@ returns-in-Ok-clause-reads g c =
     reads_more _ _ (due r.level counts segs cover (whole r.level)) (reach r.level segs cover counts) (due_whole r.level counts segs cover)
     (subst (λ (b : Block). Goes (λ old new. new ≤ old + due r.level counts segs cover b) (g.S.PageStore.reads c.args.store.now)
     (g.S.PageStore.reads c.settle.new.store)) c.whole_square.ensures
-    (c.in-Ok.ensures.reads segs cover h
+    (c.in_ok-all.ensures.reads segs cover h
     (subst (λ (b : Block). is_reached cover b ≡ true) (sym c.whole_square.ensures)
     (reached_whole r.level (record { segs = segs; cover = cover }) (record { inside = valid.inside; each = valid.each; once = valid.once })))
     (subst (λ (b : Block). counts b ≡ true) (sym c.whole_square.ensures) (whole_above r.level r.segment)))))

@@ -1,4 +1,5 @@
 use Rattle.std.proofs.Common.{◌+◌, ◌-◌, ◌^◌, ◌<◌, ℕ, List, flat_map, length, get_or, count_by, sym, ◌∙◌, ap, subst, arith}
+use Rattle.std.proofs.lemmas.Result.{err_from_is_err_and}
 use Rattle.std.specs.Prelude.{◌==◌}
 use Rattle.std.proofs.lemmas.List.{take_all}
 use Rattle.quilt_store.proofs.Reading.{only_reads_then, read_on, only_reads_err}
@@ -17,8 +18,10 @@ use Rattle.quilt_lines.proofs.Lookups.{lines_along}
 use Rattle.quilt_lines.proofs.Quarters.{quarter_at, quarter_side, quarter_in}
 use Rattle.quilt_lines.proofs.view.LineView.+count_in.Goals as goal
 
-pub returns-in-Err-clause-sound : goal.returns-in-Err-clause-sound
-returns-in-Err-clause-sound g t c t' segs cover h reached = c.in-Err.ensures.sound t' segs cover h
+pub returns-in_err-has_block-clause-sound : goal.returns-in_err-has_block-clause-sound
+returns-in_err-has_block-clause-sound g t c =
+    let p = err_from_is_err_and c.from_residual.result c.from_residual.ensures.1 in
+    rw (p.1, p.2) (λ t' segs cover h reached. c.in_err-has_block.ensures.sound t' segs cover h)
 
 pub count_one-requires-clause-room : goal.count_one-requires-clause-room
 count_one-requires-clause-room g t c =
@@ -26,20 +29,20 @@ count_one-requires-clause-room g t c =
     let pos = four_pos c.args.k in
     omega arith
 
-pub returns-in-Ok-true-clause-counts : goal.returns-in-Ok-true-clause-counts
-returns-in-Ok-true-clause-counts g t c t' segs cover h j =
+pub returns-then-branch-clause-counts : goal.returns-then-branch-clause-counts
+returns-then-branch-clause-counts g t c t' segs cover h j =
     one_counted c.args.b c.args.k c.args.counts.now c.count_one.new.counts c.requires.side c.count_one.ensures.here c.count_one.ensures.others j
     ∙ ap (λ (bs : List Block). get_or c.args.counts.now j 0 + count_by (λ d. d.side == side j) bs)
-    (sym (held_here cover c.args.k c.args.b (sym (c.in-Ok-true.ensures.there t' segs cover h) ∙ c.in-Ok-true.field-0-test)))
+    (sym (held_here cover c.args.k c.args.b (sym (c.in_ok-has_block.ensures.there t' segs cover h) ∙ c.if-branch.true)))
 
-pub returns-in-Ok-true-clause-most : goal.returns-in-Ok-true-clause-most
-returns-in-Ok-true-clause-most g t c = one_most c.args.k c.args.counts.now c.count_one.new.counts c.count_one.ensures.here c.count_one.ensures.others
+pub returns-then-branch-clause-most : goal.returns-then-branch-clause-most
+returns-then-branch-clause-most g t c = one_most c.args.k c.args.counts.now c.count_one.new.counts c.count_one.ensures.here c.count_one.ensures.others
 
 pub returns-then-k-eq0-clause-sound : goal.returns-then-k-eq0-clause-sound
 returns-then-k-eq0-clause-sound g t c t' segs cover h reached page e =
     let one = c.requires.side ∙ ap side c.if-k-eq0.true in
     one_pixel c.args.self.now.level c.args.self.now.layer t' segs cover c.args.b h.spelled.valid c.requires.block (omega arith) reached
-    (sym (c.in-Ok-false.ensures.there t' segs cover h) ∙ c.in-Ok-false.field-0-test)
+    (sym (c.in_ok-has_block.ensures.there t' segs cover h) ∙ c.if-branch.false)
 
 pub quarters-q-items-requires-clause-valid : goal.quarters-q-items-requires-clause-valid
 quarters-q-items-requires-clause-valid g t c = IsBlock-up c.args.self.now.level 12 c.args.b c.args.self.now.has_level.1 c.requires.block
@@ -81,17 +84,18 @@ count_in-requires g t c κs within =
       ),
     )
 
-pub returns-in-Err-count_in-clause-sound : goal.returns-in-Err-count_in-clause-sound
-returns-in-Err-count_in-clause-sound g t c t' segs cover h reached =
-    let self = c.args.self.now in
+pub returns-in_err-count_in-clause-sound : goal.returns-in_err-count_in-clause-sound
+returns-in_err-count_in-clause-sound g t c =
+    let p = err_from_is_err_and c.from_residual-in_err-count_in.result c.from_residual-in_err-count_in.ensures.1 in
+    rw (p.1, p.2) (λ t' segs cover h reached. let self = c.args.self.now in
     let valid = h.spelled.valid in
     let some : 0 < c.args.k = let no = c.if-k-eq0.false in omega arith in
     let q = get_or c.quarters-q-items.result c.loop-q.q-index (record { y = 0; x = 0; side = 0 }) in
-    c.in-Err-count_in.ensures.sound t' segs cover (lines_along _ _ self.tree self.layer self.level t' segs cover c.loop-q.invariant.left.told h)
+    c.in_err-count_in.ensures.sound t' segs cover (lines_along _ _ self.tree self.layer self.level t' segs cover c.loop-q.invariant.left.told h)
     (reached_quarter self.level (record { segs = segs; cover = cover }) (record { inside = valid.inside; each = valid.each; once = valid.once }) c.args.b q
     c.requires.block (wide_side c.args.b c.args.k c.requires.side some) reached
-    (sym (c.in-Ok-false.ensures.there t' segs cover h) ∙ c.in-Ok-false.field-0-test)
-    (quarter_in c.args.b c.quarters-q-items.result c.loop-q.q-index (record { y = 0; x = 0; side = 0 }) c.quarters-q-items.ensures.value c.loop-q-test.true))
+    (sym (c.in_ok-has_block.ensures.there t' segs cover h) ∙ c.if-branch.false)
+    (quarter_in c.args.b c.quarters-q-items.result c.loop-q.q-index (record { y = 0; x = 0; side = 0 }) c.quarters-q-items.ensures.value c.loop-q-test.true)))
 
 pub loop-q-preserved : goal.loop-q-preserved
 loop-q-preserved g t c =
@@ -102,22 +106,22 @@ loop-q-preserved g t c =
           count_next (held_in cover (c.args.k - 1)) (λ d. d.side == side j) c.quarters-q-items.result c.loop-q.q-index (record { y = 0; x = 0; side = 0 })
           (get_or c.args.counts.now j 0) (get_or c.loop-q.counts j 0) (get_or c.count_in.new.counts j 0)
           (let lt = c.loop-q-test.true in omega arith) (c.loop-q.invariant.counts t' segs cover h j)
-          (c.in-Ok.ensures.counts t' segs cover (lines_along _ _ self.tree self.layer self.level t' segs cover c.loop-q.invariant.left.told h) j);
+          (c.in_ok-count_in.ensures.counts t' segs cover (lines_along _ _ self.tree self.layer self.level t' segs cover c.loop-q.invariant.left.told h) j);
       most = λ j. room_step c.loop-q.q-index (4 ^ (c.args.k - 1)) (get_or c.args.counts.now j 0) (get_or c.loop-q.counts j 0)
-          (get_or c.count_in.new.counts j 0) (c.loop-q.invariant.most j) (c.in-Ok.ensures.most j);
+          (get_or c.count_in.new.counts j 0) (c.loop-q.invariant.most j) (c.in_ok-count_in.ensures.most j);
       reads = λ t' segs cover h.
           let four = ap length c.quarters-q-items.ensures.value in
           reads_next (pages_in cover (c.args.k - 1)) c.quarters-q-items.result c.loop-q.q-index (record { y = 0; x = 0; side = 0 }) 6 _ _ _
           (let lt = c.loop-q-test.true in omega arith) (c.loop-q.invariant.reads t' segs cover h)
-          (c.in-Ok.ensures.reads t' segs cover (lines_along _ _ self.tree self.layer self.level t' segs cover c.loop-q.invariant.left.told h));
-      left = read_on _ g.met.S.PageStore.goes_on _ _ _ c.loop-q.invariant.left c.in-Ok.ensures.left;
+          (c.in_ok-count_in.ensures.reads t' segs cover (lines_along _ _ self.tree self.layer self.level t' segs cover c.loop-q.invariant.left.told h));
+      left = read_on _ g.met.S.PageStore.goes_on _ _ _ c.loop-q.invariant.left c.in_ok-count_in.ensures.left;
     }
 
 pub returns-clause-counts : goal.returns-clause-counts
 returns-clause-counts g t c t' segs cover h j =
     let some : 0 < c.args.k = let no = c.if-k-eq0.false in omega arith in
     let four = ap length c.quarters-q-items.ensures.value in
-    let below = held_below cover c.args.k c.args.b some (sym (c.in-Ok-false.ensures.there t' segs cover h) ∙ c.in-Ok-false.field-0-test) in
+    let below = held_below cover c.args.k c.args.b some (sym (c.in_ok-has_block.ensures.there t' segs cover h) ∙ c.if-branch.false) in
     c.loop-q.invariant.counts t' segs cover h j
     ∙ ap (λ (bs : List Block). get_or c.args.counts.now j 0 + count_by (λ d. d.side == side j) bs)
     (ap (flat_map (held_in cover (c.args.k - 1)))
@@ -131,11 +135,13 @@ returns-clause-most g t c j =
     c.loop-q.auto.q-index-end in
     omega arith
 
-pub returns-in-Err-count_in-clause-left : goal.returns-in-Err-count_in-clause-left
-returns-in-Err-count_in-clause-left g t c = only_reads_err _ (only_reads_then _ g.met.S.PageStore.goes_on _ _ _ c.loop-q.invariant.left c.in-Err-count_in.ensures.left)
+pub returns-in_err-count_in-clause-left : goal.returns-in_err-count_in-clause-left
+returns-in_err-count_in-clause-left g t c =
+    let p = err_from_is_err_and c.from_residual-in_err-count_in.result c.from_residual-in_err-count_in.ensures.1 in
+    rw (p.1, p.2) (only_reads_err _ (only_reads_then _ g.met.S.PageStore.goes_on _ _ _ c.loop-q.invariant.left c.in_err-count_in.ensures.left))
 
-pub returns-in-Ok-true-clause-reads : goal.returns-in-Ok-true-clause-reads
-returns-in-Ok-true-clause-reads g t c t' segs cover h = reads_more _ _ 6 _ (pages_some cover c.args.k c.args.b) c.in-Ok-true.ensures.reads
+pub returns-then-branch-clause-reads : goal.returns-then-branch-clause-reads
+returns-then-branch-clause-reads g t c t' segs cover h = reads_more _ _ 6 _ (pages_some cover c.args.k c.args.b) c.in_ok-has_block.ensures.reads
 
 pub returns-clause-reads : goal.returns-clause-reads
 returns-clause-reads g t c t' segs cover h =
@@ -143,6 +149,6 @@ returns-clause-reads g t c t' segs cover h =
     let four = ap length c.quarters-q-items.ensures.value in
     reads_all (pages_in cover (c.args.k - 1)) c.quarters-q-items.result c.loop-q.q-index 6 (pages_in cover c.args.k c.args.b) _ _
     (let end = c.loop-q-test.false in omega arith)
-    (pages_below cover c.args.k c.args.b c.quarters-q-items.result some (sym (c.in-Ok-false.ensures.there t' segs cover h) ∙ c.in-Ok-false.field-0-test)
+    (pages_below cover c.args.k c.args.b c.quarters-q-items.result some (sym (c.in_ok-has_block.ensures.there t' segs cover h) ∙ c.if-branch.false)
     c.quarters-q-items.ensures.value)
     (c.loop-q.invariant.reads t' segs cover h)

@@ -4,6 +4,6 @@ pub ids_near-requires-clause-search : goal.ids_near-requires-clause-search
 ids_near-requires-clause-search g c =
     c.new-search.ensures (g.S.PageStore.told c.args.store.now) c.args.self.now.tree c.args.self.now.level c.args.self.now.layer
 
-pub returns-in-Ok-clause-known : goal.returns-in-Ok-clause-known
-returns-in-Ok-clause-known g c t segs cover h =
-    c.block_seen-hint.ensures (g.S.PageStore.told c.args.store.now) t segs cover c.in-Ok.ensures.search h
+pub returns-clause-known : goal.returns-clause-known
+returns-clause-known g c t segs cover h =
+    c.block_seen-hint.ensures (g.S.PageStore.told c.args.store.now) t segs cover c.in_ok-found.ensures.search h

@@ -1,20 +1,24 @@
 use Rattle.std.proofs.Common.{◌∙◌}
-use Rattle.std.proofs.lemmas.Result.{IfOk-weaker, IfErr-weaker}
+use Rattle.std.proofs.lemmas.Result.{IfOk-weaker, IfErr-weaker, err_from_is_err_and}
 use Rattle.quilt_lines.proofs.Saying.{sound_zero}
 use Rattle.quilt_lines.proofs.view.LineView.ids_near.Goals as goal
 
-pub returns-in-Err-clause-sound : goal.returns-in-Err-clause-sound
-returns-in-Err-clause-sound g c t segs cover h = c.in-Err.ensures.sound h.records h.is_tree
+pub returns-in_err-records-clause-sound : goal.returns-in_err-records-clause-sound
+returns-in_err-records-clause-sound g c =
+    let p = err_from_is_err_and c.from_residual.result c.from_residual.ensures.1 in
+    rw (p.1, p.2) (λ t segs cover h. c.in_err-records.ensures.sound h.records h.is_tree)
 
-pub returns-in-Err-clause-zero : goal.returns-in-Err-clause-zero
-returns-in-Err-clause-zero g c rs is = sound_zero c.in-Err.e (c.in-Err.ensures.sound rs is)
+pub returns-in_err-records-clause-zero : goal.returns-in_err-records-clause-zero
+returns-in_err-records-clause-zero g c =
+    let p = err_from_is_err_and c.from_residual.result c.from_residual.ensures.1 in
+    rw (p.1, p.2) (λ rs is. sound_zero _ (c.in_err-records.ensures.sound rs is))
 
-pub returns-in-Ok-clause-ids : goal.returns-in-Ok-clause-ids
-returns-in-Ok-clause-ids g c =
-    IfOk-weaker c.ids_said.result _ _ (λ o f t segs cover h. f segs cover (c.deref.ensures.value ∙ c.in-Ok.ensures.records t segs cover h))
+pub returns-clause-ids : goal.returns-clause-ids
+returns-clause-ids g c =
+    IfOk-weaker c.ids_said.result _ _ (λ o f t segs cover h. f segs cover (c.deref.ensures.value ∙ c.in_ok-records.ensures.records t segs cover h))
     c.ids_said.ensures.ids
 
-pub returns-in-Ok-clause-sound : goal.returns-in-Ok-clause-sound
-returns-in-Ok-clause-sound g c =
-    IfErr-weaker c.ids_said.result _ _ (λ e f t segs cover h. f segs cover (c.deref.ensures.value ∙ c.in-Ok.ensures.records t segs cover h))
+pub returns-clause-sound : goal.returns-clause-sound
+returns-clause-sound g c =
+    IfErr-weaker c.ids_said.result _ _ (λ e f t segs cover h. f segs cover (c.deref.ensures.value ∙ c.in_ok-records.ensures.records t segs cover h))
     c.ids_said.ensures.sound

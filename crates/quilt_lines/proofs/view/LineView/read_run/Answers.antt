@@ -1,4 +1,5 @@
 use Rattle.std.proofs.Common.{◌≡◌, ℕ, ◌+◌, ◌-◌, ◌≤◌, ◌<◌, Some, None, ⊎_elim, sym, ◌∙◌, ap, arith}
+use Rattle.std.proofs.lemmas.Result.{err_from_is_err_and}
 use Rattle.std.proofs.lemmas.Bool.{cases_eq, cases_lt}
 use Rattle.std.specs.FinMap as finmap
 use Rattle.std.proofs.lemmas.Option.{none-some, some_pair_parts}
@@ -16,11 +17,15 @@ last_is a b le = omega arith
 below : (a b q : ℕ) → a ≤ b → q < a + (b - a + 1) → q ≤ b
 below a b q le lt = omega arith
 
-pub returns-in-Err-clause-zero : goal.returns-in-Err-clause-zero
-returns-in-Err-clause-zero g c rs is = sound_zero c.in-Err.e (c.in-Err.ensures.sound rs is)
+pub returns-in_err-records-clause-zero : goal.returns-in_err-records-clause-zero
+returns-in_err-records-clause-zero g c =
+    let p = err_from_is_err_and c.from_residual.result c.from_residual.ensures.1 in
+    rw (p.1, p.2) (λ rs is. sound_zero _ (c.in_err-records.ensures.sound rs is))
 
-pub returns-in-Err-clause-sound : goal.returns-in-Err-clause-sound
-returns-in-Err-clause-sound g c l h all = c.in-Err.ensures.sound h.has.records h.has.is_tree
+pub returns-in_err-records-clause-sound : goal.returns-in_err-records-clause-sound
+returns-in_err-records-clause-sound g c =
+    let p = err_from_is_err_and c.from_residual.result c.from_residual.ensures.1 in
+    rw (p.1, p.2) (λ l h all. c.in_err-records.ensures.sound h.has.records h.has.is_tree)
 
 pub returns-in_default-clause-sound : goal.returns-in_default-clause-sound
 returns-in_default-clause-sound g c l h all page e =
@@ -29,7 +34,7 @@ returns-in_default-clause-sound g c l h all page e =
     let said = run_next (g.S.PageStore.told c.args.store.now) self.tree self.layer self.level h.threshold l.segs l.cover run.first (run.last - run.first + 1)
     _ _ c.deref-r-items.result.now c.segment_key-low.ensures
     (c.segment_key-high.ensures ∙ ap (segment_key self.layer) (last_is run.first run.last c.requires.some))
-    (λ rs is. c.deref-r-items.ensures.value ∙ c.in-Ok.ensures.range rs is) self.has_level.1 h.has (omega arith)
+    (λ rs is. c.deref-r-items.ensures.value ∙ c.in_ok-records.ensures.range rs is) self.has_level.1 h.has (omega arith)
     (λ q from lt. all q from (below run.first run.last q c.requires.some lt)) c.loop-r.r-index _ c.loop-r-test.true c.segment_said.result c.segment_said.ensures.one in
     elim c.in_default.branch [
       | in_default-via-in-Some+else-from-next w ↦
@@ -49,25 +54,25 @@ loop-r-preserved g c =
     let i = c.loop-r.invariant in
     let id = c.in-Some.id in
     let some = c.requires.some in
-    let few = c.in-Ok.ensures.fits.number in
+    let few = c.in_ok-records.ensures.fits.number in
     let long = c.deref-r-items.ensures.len in
     let before = c.loop-r-test.true in
     let is : id ≡ run.first + c.loop-r.r-index = sym c.from.ensures ∙ c.if-from-next.true ∙ i.next in
     let none : known_seg c.loop-r.known id ≡ None = i.away id (omega arith) (omega arith) in
-    let here = c.in-Ok-keep.ensures.here in
-    let others = c.in-Ok-keep.ensures.others in
-    let more = c.in-Ok-keep.ensures.more none in
+    let here = c.in-Ok.ensures.here in
+    let others = c.in-Ok.ensures.others in
+    let more = c.in-Ok.ensures.more none in
     let many = i.many in
     let next = i.next in
     record {
       next = omega arith;
-      known = knows_more c.loop-r.known c.keep.new.self id c.in-Some.s here others _ _ _ i.known c.in-Ok-keep.ensures.block c.in-Ok-keep.ensures.pairs
-          c.in-Ok-keep.ensures.ids c.in-Some.ensures.inside
+      known = knows_more c.loop-r.known c.keep.new.self id c.in-Some.s here others _ _ _ i.known c.in-Ok.ensures.block c.in-Ok.ensures.pairs
+          c.in-Ok.ensures.ids c.in-Some.ensures.inside
           (λ l h.
           let w = said_is (g.S.PageStore.told c.args.store.now) self.tree self.layer self.level h.threshold l.segs l.cover run.first (run.last - run.first + 1)
           _ _ c.deref-r-items.result.now c.segment_key-low.ensures
           (c.segment_key-high.ensures ∙ ap (segment_key self.layer) (last_is run.first run.last c.requires.some))
-          (λ rs is. c.deref-r-items.ensures.value ∙ c.in-Ok.ensures.range rs is) self.has_level.1 h.has c.loop-r.r-index _ c.loop-r-test.true
+          (λ rs is. c.deref-r-items.ensures.value ∙ c.in_ok-records.ensures.range rs is) self.has_level.1 h.has c.loop-r.r-index _ c.loop-r-test.true
           c.segment_said.result c.segment_said.ensures.one in
           let p = some_pair_parts id w.0.0 c.in-Some.s w.0.1 (sym c.in-Some.is ∙ w.2) in
           ap (finmap.get l.segs) p.0 ∙ w.1 ∙ ap Some (sym p.1));
@@ -86,7 +91,7 @@ returns-then-len-count-clause-sound g c l h all page e =
     let whole = run_whole (g.S.PageStore.told c.args.store.now) self.tree self.layer self.level h.threshold l.segs l.cover run.first (run.last - run.first + 1)
     _ _ c.deref-r-items.result.now c.segment_key-low.ensures
     (c.segment_key-high.ensures ∙ ap (segment_key self.layer) (last_is run.first run.last c.requires.some))
-    (λ rs is. c.deref-r-items.ensures.value ∙ c.in-Ok.ensures.range rs is) self.has_level.1 h.has (omega arith)
+    (λ rs is. c.deref-r-items.ensures.value ∙ c.in_ok-records.ensures.range rs is) self.has_level.1 h.has (omega arith)
     (λ q from lt. all q from (below run.first run.last q c.requires.some lt)) in
     let long = c.deref-r-items.ensures.len in
     let n = c.len.ensures in

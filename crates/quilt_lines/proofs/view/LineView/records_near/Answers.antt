@@ -9,26 +9,26 @@ use Rattle.quilt_lines.proofs.view.LineView.records_near.Goals as goal
 pub returns-in-None-clause-records : goal.returns-in-None-clause-records
 returns-in-None-clause-records g c t segs cover h =
     let self = c.args.self.now in
-    near_none (g.S.PageStore.told c.args.store.now) self.tree self.layer self.level t segs cover c.args.b _ _ c.in-Ok.found c.new.result.items
-    c.new.ensures.items self.has_level.1 c.requires.block (ap (λ (r : Record). r.key) (c.pair_record.ensures.written [])) refl c.in-Ok.ensures.last
+    near_none (g.S.PageStore.told c.args.store.now) self.tree self.layer self.level t segs cover c.args.b _ _ c.in_ok-found.found c.new.result.items
+    c.new.ensures.items self.has_level.1 c.requires.block (ap (λ (r : Record). r.key) (c.pair_record.ensures.written [])) refl c.in_ok-found.ensures.last
     c.in-None.ensures h
 
 pub returns-in-Some-clause-records : goal.returns-in-Some-clause-records
 returns-in-Some-clause-records g c =
     let self = c.args.self.now in
     IfOk-weaker c.records_to.result _ _ (λ v f t segs cover h.
-    near_read (g.S.PageStore.told c.args.store.now) self.tree self.layer self.level t segs cover c.args.b _ _ c.in-Ok.found c.in-Some.last v.items
-    c.requires.rooted.height self.has_level.1 c.requires.block (ap (λ (r : Record). r.key) (c.pair_record.ensures.written [])) refl c.in-Ok.ensures.last
+    near_read (g.S.PageStore.told c.args.store.now) self.tree self.layer self.level t segs cover c.args.b _ _ c.in_ok-found.found c.in-Some.last v.items
+    c.requires.rooted.height self.has_level.1 c.requires.block (ap (λ (r : Record). r.key) (c.pair_record.ensures.written [])) refl c.in_ok-found.ensures.last
     c.in-Some.ensures.0 c.in-Some.ensures.1
-    (λ rs is. f rs (tree_along _ _ self.tree rs c.in-Ok.ensures.left.told is)) h) c.records_to.ensures.records
+    (λ rs is. f rs (tree_along _ _ self.tree rs c.in_ok-found.ensures.left.told is)) h) c.records_to.ensures.records
 
 pub returns-in-Some-clause-sound : goal.returns-in-Some-clause-sound
 returns-in-Some-clause-sound g c =
-    IfErr-weaker c.records_to.result _ _ (λ e f rs is. f rs (tree_along _ _ c.args.self.now.tree rs c.in-Ok.ensures.left.told is)) c.records_to.ensures.sound
+    IfErr-weaker c.records_to.result _ _ (λ e f rs is. f rs (tree_along _ _ c.args.self.now.tree rs c.in_ok-found.ensures.left.told is)) c.records_to.ensures.sound
 
 pub returns-in-Some-clause-none : goal.returns-in-Some-clause-none
 returns-in-Some-clause-none g c =
     let self = c.args.self.now in
     IfOk-weaker c.records_to.result _ _ (λ v f is.
-    reads_one v.items f.0 c.in-Some.last (none_of self.level self.layer c.args.b) _ _ _ f.1 refl c.in-Ok.ensures.reads c.records_to.ensures.first is)
+    reads_one v.items f.0 c.in-Some.last (none_of self.level self.layer c.args.b) _ _ _ f.1 refl c.in_ok-found.ensures.reads c.records_to.ensures.first is)
     c.records_to.ensures.ends

@@ -1,4 +1,5 @@
 use Rattle.std.proofs.Common.{ℕ, ◌*◌, [], ◌∷◌, List, All, length, get_or, sym, ◌∙◌, ap, subst, arith, length-append}
+use Rattle.std.proofs.lemmas.Result.{err_from_is_err_and}
 use Rattle.std.proofs.lemmas.List.Elements.{All-append}
 use Rattle.quilt_store.proofs.Reading.{only_reads_then, read_on, only_reads_err}
 use Rattle.quilt_types.specs.declared.plane.Seg.{Seg}
@@ -12,15 +13,16 @@ use Rattle.quilt_lines.proofs.Sums.{reads_sum}
 use Rattle.quilt_lines.proofs.Taken.{taken_more}
 use Rattle.quilt_lines.proofs.view.LineView.segments.Goals as goal
 
-pub returns-in-Err-clause-sound : goal.returns-in-Err-clause-sound
-returns-in-Err-clause-sound g c t segs cover h all =
-    let w = all _ (member_at c.args.ids.now c.loop-id.id-index _ c.loop-id-test.true) in
-    c.in-Err.ensures.sound t segs cover
-    (lines_along _ _ c.args.self.now.tree c.args.self.now.layer c.args.self.now.level t segs cover c.loop-id.invariant.left.told h) w.0 w.1
+pub returns-in_err-add_segment-clause-sound : goal.returns-in_err-add_segment-clause-sound
+returns-in_err-add_segment-clause-sound g c =
+    let p = err_from_is_err_and c.from_residual.result c.from_residual.ensures.1 in
+    rw (p.1, p.2) (λ t segs cover h all. let w = all _ (member_at c.args.ids.now c.loop-id.id-index _ c.loop-id-test.true) in
+    c.in_err-add_segment.ensures.sound t segs cover
+    (lines_along _ _ c.args.self.now.tree c.args.self.now.layer c.args.self.now.level t segs cover c.loop-id.invariant.left.told h) w.0 w.1)
 
 pub loop-id-preserved : goal.loop-id-preserved
 loop-id-preserved g c =
-    let a = c.in-Ok.ensures.added in
+    let a = c.in_ok-add_segment.ensures.added in
     let id = get_or c.args.ids.now c.loop-id.id-index _ in
     let more : List (ℕ × Seg) = (id, a.0) ∷ [] in
     let longer = ap length a.1 ∙ length-append c.loop-id.list more in
@@ -32,16 +34,20 @@ loop-id-preserved g c =
           let P = λ (e : ℕ × Seg). SaySegment c.args.self.now.level c.args.self.now.layer rs e.0 e.1 in
           subst (All P) (sym a.1) (All-append P c.loop-id.list more (c.loop-id.invariant.said rs is)
           (all_one P (id, a.0) (a.4 rs (tree_along _ _ c.args.self.now.tree rs c.loop-id.invariant.left.told is))));
-      spot = spot_along _ _ c.args.self.now.tree c.add_segment.new.spot (sym c.loop-id.invariant.left.told) c.in-Ok.ensures.spot;
-      left = read_on _ g.met.S.PageStore.goes_on _ _ _ c.loop-id.invariant.left c.in-Ok.ensures.left;
-      reads = reads_sum _ _ _ (3 * length c.loop-id.list) 3 (3 * length c.add_segment.new.list) (omega arith) c.loop-id.invariant.reads c.in-Ok.ensures.reads;
+      spot = spot_along _ _ c.args.self.now.tree c.add_segment.new.spot (sym c.loop-id.invariant.left.told) c.in_ok-add_segment.ensures.spot;
+      left = read_on _ g.met.S.PageStore.goes_on _ _ _ c.loop-id.invariant.left c.in_ok-add_segment.ensures.left;
+      reads = reads_sum _ _ _ (3 * length c.loop-id.list) 3 (3 * length c.add_segment.new.list) (omega arith) c.loop-id.invariant.reads c.in_ok-add_segment.ensures.reads;
     }
 
-pub returns-in-Err-clause-left : goal.returns-in-Err-clause-left
-returns-in-Err-clause-left g c = only_reads_err _ (only_reads_then _ g.met.S.PageStore.goes_on _ _ _ c.loop-id.invariant.left c.in-Err.ensures.left)
+pub returns-in_err-add_segment-clause-left : goal.returns-in_err-add_segment-clause-left
+returns-in_err-add_segment-clause-left g c =
+    let p = err_from_is_err_and c.from_residual.result c.from_residual.ensures.1 in
+    rw (p.1, p.2) (only_reads_err _ (only_reads_then _ g.met.S.PageStore.goes_on _ _ _ c.loop-id.invariant.left c.in_err-add_segment.ensures.left))
 
-pub returns-in-Err-clause-zero : goal.returns-in-Err-clause-zero
-returns-in-Err-clause-zero g c rs is = c.in-Err.ensures.zero rs (tree_along _ _ c.args.self.now.tree rs c.loop-id.invariant.left.told is)
+pub returns-in_err-add_segment-clause-zero : goal.returns-in_err-add_segment-clause-zero
+returns-in_err-add_segment-clause-zero g c =
+    let p = err_from_is_err_and c.from_residual.result c.from_residual.ensures.1 in
+    rw (p.1, p.2) (λ rs is. c.in_err-add_segment.ensures.zero rs (tree_along _ _ c.args.self.now.tree rs c.loop-id.invariant.left.told is))
 
 pub returns-clause-found : goal.returns-clause-found
 returns-clause-found g c t segs cover h = c.loop-id.invariant.taken.found (t, segs, cover) h

@@ -1,4 +1,5 @@
 use Rattle.std.proofs.Common.{◌+◌, ◌*◌, ◌≤◌, get_or, subst, arith}
+use Rattle.std.proofs.lemmas.Result.{err_from_is_err_and}
 use Rattle.quilt_store.proofs.Reading.{read_on}
 use Rattle.quilt_near.specs.Knowing.{known_seg, many_known}
 use Rattle.quilt_near.proofs.Knowing.{knows_where}
@@ -11,14 +12,17 @@ use Rattle.quilt_lines.proofs.Followers.{unknown_more}
 use Rattle.quilt_lines.proofs.Taken.{taken_more}
 use Rattle.quilt_lines.proofs.view.LineView.segments_known.Goals as goal
 
-pub returns-in-Err-segment_known-clause-zero : goal.returns-in-Err-segment_known-clause-zero
-returns-in-Err-segment_known-clause-zero g c rs is = c.in-Err-segment_known.ensures.zero rs (tree_along _ _ c.args.self.now.tree rs c.loop-id.invariant.left.told is)
+pub returns-in_err-s-clause-zero : goal.returns-in_err-s-clause-zero
+returns-in_err-s-clause-zero g c =
+    let p = err_from_is_err_and c.from_residual.result c.from_residual.ensures.1 in
+    rw (p.1, p.2) (λ rs is. c.in_err-s.ensures.zero rs (tree_along _ _ c.args.self.now.tree rs c.loop-id.invariant.left.told is))
 
-pub returns-in-Err-segment_known-clause-sound : goal.returns-in-Err-segment_known-clause-sound
-returns-in-Err-segment_known-clause-sound g c l h all =
-    let w = all _ (member_at c.args.ids.now c.loop-id.id-index _ c.loop-id-test.true) in
-    c.in-Err-segment_known.ensures.sound l
-    (shows_along _ _ c.args.self.now.tree c.args.self.now.layer c.args.self.now.level l c.loop-id.invariant.left.told h) w.0 w.1
+pub returns-in_err-s-clause-sound : goal.returns-in_err-s-clause-sound
+returns-in_err-s-clause-sound g c =
+    let p = err_from_is_err_and c.from_residual.result c.from_residual.ensures.1 in
+    rw (p.1, p.2) (λ l h all. let w = all _ (member_at c.args.ids.now c.loop-id.id-index _ c.loop-id-test.true) in
+    c.in_err-s.ensures.sound l
+    (shows_along _ _ c.args.self.now.tree c.args.self.now.layer c.args.self.now.level l c.loop-id.invariant.left.told h) w.0 w.1)
 
 pub loop-id-preserved : goal.loop-id-preserved
 loop-id-preserved g c =
@@ -27,16 +31,16 @@ loop-id-preserved g c =
     let before = many_known c.loop-id.known in
     let after = many_known c.segment_known.new.known in
     record {
-      taken = taken_more c.args.ids.now c.loop-id.id-index _ c.in-Ok-segment_known.s _ c.loop-id.invariant.taken c.loop-id-test.true c.in-Ok-push.ensures.ok c.in-Ok-segment_known.ensures.inside
-          (λ m h. c.in-Ok-segment_known.ensures.found m
+      taken = taken_more c.args.ids.now c.loop-id.id-index _ c.in_ok-s.s _ c.loop-id.invariant.taken c.loop-id-test.true c.in-Ok-push.ensures.ok c.in_ok-s.ensures.inside
+          (λ m h. c.in_ok-s.ensures.found m
           (shows_along _ _ c.args.self.now.tree c.args.self.now.layer c.args.self.now.level m c.loop-id.invariant.left.told h));
       known = knows_where _ _ _ (IsMark (g.S.PageStore.told c.loop-id.store) c.args.self.now.tree) _ c.segment_known.new.known
           (λ l h. shows_along _ _ c.args.self.now.tree c.args.self.now.layer c.args.self.now.level l c.loop-id.invariant.left.told h)
-          (λ m h. subst (λ o. IsMark o c.args.self.now.tree m) c.loop-id.invariant.left.told h) c.in-Ok-segment_known.ensures.known;
-      stays = λ q s e. c.in-Ok-segment_known.ensures.stays q s (c.loop-id.invariant.stays q s e);
-      left = read_on _ g.met.S.PageStore.goes_on _ _ _ c.loop-id.invariant.left c.in-Ok-segment_known.ensures.left;
+          (λ m h. subst (λ o. IsMark o c.args.self.now.tree m) c.loop-id.invariant.left.told h) c.in_ok-s.ensures.known;
+      stays = λ q s e. c.in_ok-s.ensures.stays q s (c.loop-id.invariant.stays q s e);
+      left = read_on _ g.met.S.PageStore.goes_on _ _ _ c.loop-id.invariant.left c.in_ok-s.ensures.left;
       reads = unknown_more (known_seg c.args.known.now) (known_seg c.loop-id.known) c.args.ids.now c.loop-id.id-index _ c.loop-id-test.true
-          (λ s e. c.loop-id.invariant.stays id s e) _ _ _ c.loop-id.invariant.reads c.in-Ok-segment_known.ensures.reads c.in-Ok-segment_known.ensures.again;
+          (λ s e. c.loop-id.invariant.stays id s e) _ _ _ c.loop-id.invariant.reads c.in_ok-s.ensures.reads c.in_ok-s.ensures.again;
       fresh = tells_then (λ x y. y + 3 * initial ≤ x + 3 * before) (λ x y. y + 3 * before ≤ x + 3 * after) (λ x y. y + 3 * initial ≤ x + 3 * after)
-          (λ x y z p q. omega arith) _ _ _ c.loop-id.invariant.fresh c.in-Ok-segment_known.ensures.fresh;
+          (λ x y z p q. omega arith) _ _ _ c.loop-id.invariant.fresh c.in_ok-s.ensures.fresh;
     }

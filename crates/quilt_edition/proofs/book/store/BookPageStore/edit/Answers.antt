@@ -1,4 +1,5 @@
 use Rattle.std.proofs.Common.{◌+◌, ◌*◌, ◌<◌, ◌≤◌, cond, nat_eq, true, Ok, Err, List, ℕ, ap, subst, arith, refl, sym, ◌∙◌}
+use Rattle.std.proofs.lemmas.Result.{err_from_is_err_and}
 use Rattle.quilt_world.proofs.Told.{goes_weaker}
 use Rattle.quilt_pool.specs.Entries.{AreBelow, entry_edited}
 use Rattle.quilt_pool.proofs.Lent.{kept_bytes, there_marked, below_marked, goes_marked, bytes_marked, below_edited, goes_edited, marked_edited, keys_edited}
@@ -46,7 +47,7 @@ invariant_of-self-2 g c =
     let j = c.bring.new.journal in
     let t = c.bring.new.self.table in
     let u = c.mark.new.self.table in
-    let there = c.in-Ok.ensures.there in
+    let there = c.in_ok-bring.ensures.there in
     let marked = c.mark.ensures.marked in
     let bytes = kept_bytes t u c.args.page there marked in
     let pages = c.bring.ensures.journal.0 in
@@ -72,7 +73,7 @@ invariant_of-self-2 g c =
 
 pub lend-requires : goal.lend-requires
 lend-requires g c = record {
-  there = there_marked c.bring.new.self.table c.mark.new.self.table c.args.page c.in-Ok.ensures.there c.mark.ensures.marked;
+  there = there_marked c.bring.new.self.table c.mark.new.self.table c.args.page c.in_ok-bring.ensures.there c.mark.ensures.marked;
 }
 
 pub returns-in_default : goal.returns-in_default
@@ -93,16 +94,17 @@ returns-in_default g c =
       record { bytes = tt; writes_back = tt },
     )
 
-pub returns-in-Err : goal.returns-in-Err
-returns-in-Err g c =
-    let s = c.args.self.now in
+pub returns-in_err-bring : goal.returns-in_err-bring
+returns-in_err-bring g c =
+    let p = err_from_is_err_and c.from_residual.result c.from_residual.ensures.1 in
+    rw (p.1, p.2) (let s = c.args.self.now in
     let j = c.bring.new.journal in
     let idle = sym c.state.ensures ∙ c.in-Idle.is in (
       (
         refl,
         (λ w ok. absurd cc),
         (
-          cause_err _ _ _ _ c.in-Err.is c.bring.ensures.cause,
+          cause_err _ _ _ _ c.in_err-bring.was c.bring.ensures.cause,
           (
             c.bring.ensures.journal.0,
             c.bring.ensures.journal.1,
@@ -123,7 +125,7 @@ returns-in-Err g c =
         ),
       ),
       record { bytes = tt; writes_back = tt },
-    )
+    ))
 
 pub returns : goal.returns
 returns g c =
@@ -150,13 +152,13 @@ returns g c =
           ap (λ n. is_free n s.free) c.bring.ensures.journal.0,
           told_set s.journal j s.pool.table.entries (entry_edited ms c.args.page w) s.last idle c.bring.ensures.journal.0 c.bring.ensures.journal.1
               c.args.page w _ _ c.requires.page.1
-              (goes_edited c.bring.new.self.table c.mark.new.self.table c.args.page c.in-Ok.ensures.there c.mark.ensures.marked w s.journal.pages s.pool.table.entries s.journal.changed j.changed _ _ c.bring.ensures.kept),
-          ap first_eight (keys_edited c.bring.new.self.table c.mark.new.self.table c.args.page c.in-Ok.ensures.there c.mark.ensures.marked w) ∙ c.in-Ok.ensures.touched,
+              (goes_edited c.bring.new.self.table c.mark.new.self.table c.args.page c.in_ok-bring.ensures.there c.mark.ensures.marked w s.journal.pages s.pool.table.entries s.journal.changed j.changed _ _ c.bring.ensures.kept),
+          ap first_eight (keys_edited c.bring.new.self.table c.mark.new.self.table c.args.page c.in_ok-bring.ensures.there c.mark.ensures.marked w) ∙ c.in_ok-bring.ensures.touched,
           reads_more _ _ c.bring.ensures.reads,
           subst (λ n. marked_count n (entry_edited ms c.args.page w) j.changed ≤ marked_count s.journal.pages s.pool.table.entries s.journal.changed + 1)
               (sym c.bring.ensures.journal.0)
               (marked_more s.journal.pages s.pool.table.entries (entry_edited ms c.args.page w) s.journal.changed j.changed c.args.page
-              (λ i. marked_edited c.bring.new.self.table c.mark.new.self.table c.args.page c.in-Ok.ensures.there c.mark.ensures.marked w j.changed i
+              (λ i. marked_edited c.bring.new.self.table c.mark.new.self.table c.args.page c.in_ok-bring.ensures.there c.mark.ensures.marked w j.changed i
               ∙ ap (λ b. cond (nat_eq i c.args.page) true b) (c.bring.ensures.marked i))),
         )),
         tt,
@@ -164,8 +166,8 @@ returns g c =
       record {
         bytes = rw (
           c.lend.ensures.bytes,
-          bytes_marked c.bring.new.self.table c.mark.new.self.table c.args.page c.in-Ok.ensures.there c.mark.ensures.marked,
-        ) (told_bytes s.journal s.pool.table.entries c.args.page _ _ idle c.requires.page.1 c.in-Ok.ensures.bytes);
+          bytes_marked c.bring.new.self.table c.mark.new.self.table c.args.page c.in_ok-bring.ensures.there c.mark.ensures.marked,
+        ) (told_bytes s.journal s.pool.table.entries c.args.page _ _ idle c.requires.page.1 c.in_ok-bring.ensures.bytes);
         writes_back = tt;
       },
     )
@@ -186,13 +188,13 @@ invariant_of-self-lent g c = λ w.
           (
             c.bring.ensures.device.size ∙ s.size ∙ ap (λ n. 3 + 2 * n) (sym pages),
             (
-              below_edited c.bring.new.self.table c.mark.new.self.table c.args.page c.in-Ok.ensures.there c.mark.ensures.marked w j.pages
+              below_edited c.bring.new.self.table c.mark.new.self.table c.args.page c.in_ok-bring.ensures.there c.mark.ensures.marked w j.pages
                   (c.requires.page.0, subst (λ n. c.args.page < n) (sym pages) c.requires.page.1)
                   (subst (λ n. AreBelow n es) (sym pages) c.bring.ensures.below),
               (
                 kept_moves s.journal j s.pool.table.entries (entry_edited ms c.args.page w) s.last idle pages c.bring.ensures.journal.1 _ _ s.kept
                     (goes_weaker _ (KeepsPublished s.journal.pages (entry_edited ms c.args.page w) j.changed) _ _
-                    (goes_edited c.bring.new.self.table c.mark.new.self.table c.args.page c.in-Ok.ensures.there c.mark.ensures.marked w s.journal.pages s.pool.table.entries s.journal.changed j.changed _ _ c.bring.ensures.kept)
+                    (goes_edited c.bring.new.self.table c.mark.new.self.table c.args.page c.in_ok-bring.ensures.there c.mark.ensures.marked w s.journal.pages s.pool.table.entries s.journal.changed j.changed _ _ c.bring.ensures.kept)
                     (of_changes s.journal.pages c.args.page w s.pool.table.entries (entry_edited ms c.args.page w) s.journal.changed j.changed)),
                 (
                   subst (λ n. IsHead n s.last) (sym pages) s.published,

@@ -1,4 +1,5 @@
 use Rattle.std.proofs.Common.{◌+◌, ◌*◌, ◌≤◌, Ok, Err, List, ℕ, ap, subst, arith, refl, sym, ◌∙◌}
+use Rattle.std.proofs.lemmas.Result.{err_from_is_err_and}
 use Rattle.quilt_world.proofs.Told.{goes_weaker}
 use Rattle.quilt_pool.specs.Entries.{AreBelow, entry_edited}
 use Rattle.quilt_pool.proofs.Lent.{below_edited, goes_edited, marked_edited, keys_edited}
@@ -61,16 +62,17 @@ returns-in_default g c =
       record { bytes = tt; after_borrow = tt },
     )
 
-pub returns-in-Err : goal.returns-in-Err
-returns-in-Err g c =
-    let s = c.args.self.now in
+pub returns-in_err-bring : goal.returns-in_err-bring
+returns-in_err-bring g c =
+    let p = err_from_is_err_and c.from_residual.result c.from_residual.ensures.1 in
+    rw (p.1, p.2) (let s = c.args.self.now in
     let j = c.bring.new.journal in
     let idle = sym c.state.ensures ∙ c.in-Idle.is in (
       (
         refl,
         (λ _. tt),
         (
-          cause_err _ _ _ _ c.in-Err.is c.bring.ensures.cause,
+          cause_err _ _ _ _ c.in_err-bring.was c.bring.ensures.cause,
           (
             c.bring.ensures.journal.0,
             c.bring.ensures.journal.1,
@@ -94,7 +96,7 @@ returns-in-Err g c =
         ),
       ),
       record { bytes = tt; after_borrow = tt },
-    )
+    ))
 
 pub returns : goal.returns
 returns g c =
@@ -120,7 +122,7 @@ returns g c =
           ap (λ n. is_free n s.free) c.bring.ensures.journal.0,
           told_same s.journal j s.pool.table.entries c.bring.new.self.table.entries s.last idle c.bring.ensures.journal.0 c.bring.ensures.journal.1 _ _
               c.bring.ensures.kept,
-          c.in-Ok.ensures.touched,
+          c.in_ok-bring.ensures.touched,
           reads_more _ _ c.bring.ensures.reads,
           (λ held. tells_reads _ _ (c.bring.ensures.held (key_found c.args.page s.pool.table.entries held))),
           subst (λ n. marked_count n c.bring.new.self.table.entries j.changed ≤ marked_count s.journal.pages s.pool.table.entries s.journal.changed)
@@ -129,7 +131,7 @@ returns g c =
         ),
       ),
       record {
-        bytes = rw c.lent.ensures.bytes (told_bytes s.journal s.pool.table.entries c.args.page _ _ idle c.requires.1 c.in-Ok.ensures.bytes);
+        bytes = rw c.lent.ensures.bytes (told_bytes s.journal s.pool.table.entries c.args.page _ _ idle c.requires.1 c.in_ok-bring.ensures.bytes);
         after_borrow = tt;
       },
     )
