@@ -48,13 +48,10 @@ pub(crate) fn topmost<S: PageStore>(
     ensures reads { IfOk result (λ _. Goes (λ old new. new ≤ old + (18 + 9 * layer.bucket) * layer.level) (S.reads store.old) (S.reads store.new)) }
 {
     let mut top = leaf;
-    'climb: loop {
-        match merged(alloc, store, tree, layer, &top) {
-            Err(e) => return Err(e),
-            Ok(None) => return Ok(top),
-            Ok(Some(up)) => top = up,
-        }
+    while let Some(up) = merged(alloc, store, tree, layer, &top)? {
+        top = up;
     }
+    Ok(top)
 }
 
 /// The block of twice the side with its points but one that goes, where it holds few of these.
@@ -89,16 +86,13 @@ fn merged<S: PageStore>(
     let Some(block) = parent(leaf.block, layer.level) else {
         return Ok(None);
     };
-    match joined(alloc, store, tree, layer, block, leaf) {
-        Err(e) => Err(e),
-        Ok(None) => Ok(None),
-        Ok(Some(points)) => {
-            if !are_few(&points, layer.bucket) {
-                return Ok(None);
-            }
-            Ok(Some(Leaf { block, points }))
-        }
+    let Some(points) = joined(alloc, store, tree, layer, block, leaf)? else {
+        return Ok(None);
+    };
+    if !are_few(&points, layer.bucket) {
+        return Ok(None);
     }
+    Ok(Some(Leaf { block, points }))
 }
 
 /// Whether these are so many points at most.
@@ -138,10 +132,8 @@ fn joined<S: PageStore>(
     let mut all = Vec::new(alloc);
     let mut spot = None;
     for q in quarters(up) {
-        match add_quarter(alloc, store, tree, layer, &mut spot, &mut all, q, leaf) {
-            Err(e) => return Err(e),
-            Ok(false) => return Ok(None),
-            Ok(true) => {}
+        if !add_quarter(alloc, store, tree, layer, &mut spot, &mut all, q, leaf)? {
+            return Ok(None);
         }
     }
     Ok(Some(all))
@@ -179,10 +171,9 @@ fn add_quarter<S: PageStore>(
     if is_same(q, leaf.block) {
         return add_all(all, &leaf.points);
     }
-    match points_of(alloc, store, tree, layer, spot, q) {
-        Err(e) => Err(e),
-        Ok(None) => Ok(false),
-        Ok(Some(here)) => add_all(all, &here),
+    match points_of(alloc, store, tree, layer, spot, q)? {
+        None => Ok(false),
+        Some(here) => add_all(all, &here),
     }
 }
 

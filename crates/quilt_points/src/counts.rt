@@ -46,13 +46,9 @@ pub fn block_counts<S: PageStore>(
     let mut counts = [0; 13];
     let mut code = 0;
     while code < end {
-        match block_around(store, tree, points, pixel_of(code)) {
-            Err(e) => return Err(e),
-            Ok((b, _)) => {
-                counts[exponent_of(b.side)] += 1;
-                code = end_of(b);
-            }
-        }
+        let (b, _) = block_around(store, tree, points, pixel_of(code))?;
+        counts[exponent_of(b.side)] += 1;
+        code = end_of(b);
     }
     Ok(counts)
 }

@@ -58,10 +58,8 @@ pub(crate) fn points_of<S: PageStore>(
         item: u32::MAX,
         ..low
     };
-    match tree.range_from(alloc, store, spot, &low, &high, u32::from(layer.bucket)) {
-        Err(e) => Err(e),
-        Ok(records) => points_said(alloc, &records, layer, b),
-    }
+    let records = tree.range_from(alloc, store, spot, &low, &high, u32::from(layer.bucket))?;
+    points_said(alloc, &records, layer, b)
 }
 
 /// The points that the records of a block say: None where there are no records.
@@ -85,10 +83,7 @@ fn points_said(
     }
     let mut points = Vec::new(alloc);
     for r in records {
-        match add_point(&mut points, r, layer, b) {
-            Err(e) => return Err(e),
-            Ok(()) => {}
-        }
+        add_point(&mut points, r, layer, b)?;
     }
     Ok(Some(points))
 }
@@ -158,21 +153,16 @@ pub(crate) fn leaf_around<S: PageStore>(
     ensures reads { IfOk result (λ _. Goes (λ old new. new ≤ old + (12 + 3 * layer.bucket)) (S.reads store.old) (S.reads store.new)) }
     ensures single { layer.bucket ≡ 1 → Goes (λ old new. new ≤ old + 6) (S.reads store.old) (S.reads store.new) }
 {
-    match block_around(store, tree, layer, at) {
-        Err(e) => Err(e),
-        Ok((block, held)) => {
-            if layer.bucket == 1 {
-                return match points_from(alloc, held) {
-                    Err(_) => Err(Stop::Memory),
-                    Ok(points) => Ok(Leaf { block, points }),
-                };
-            }
-            let mut spot = None;
-            match points_of(alloc, store, tree, layer, &mut spot, block) {
-                Err(e) => Err(e),
-                Ok(None) => Err(DAMAGED),
-                Ok(Some(points)) => Ok(Leaf { block, points }),
-            }
-        }
+    let (block, held) = block_around(store, tree, layer, at)?;
+    if layer.bucket == 1 {
+        return match points_from(alloc, held) {
+            Err(_) => Err(Stop::Memory),
+            Ok(points) => Ok(Leaf { block, points }),
+        };
+    }
+    let mut spot = None;
+    match points_of(alloc, store, tree, layer, &mut spot, block)? {
+        None => Err(DAMAGED),
+        Some(points) => Ok(Leaf { block, points }),
     }
 }

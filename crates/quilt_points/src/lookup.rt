@@ -58,15 +58,11 @@ pub fn find<S: PageStore>(
         level,
         bucket,
     };
-    match block_around(store, tree, layer, at) {
-        Err(e) => Err(e),
-        Ok((b, held)) => {
-            if bucket == 1 {
-                Ok(label_of(held, at))
-            } else {
-                label_in(store, tree, layer, b, at)
-            }
-        }
+    let (b, held) = block_around(store, tree, layer, at)?;
+    if bucket == 1 {
+        Ok(label_of(held, at))
+    } else {
+        label_in(store, tree, layer, b, at)
     }
 }
 
@@ -93,10 +89,8 @@ pub(crate) fn block_around<S: PageStore>(
     ensures reads { Goes (λ old new. new ≤ old + 6) (S.reads store.old) (S.reads store.new) }
 {
     let k = key_behind(layer, at);
-    match tree.floor(store, &k) {
-        Err(e) => Err(e),
-        Ok(found) => block_said(found, layer, at),
-    }
+    let found = tree.floor(store, &k)?;
+    block_said(found, layer, at)
 }
 
 /// The block and its point that a record says: that of the greatest key which is at most those of the blocks that begin
@@ -213,12 +207,11 @@ fn label_in<S: PageStore>(
         Some(Point { at, label: 0 }),
     );
     let key = like.key;
-    match tree.get(store, &key) {
-        Err(e) => Err(e),
-        Ok(None) => Ok(None),
-        Ok(Some(value)) => match point_of(&Record { key, value }, layer) {
-            Some(p) => Ok(Some(p.label)),
-            None => Err(DAMAGED),
-        },
+    let Some(value) = tree.get(store, &key)? else {
+        return Ok(None);
+    };
+    match point_of(&Record { key, value }, layer) {
+        Some(p) => Ok(Some(p.label)),
+        None => Err(DAMAGED),
     }
 }

@@ -64,10 +64,8 @@ pub fn plan_put<S: PageStore>(
         level,
         bucket,
     };
-    match leaf_around(alloc, store, tree, layer, at) {
-        Err(e) => Err(e),
-        Ok(leaf) => put_into(alloc, layer, leaf.block, &leaf.points, Point { at, label }),
-    }
+    let leaf = leaf_around(alloc, store, tree, layer, at)?;
+    put_into(alloc, layer, leaf.block, &leaf.points, Point { at, label })
 }
 
 /// The records that go and those that come, each in the order of their keys, when the point at a pixel goes from the point
@@ -103,16 +101,12 @@ pub fn plan_del<S: PageStore>(
         level,
         bucket,
     };
-    match leaf_around(alloc, store, tree, layer, at) {
-        Err(e) => Err(e),
-        Ok(leaf) => match point_at(&leaf.points, at) {
-            None => Ok(None),
-            Some(p) => match take_from(alloc, store, tree, layer, leaf, p) {
-                Err(e) => Err(e),
-                Ok(edits) => Ok(Some(edits)),
-            },
-        },
-    }
+    let leaf = leaf_around(alloc, store, tree, layer, at)?;
+    let Some(p) = point_at(&leaf.points, at) else {
+        return Ok(None);
+    };
+    let edits = take_from(alloc, store, tree, layer, leaf, p)?;
+    Ok(Some(edits))
 }
 
 /// What changes when one of its points goes from a block.
@@ -146,10 +140,8 @@ fn take_from<S: PageStore>(
         block: leaf.block,
         points,
     };
-    match topmost(alloc, store, tree, layer, rest) {
-        Err(e) => Err(e),
-        Ok(top) => take_out(alloc, layer, top.block, &top.points, p),
-    }
+    let top = topmost(alloc, store, tree, layer, rest)?;
+    take_out(alloc, layer, top.block, &top.points, p)
 }
 
 /// What changes when a point goes, in the last block up that holds few of the others.
@@ -230,13 +222,11 @@ fn put_into(
     if has_point(held, p.at) {
         return Ok(None);
     }
-    match delta_of(alloc, layer, b, held, p) {
-        Err(_) => Err(Stop::Memory),
-        Ok(delta) => match edits_of(alloc, delta.without, delta.with) {
-            Err(e) => Err(e),
-            Ok(edits) => Ok(Some(edits)),
-        },
-    }
+    let Ok(delta) = delta_of(alloc, layer, b, held, p) else {
+        return Err(Stop::Memory);
+    };
+    let edits = edits_of(alloc, delta.without, delta.with)?;
+    Ok(Some(edits))
 }
 
 /// The records of a block that change when one point comes into it.

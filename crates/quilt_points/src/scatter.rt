@@ -65,14 +65,11 @@ pub fn plan_scatter<S: PageStore>(
         Ok(None) => return Ok(None),
         Ok(Some(news)) => news,
     };
-    match grown(alloc, store, tree, place, &news) {
-        Err(e) => Err(e),
-        Ok(None) => Ok(None),
-        Ok(Some(delta)) => match edits_of(alloc, delta.without, delta.with) {
-            Err(e) => Err(e),
-            Ok(edits) => Ok(Some(edits)),
-        },
-    }
+    let Some(delta) = grown(alloc, store, tree, place, &news)? else {
+        return Ok(None);
+    };
+    let edits = edits_of(alloc, delta.without, delta.with)?;
+    Ok(Some(edits))
 }
 
 /// The records that change when these points come, in the order of their codes: None where a point is at one of their pixels.
@@ -101,11 +98,10 @@ fn grown<S: PageStore>(
     };
     let mut done = 0;
     while done < news.len() {
-        match add_block(alloc, store, tree, layer, &news[done..], &mut delta) {
-            Err(e) => return Err(e),
-            Ok(None) => return Ok(None),
-            Ok(Some(count)) => done += count,
-        }
+        let Some(count) = add_block(alloc, store, tree, layer, &news[done..], &mut delta)? else {
+            return Ok(None);
+        };
+        done += count;
     }
     Ok(Some(delta))
 }
@@ -135,19 +131,15 @@ fn add_block<S: PageStore>(
     ensures left { OnlyReads S.PageStore store.old store.new result }
     ensures reads { IfOk result (λ _. Goes (λ old new. new ≤ old + (12 + 3 * layer.bucket)) (S.reads store.old) (S.reads store.new)) }
 {
-    match leaf_around(alloc, store, tree, layer, news[0].at) {
-        Err(e) => Err(e),
-        Ok(leaf) => {
-            let count = count_before(news, end_of(leaf.block));
-            let here = &news[..count];
-            if has_common(&leaf.points, here) {
-                return Ok(None);
-            }
-            match add_delta(alloc, delta, layer, leaf.block, &leaf.points, here) {
-                Err(_) => Err(Stop::Memory),
-                Ok(()) => Ok(Some(count)),
-            }
-        }
+    let leaf = leaf_around(alloc, store, tree, layer, news[0].at)?;
+    let count = count_before(news, end_of(leaf.block));
+    let here = &news[..count];
+    if has_common(&leaf.points, here) {
+        return Ok(None);
+    }
+    match add_delta(alloc, delta, layer, leaf.block, &leaf.points, here) {
+        Err(_) => Err(Stop::Memory),
+        Ok(()) => Ok(Some(count)),
     }
 }
 

@@ -64,13 +64,9 @@ pub(crate) fn block_near<S: PageStore>(
         Some((b, held)) if covers(b, at) => return Ok((b, held)),
         _ => {}
     }
-    match block_anew(store, tree, layer, &mut search.finger, at) {
-        Err(e) => Err(e),
-        Ok((b, held)) => {
-            search.last = Some((b, held));
-            Ok((b, held))
-        }
-    }
+    let found = block_anew(store, tree, layer, &mut search.finger, at)?;
+    search.last = Some(found);
+    Ok(found)
 }
 
 /// The same, by its record in the tree.
@@ -93,8 +89,6 @@ fn block_anew<S: PageStore>(
     ensures reads { Goes (λ old new. new ≤ old + 9) (S.reads store.old) (S.reads store.new) }
 {
     let k = key_behind(layer, at);
-    match tree.floor_near(store, finger, &k) {
-        Err(e) => Err(e),
-        Ok(found) => block_said(found, layer, at),
-    }
+    let found = tree.floor_near(store, finger, &k)?;
+    block_said(found, layer, at)
 }

@@ -63,12 +63,10 @@ pub fn within<S: PageStore>(
     let whole = whole_square(level);
     let mut search = Search::new();
     let mut found = Vec::new(alloc);
-    match add_within(alloc, store, tree, layer, &mut search, whole, w, &mut found) {
-        Err(e) => Err(e),
-        Ok(()) => match in_rows(alloc, found) {
-            Ok(list) => Ok(list),
-            Err(_) => Err(Stop::Memory),
-        },
+    add_within(alloc, store, tree, layer, &mut search, whole, w, &mut found)?;
+    match in_rows(alloc, found) {
+        Ok(list) => Ok(list),
+        Err(_) => Err(Stop::Memory),
     }
 }
 
@@ -103,19 +101,14 @@ fn add_within<S: PageStore>(
     if !meets(b, w) {
         return Ok(());
     }
-    match visit(alloc, store, tree, layer, search, b, w, found) {
-        Err(e) => return Err(e),
-        Ok(true) => return Ok(()),
-        Ok(false) => {}
+    if visit(alloc, store, tree, layer, search, b, w, found)? {
+        return Ok(());
     }
     if b.side <= 1 {
         return Err(DAMAGED);
     }
     for q in quarters(b) {
-        match add_within(alloc, store, tree, layer, search, q, w, found) {
-            Err(e) => return Err(e),
-            Ok(()) => {}
-        }
+        add_within(alloc, store, tree, layer, search, q, w, found)?;
     }
     Ok(())
 }
@@ -150,23 +143,17 @@ fn visit<S: PageStore>(
     ensures reads { IfOk result (λ _. Goes (λ old new. new ≤ old + (6 + 3 * layer.bucket)) (S.reads store.old) (S.reads store.new)) }
 {
     if layer.bucket == 1 {
-        return match single_of(store, tree, layer, search, b, w) {
-            Err(e) => Err(e),
-            Ok(None) => Ok(false),
-            Ok(Some(held)) => match add_said(found, held, w) {
-                Err(e) => Err(e),
-                Ok(()) => Ok(true),
-            },
+        let Some(held) = single_of(store, tree, layer, search, b, w)? else {
+            return Ok(false);
         };
+        add_said(found, held, w)?;
+        return Ok(true);
     }
-    match points_of(alloc, store, tree, layer, &mut search.spot, b) {
-        Err(e) => Err(e),
-        Ok(None) => Ok(false),
-        Ok(Some(points)) => match add_inside(found, &points, w) {
-            Err(e) => Err(e),
-            Ok(()) => Ok(true),
-        },
-    }
+    let Some(points) = points_of(alloc, store, tree, layer, &mut search.spot, b)? else {
+        return Ok(false);
+    };
+    add_inside(found, &points, w)?;
+    Ok(true)
 }
 
 /// What a block that meets the window holds, in a layer whose blocks hold one point at most: None exactly where it is none of the
@@ -195,15 +182,11 @@ fn single_of<S: PageStore>(
     ensures reads { Goes (λ old new. new ≤ old + 9) (S.reads store.old) (S.reads store.new) }
 {
     let at = first_in(layer, b, w);
-    match block_near(store, tree, layer, search, at) {
-        Err(e) => Err(e),
-        Ok((around, held)) => {
-            if !is_same(around, b) {
-                return Ok(None);
-            }
-            Ok(Some(held))
-        }
+    let (around, held) = block_near(store, tree, layer, search, at)?;
+    if !is_same(around, b) {
+        return Ok(None);
     }
+    Ok(Some(held))
 }
 
 /// The pixel of the least coordinates that a block and a window have in common.

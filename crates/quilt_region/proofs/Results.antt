@@ -24,3 +24,8 @@ module _ (told : Option (List (List ℕ))) (t : Tree) (layer n : ℕ) (items : L
 pub if_ok : {T U : Type 0} (r : Result T U) (P : Type 0) → P → IfOk r (λ x. P)
 if_ok (Ok x) P p = p
 if_ok (Err e) P p = tt
+
+-- what follows from two things that are said of an answer
+pub if_ok_from : {T E : Type 0} {P Q R : T → Type 0} (r : Result T E) → IfOk r P → IfOk r Q → ((x : T) → P x → Q x → R x) → IfOk r R
+if_ok_from (Ok x) p q f = f x p q
+if_ok_from (Err e) p q f = tt

@@ -45,10 +45,8 @@ pub fn read_list<S: PageStore>(
 {
     let first = first_key(layer);
     let last = last_key(layer);
-    match tree.range(alloc, store, &first, &last, u32::MAX) {
-        Err(e) => Err(e),
-        Ok(records) => list_of(alloc, &records, layer, level),
-    }
+    let records = tree.range(alloc, store, &first, &last, u32::MAX)?;
+    list_of(alloc, &records, layer, level)
 }
 
 /// The colour of a pixel of the region layer with this number, from 1 to 255, of a map of this level, from 1 to 12. It
@@ -109,13 +107,12 @@ pub(crate) fn leaf_with<S: PageStore>(
         (S.reads store.old) (S.reads store.new) }
 {
     let k = key_with(layer, p);
-    match tree.floor(store, &k) {
-        Err(e) => Err(e),
-        Ok(None) => Err(DAMAGED),
-        Ok(Some(r)) => match leaf_of(&r, layer, level) {
-            Some(leaf) if covers(leaf.block, p) => Ok(leaf),
-            _ => Err(DAMAGED),
-        },
+    let Some(r) = tree.floor(store, &k)? else {
+        return Err(DAMAGED);
+    };
+    match leaf_of(&r, layer, level) {
+        Some(leaf) if covers(leaf.block, p) => Ok(leaf),
+        _ => Err(DAMAGED),
     }
 }
 
@@ -154,10 +151,7 @@ pub(crate) fn records_in<S: PageStore>(
         depth: u8::MAX,
         item: u32::MAX,
     };
-    match tree.range(alloc, store, &low, &high, u32::MAX) {
-        Err(e) => Err(e),
-        Ok(records) => Ok(records),
-    }
+    tree.range(alloc, store, &low, &high, u32::MAX)
 }
 
 /// The key at or before which the record of the leaf that holds the pixel is the last one. Coordinates are below 4096.

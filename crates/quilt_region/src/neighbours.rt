@@ -76,11 +76,11 @@ pub fn block_with<S: PageStore>(
     ensures left { OnlyReads S.PageStore store.old store.new result }
     ensures reads { Goes (λ old new. new ≤ old + 6) (S.reads store.old) (S.reads store.new) }
 {
-    match leaf_with(store, tree, layer, level, Pixel { x: w.x, y: w.y }) {
-        Err(e) => Err(e),
-        Ok(leaf) if holds_window(leaf.block, w) => Ok((leaf.block, leaf.colour)),
-        Ok(leaf) => Ok((block_around(w, level), leaf.colour)),
+    let leaf = leaf_with(store, tree, layer, level, Pixel { x: w.x, y: w.y })?;
+    if holds_window(leaf.block, w) {
+        return Ok((leaf.block, leaf.colour));
     }
+    Ok((block_around(w, level), leaf.colour))
 }
 
 /// Whether the other quarters of a larger block than this one are leaves of this colour. It reads at most 24 pages.
@@ -108,10 +108,8 @@ fn has_around<S: PageStore>(
     ensures reads { Goes (λ old new. new ≤ old + 24) (S.reads store.old) (S.reads store.new) }
 {
     for q in quarters(larger) {
-        match has_quarter(store, tree, layer, level, b, q, c) {
-            Err(e) => return Err(e),
-            Ok(false) => return Ok(false),
-            Ok(true) => {}
+        if !has_quarter(store, tree, layer, level, b, q, c)? {
+            return Ok(false);
         }
     }
     Ok(true)
@@ -142,15 +140,13 @@ fn has_quarter<S: PageStore>(
     if q == b {
         return Ok(true);
     }
-    match leaf_with(store, tree, layer, level, Pixel { x: q.x, y: q.y }) {
-        Err(e) => Err(e),
-        Ok(leaf) => Ok(
-            leaf == (Leaf {
-                block: q,
-                colour: c,
-            }),
-        ),
-    }
+    let leaf = leaf_with(store, tree, layer, level, Pixel { x: q.x, y: q.y })?;
+    Ok(
+        leaf == (Leaf {
+            block: q,
+            colour: c,
+        }),
+    )
 }
 
 /// The block around this one up to which the layer has one colour beside it, in steps of one level: the whole square, or
@@ -179,11 +175,10 @@ pub fn block_up_to<S: PageStore>(
 {
     let mut top = b;
     while let Some(larger) = parent(top, level) {
-        match has_around(store, tree, layer, level, top, larger, c) {
-            Err(e) => return Err(e),
-            Ok(false) => return Ok(top),
-            Ok(true) => top = larger,
+        if !has_around(store, tree, layer, level, top, larger, c)? {
+            return Ok(top);
         }
+        top = larger;
     }
     Ok(top)
 }
@@ -211,27 +206,22 @@ pub fn known_beside<S: PageStore>(
     ensures left { OnlyReads S.PageStore store.old store.new result }
     ensures reads { Goes (λ old new. new ≤ old + 30) (S.reads store.old) (S.reads store.new) }
 {
-    match block_with(store, tree, layer, level, w) {
-        Err(e) => Err(e),
-        Ok((b, first)) => {
-            if most <= b.side {
-                return Ok(None);
-            }
-            let Some(larger) = parent(b, level) else {
-                return Ok(None);
-            };
-            match has_around(store, tree, layer, level, b, larger, c) {
-                Err(e) => Err(e),
-                Ok(true) => Ok(None),
-                Ok(false) => Ok(Some(Known {
-                    read: b,
-                    top: b,
-                    around: c,
-                    elsewhere: other_colour(c, first),
-                })),
-            }
-        }
+    let (b, first) = block_with(store, tree, layer, level, w)?;
+    if most <= b.side {
+        return Ok(None);
     }
+    let Some(larger) = parent(b, level) else {
+        return Ok(None);
+    };
+    if has_around(store, tree, layer, level, b, larger, c)? {
+        return Ok(None);
+    }
+    Ok(Some(Known {
+        read: b,
+        top: b,
+        around: c,
+        elsewhere: other_colour(c, first),
+    }))
 }
 
 /// A colour that is neither of two.

@@ -61,10 +61,9 @@ pub fn plan_rect<S: PageStore>(
     if is_one_pixel(w) {
         return plan_pixel(alloc, store, tree, layer, level, w, c);
     }
-    match plan_apart(alloc, store, tree, layer, level, w, c) {
-        Err(e) => Err(e),
-        Ok(Some(edits)) => Ok(edits),
-        Ok(None) => plan_together(alloc, store, tree, layer, level, w, c),
+    match plan_apart(alloc, store, tree, layer, level, w, c)? {
+        Some(edits) => Ok(edits),
+        None => plan_together(alloc, store, tree, layer, level, w, c),
     }
 }
 
@@ -191,12 +190,10 @@ pub fn plan_known(
     ensures sound { IfErr result (λ e. (g : Grid) → records.now ≡ records_within level layer g known.now.read → KnowsAround level g w known.now → IsNotDamage e) }
     ensures no_fault { IsErrOf result Device → ⊥ }
 {
-    match fill(alloc, records, layer, level, known) {
-        Err(e) => Err(e),
-        Ok(old) => match repaint(alloc, layer, &old, w, known.around) {
-            Ok(edits) => Ok(edits),
-            Err(_) => Err(Stop::Memory),
-        },
+    let old = fill(alloc, records, layer, level, known)?;
+    match repaint(alloc, layer, &old, w, known.around) {
+        Ok(edits) => Ok(edits),
+        Err(_) => Err(Stop::Memory),
     }
 }
 

@@ -102,7 +102,7 @@ fn plan_in_block<S: PageStore>(
 {
     let mut remove = Vec::new(alloc);
     let mut add = Vec::new(alloc);
-    match plan_quarters(
+    if !plan_quarters(
         alloc,
         store,
         tree,
@@ -114,14 +114,11 @@ fn plan_in_block<S: PageStore>(
         4,
         &mut remove,
         &mut add,
-    ) {
-        Err(e) => Err(e),
-        Ok(false) => Ok(None),
-        Ok(true) => match edits_of(alloc, remove, add) {
-            Err(e) => Err(e),
-            Ok(edits) => Ok(Some(edits)),
-        },
+    )? {
+        return Ok(None);
     }
+    let edits = edits_of(alloc, remove, add)?;
+    Ok(Some(edits))
 }
 
 /// Adds the records that go and come in the first so many quarters of a block, or answers that what is painted in one of
@@ -180,30 +177,26 @@ fn plan_quarters<S: PageStore>(
             add,
         );
     };
-    match known_beside(store, tree, layer, level, v, c, q.side) {
-        Err(e) => Err(e),
-        Ok(None) => Ok(false),
-        Ok(Some(known)) => match plan_quarters(
-            alloc,
-            store,
-            tree,
-            layer,
-            level,
-            w,
-            c,
-            b,
-            count - 1,
-            remove,
-            add,
-        ) {
-            Err(e) => Err(e),
-            Ok(false) => Ok(false),
-            Ok(true) => match plan_part(alloc, store, tree, layer, level, v, &known, remove, add) {
-                Err(e) => Err(e),
-                Ok(()) => Ok(true),
-            },
-        },
+    let Some(known) = known_beside(store, tree, layer, level, v, c, q.side)? else {
+        return Ok(false);
+    };
+    if !plan_quarters(
+        alloc,
+        store,
+        tree,
+        layer,
+        level,
+        w,
+        c,
+        b,
+        count - 1,
+        remove,
+        add,
+    )? {
+        return Ok(false);
     }
+    plan_part(alloc, store, tree, layer, level, v, &known, remove, add)?;
+    Ok(true)
 }
 
 /// Adds the records that go and come where a window is painted around which this is known. It reads at most 6 pages, and 3

@@ -100,13 +100,12 @@ fn next_leaf<S: PageStore>(
     ensures left { OnlyReads S.PageStore store.old store.new result }
     ensures reads { Goes (λ old new. new ≤ old + 3) (S.reads store.old) (S.reads store.new) }
 {
-    match tree.next(store, cursor) {
-        Err(e) => Err(e),
-        Ok(None) => Err(DAMAGED),
-        Ok(Some(r)) => match leaf_of(&r, layer, level) {
-            Some(leaf) if r.key.code == code => Ok(leaf),
-            _ => Err(DAMAGED),
-        },
+    let Some(r) = tree.next(store, cursor)? else {
+        return Err(DAMAGED);
+    };
+    match leaf_of(&r, layer, level) {
+        Some(leaf) if r.key.code == code => Ok(leaf),
+        _ => Err(DAMAGED),
     }
 }
 
@@ -123,9 +122,8 @@ fn end_layer<S: PageStore>(
     ensures left { OnlyReads S.PageStore store.old store.new result }
     ensures reads { Goes (λ old new. new ≤ old + 3) (S.reads store.old) (S.reads store.new) }
 {
-    match tree.next(store, cursor) {
-        Err(e) => Err(e),
-        Ok(Some(r)) if r.key.layer == u16::from(layer) => Err(DAMAGED),
-        Ok(_) => Ok(()),
+    match tree.next(store, cursor)? {
+        Some(r) if r.key.layer == u16::from(layer) => Err(DAMAGED),
+        _ => Ok(()),
     }
 }

@@ -137,17 +137,15 @@ fn put_read<S: PageStore>(
     ensures reads { OnOk result ((g : Grid) → HasRegion (S.told store.old) tree.now layer level g
         → Goes (λ old new. new ≤ old + (12 + 3 * length (leaves_within level g b))) (S.reads store.old) (S.reads store.new)) }
 {
-    match leaf_with(store, tree, layer, level, Pixel { x: b.x, y: b.y }) {
-        Err(e) => Err(e),
-        Ok(leaf) if b.side <= leaf.block.side => match maker.push(b, leaf.colour) {
+    let leaf = leaf_with(store, tree, layer, level, Pixel { x: b.x, y: b.y })?;
+    if b.side <= leaf.block.side {
+        return match maker.push(b, leaf.colour) {
             Err(_) => Err(Stop::Memory),
             Ok(()) => Ok(()),
-        },
-        Ok(_) => match records_in(alloc, store, tree, layer, level, b) {
-            Err(e) => Err(e),
-            Ok(records) => put_records(maker, &records, layer, level, b),
-        },
+        };
     }
+    let records = records_in(alloc, store, tree, layer, level, b)?;
+    put_records(maker, &records, layer, level, b)
 }
 
 /// Whether a window and a block have a pixel in common.

@@ -2,6 +2,7 @@ use Rattle.std.proofs.Common.{◌≡◌, ◌+◌, ◌*◌, ◌≤◌, true, [], 
 use Rattle.std.specs.FinMap as finmap
 use Rattle.std.proofs.lemmas.Bool.{cases_lt}
 use Rattle.std.proofs.lemmas.List.{get_or_default}
+use Rattle.std.proofs.lemmas.Result.{err_from_is_err_and}
 use Rattle.quilt_store.proofs.Reading.{only_reads_then, only_reads_same, read_on, only_reads_err, only_reads_ok}
 use Rattle.quilt_types.specs.declared.plane.Block.{Block}
 use Rattle.quilt_types.specs.declared.plane.Point.{Point}
@@ -51,14 +52,15 @@ add_quarter-requires-clause-block g c =
     (quarter_at c.args.layer.level c.args.up c.quarters-q-items.result c.loop-q.q-index (record { y = 0; x = 0; side = 0 }) hb
     (omega arith) c.quarters-q-items.ensures.value c.loop-q-test.true).block
 
-pub returns-in-Err-clause-sound : goal.returns-in-Err-clause-sound
-returns-in-Err-clause-sound g c points h =
-    c.in-Err.ensures.sound points (has_along _ _ c.args.tree.now c.args.layer.number c.args.layer.level c.args.layer.bucket points
-    c.loop-q.invariant.left.told h)
+pub returns-in_err-add_quarter-clause-sound : goal.returns-in_err-add_quarter-clause-sound
+returns-in_err-add_quarter-clause-sound g c =
+    let p = err_from_is_err_and c.from_residual.result c.from_residual.ensures.1 in
+    rw (p.1, p.2) (λ points h. c.in_err-add_quarter.ensures.sound points (has_along _ _ c.args.tree.now c.args.layer.number c.args.layer.level c.args.layer.bucket points
+    c.loop-q.invariant.left.told h))
 
-pub returns-in-Ok-false-clause-none : goal.returns-in-Ok-false-clause-none
-returns-in-Ok-false-clause-none g c _ points p label h some way =
-    let o = c.in-Ok-false.ensures.other c.in-Ok-false.field-0-test in
+pub returns-then-not-branch-clause-none : goal.returns-then-not-branch-clause-none
+returns-then-not-branch-clause-none g c _ points p label h some way =
+    let o = c.in_ok-add_quarter.ensures.other c.if-not-branch.true in
     let are = c.quarters-q-items.ensures.value ∙ ap quarters_of c.requires.parent in
     let four = ap length are in
     let lt = c.loop-q-test.true in
@@ -77,27 +79,27 @@ loop-q-preserved g c =
           way_next c.args.layer.level c.args.layer.bucket points p label some c.args.leaf.now.block c.args.leaf.now.points.items way c.requires.inner
           c.quarters-q-items.result are c.loop-q.q-index (record { y = 0; x = 0; side = 0 }) c.loop-q-test.true c.loop-q.all.items
           c.add_quarter.new.all.items
-          (λ e. (c.in-Ok-true.ensures.leaf e).1)
-          (λ other. let a = c.in-Ok-true.ensures.added other c.in-Ok-true.field-0-test in (
+          (λ e. (c.in_ok-add_quarter.ensures.leaf e).1)
+          (λ other. let a = c.in_ok-add_quarter.ensures.added other c.if-not-branch.false in (
             a.0,
             a.1,
             a.2 points (has_along _ _ c.args.tree.now c.args.layer.number c.args.layer.level c.args.layer.bucket points
                 c.loop-q.invariant.left.told h),
           ))
           (c.loop-q.invariant.all points p label h some way);
-      pixels = c.in-Ok-true.ensures.pixels;
-      reads = times_next (6 + 3 * c.args.layer.bucket) c.loop-q.q-index _ _ _ c.loop-q.invariant.reads c.in-Ok-true.ensures.reads;
+      pixels = c.in_ok-add_quarter.ensures.pixels;
+      reads = times_next (6 + 3 * c.args.layer.bucket) c.loop-q.q-index _ _ _ c.loop-q.invariant.reads c.in_ok-add_quarter.ensures.reads;
       spared = λ j d lt e.
-          ⊎_elim (λ less. spared_next (6 + 3 * c.args.layer.bucket) c.loop-q.q-index _ _ _ (c.loop-q.invariant.spared j d less e) c.in-Ok-true.ensures.reads)
+          ⊎_elim (λ less. spared_next (6 + 3 * c.args.layer.bucket) c.loop-q.q-index _ _ _ (c.loop-q.invariant.spared j d less e) c.in_ok-add_quarter.ensures.reads)
           (λ ge.
           let at : j ≡ c.loop-q.q-index = omega arith in
           spares (6 + 3 * c.args.layer.bucket) c.loop-q.q-index _ _ _ c.loop-q.invariant.reads
-          (c.in-Ok-true.ensures.known (get_or_default c.quarters-q-items.result c.loop-q.q-index _ d (let four = ap length are in let lt = c.loop-q-test.true in omega arith)
+          (c.in_ok-add_quarter.ensures.known (get_or_default c.quarters-q-items.result c.loop-q.q-index _ d (let four = ap length are in let lt = c.loop-q-test.true in omega arith)
           ∙ ap (λ i. get_or c.quarters-q-items.result i d) (sym at) ∙ e)))
           (cases_lt j c.loop-q.q-index);
       few = (let four = ap length are in let lt = c.loop-q-test.true in omega arith);
-      spot = spot_along _ _ c.args.tree.now c.add_quarter.new.spot (sym c.loop-q.invariant.left.told) c.in-Ok-true.ensures.spot;
-      left = read_on _ g.met.S.PageStore.goes_on _ _ _ c.loop-q.invariant.left c.in-Ok-true.ensures.left;
+      spot = spot_along _ _ c.args.tree.now c.add_quarter.new.spot (sym c.loop-q.invariant.left.told) c.in_ok-add_quarter.ensures.spot;
+      left = read_on _ g.met.S.PageStore.goes_on _ _ _ c.loop-q.invariant.left c.in_ok-add_quarter.ensures.left;
     }
 
 pub returns-clause-all : goal.returns-clause-all
@@ -107,14 +109,16 @@ returns-clause-all g c points p label h some way =
     c.quarters-q-items.result (c.quarters-q-items.ensures.value ∙ ap quarters_of c.requires.parent) c.loop-q.q-index c.loop-q-test.false c.loop-q.all.items
     (c.loop-q.invariant.all points p label h some way))
 
-pub returns-in-Err-clause-left : goal.returns-in-Err-clause-left
-returns-in-Err-clause-left g c = only_reads_err _ (only_reads_then _ g.met.S.PageStore.goes_on _ _ _ c.loop-q.invariant.left c.in-Err.ensures.left)
+pub returns-in_err-add_quarter-clause-left : goal.returns-in_err-add_quarter-clause-left
+returns-in_err-add_quarter-clause-left g c =
+    let p = err_from_is_err_and c.from_residual.result c.from_residual.ensures.1 in
+    rw (p.1, p.2) (only_reads_err _ (only_reads_then _ g.met.S.PageStore.goes_on _ _ _ c.loop-q.invariant.left c.in_err-add_quarter.ensures.left))
 
-pub returns-in-Ok-false-clause-left : goal.returns-in-Ok-false-clause-left
-returns-in-Ok-false-clause-left g c = only_reads_ok _ (only_reads_then _ g.met.S.PageStore.goes_on _ _ _ c.loop-q.invariant.left c.in-Ok-false.ensures.left) _
+pub returns-then-not-branch-clause-left : goal.returns-then-not-branch-clause-left
+returns-then-not-branch-clause-left g c = only_reads_ok _ (only_reads_then _ g.met.S.PageStore.goes_on _ _ _ c.loop-q.invariant.left c.in_ok-add_quarter.ensures.left) _
 
-pub returns-in-Ok-false-clause-reads : goal.returns-in-Ok-false-clause-reads
-returns-in-Ok-false-clause-reads g c =
+pub returns-then-not-branch-clause-reads : goal.returns-then-not-branch-clause-reads
+returns-then-not-branch-clause-reads g c =
     let own = own_place c.args.layer.level c.args.leaf.now.block c.requires.block c.requires.inner (record { y = 0; x = 0; side = 0 }) in
     let are = c.quarters-q-items.ensures.value ∙ ap quarters_of c.requires.parent in
     let four = ap length are in
@@ -122,8 +126,8 @@ returns-in-Ok-false-clause-reads g c =
     let is = ap (λ (l : List Block). get_or l own.0 (record { y = 0; x = 0; side = 0 })) are ∙ own.2 in
     reads_more ((6 + 3 * c.args.layer.bucket) * 3) (18 + 9 * c.args.layer.bucket) _ _ (omega arith)
     (spared_here (6 + 3 * c.args.layer.bucket) c.loop-q.q-index own.0 _ _ _ own.1 (omega arith) c.loop-q.invariant.reads
-    (λ less. c.loop-q.invariant.spared own.0 _ less is) c.in-Ok-false.ensures.reads
-    (λ at. c.in-Ok-false.ensures.known (ap (λ i. get_or c.quarters-q-items.result i (record { y = 0; x = 0; side = 0 })) (sym at) ∙ is)))
+    (λ less. c.loop-q.invariant.spared own.0 _ less is) c.in_ok-add_quarter.ensures.reads
+    (λ at. c.in_ok-add_quarter.ensures.known (ap (λ i. get_or c.quarters-q-items.result i (record { y = 0; x = 0; side = 0 })) (sym at) ∙ is)))
 
 pub returns-clause-reads : goal.returns-clause-reads
 returns-clause-reads g c =

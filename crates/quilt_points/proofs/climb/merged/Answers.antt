@@ -27,44 +27,44 @@ joined-requires-clause-inner g c = inner_from c.args.layer.level c.args.leaf.now
 pub returns-then-not-are_few-clause-last : goal.returns-then-not-are_few-clause-last
 returns-then-not-are_few-clause-last g c _ points p label h some way =
     way_last c.args.layer.level c.args.layer.bucket points p label some c.args.leaf.now.block c.args.leaf.now.points.items way (λ lt.
-    way_many c.args.layer.level c.args.layer.bucket points p label some c.args.leaf.now.block c.args.leaf.now.points.items way lt c.in-Ok-Some.points.items
-    (subst (λ (b : Block). AreIn (finmap.remove points p) b (point_entries c.in-Ok-Some.points.items)) c.in-Some.ensures.value
-    (if_some_at c.in-Ok-Some.field-0 _ c.in-Ok-Some.points c.in-Ok-Some.field-0-is c.in-Ok-Some.ensures.all points p label h some way))
+    way_many c.args.layer.level c.args.layer.bucket points p label some c.args.leaf.now.block c.args.leaf.now.points.items way lt c.in-Some-2.points.items
+    (subst (λ (b : Block). AreIn (finmap.remove points p) b (point_entries c.in-Some-2.points.items)) c.in-Some.ensures.value
+    (if_some_at c.in_ok-points.field-0 _ c.in-Some-2.points c.in-Some-2.is c.in_ok-points.ensures.all points p label h some way))
     (subst (λ (l : List Point). c.args.layer.bucket < length l) c.deref.ensures.value (c.are_few.ensures.no c.if-not-are_few.true)))
 
-pub returns-in-Ok-None-clause-last : goal.returns-in-Ok-None-clause-last
-returns-in-Ok-None-clause-last g c _ points p label h some way =
+pub returns-in_default-2-clause-last : goal.returns-in_default-2-clause-last
+returns-in_default-2-clause-last g c _ points p label h some way =
     way_last c.args.layer.level c.args.layer.bucket points p label some c.args.leaf.now.block c.args.leaf.now.points.items way (λ lt.
     ap (holds_few c.args.layer.bucket (finmap.remove points p)) (sym c.in-Some.ensures.value)
-    ∙ c.in-Ok-None.ensures.none c.in-Ok-None.field-0-is points p label h some way)
+    ∙ c.in_ok-points.ensures.none c.in_default-2.is points p label h some way)
 
-pub returns-else-not-are_few-clause-up : goal.returns-else-not-are_few-clause-up
-returns-else-not-are_few-clause-up g c points p label h some way =
-    subst (λ (b : Block). IsOnWay c.args.layer.level c.args.layer.bucket points p b c.in-Ok-Some.points.items) (sym c.in-Some.ensures.value)
+pub returns-clause-up : goal.returns-clause-up
+returns-clause-up g c points p label h some way =
+    subst (λ (b : Block). IsOnWay c.args.layer.level c.args.layer.bucket points p b c.in-Some-2.points.items) (sym c.in-Some.ensures.value)
     (way_up c.args.layer.level c.args.layer.bucket points p label some c.args.leaf.now.block c.args.leaf.now.points.items way
-    (inner_from c.args.layer.level c.args.leaf.now.block c.requires.block (λ e. true_false (c.in-Some.ensures.whole.1 e))) c.in-Ok-Some.points.items
-    (subst (λ (b : Block). AreIn (finmap.remove points p) b (point_entries c.in-Ok-Some.points.items)) c.in-Some.ensures.value
-    (if_some_at c.in-Ok-Some.field-0 _ c.in-Ok-Some.points c.in-Ok-Some.field-0-is c.in-Ok-Some.ensures.all points p label h some way))
+    (inner_from c.args.layer.level c.args.leaf.now.block c.requires.block (λ e. true_false (c.in-Some.ensures.whole.1 e))) c.in-Some-2.points.items
+    (subst (λ (b : Block). AreIn (finmap.remove points p) b (point_entries c.in-Some-2.points.items)) c.in-Some.ensures.value
+    (if_some_at c.in_ok-points.field-0 _ c.in-Some-2.points c.in-Some-2.is c.in_ok-points.ensures.all points p label h some way))
     (subst (λ (l : List Point). length l ≤ c.args.layer.bucket) c.deref.ensures.value (c.are_few.ensures.yes c.if-not-are_few.false)))
 
-pub returns-else-not-are_few-clause-block : goal.returns-else-not-are_few-clause-block
-returns-else-not-are_few-clause-block g c = subst (IsBlock c.args.layer.level) (sym c.in-Some.ensures.value)
+pub returns-clause-block : goal.returns-clause-block
+returns-clause-block g c = subst (IsBlock c.args.layer.level) (sym c.in-Some.ensures.value)
     (IsBlock-parent_of c.args.layer.level c.args.leaf.now.block c.requires.block
     (inner_from c.args.layer.level c.args.leaf.now.block c.requires.block (λ e. true_false (c.in-Some.ensures.whole.1 e))))
 
 pub returns-in_default-clause-reads : goal.returns-in_default-clause-reads
 returns-in_default-clause-reads g c = reads_none (18 + 9 * c.args.layer.bucket) (g.S.PageStore.reads c.args.store.now)
 
-pub returns-else-not-are_few-clause-twice : goal.returns-else-not-are_few-clause-twice
-returns-else-not-are_few-clause-twice g c = ap (λ (b : Block). b.side) c.in-Some.ensures.value
+pub returns-clause-twice : goal.returns-clause-twice
+returns-clause-twice g c = ap (λ (b : Block). b.side) c.in-Some.ensures.value
 
-pub returns-in-Err-clause-top : goal.returns-in-Err-clause-top
-returns-in-Err-clause-top g c e =
+pub returns-in_err-points-clause-top : goal.returns-in_err-points-clause-top
+returns-in_err-points-clause-top g c e =
     let inner = inner_from c.args.layer.level c.args.leaf.now.block c.requires.block (λ e. true_false (c.in-Some.ensures.whole.1 e)) in
     absurd (omega arith)
 
-pub returns-in-Ok-None-clause-top : goal.returns-in-Ok-None-clause-top
-returns-in-Ok-None-clause-top g c e =
+pub returns-in_default-2-clause-top : goal.returns-in_default-2-clause-top
+returns-in_default-2-clause-top g c e =
     let inner = inner_from c.args.layer.level c.args.leaf.now.block c.requires.block (λ e. true_false (c.in-Some.ensures.whole.1 e)) in
     absurd (omega arith)
 
@@ -73,7 +73,7 @@ returns-then-not-are_few-clause-top g c e =
     let inner = inner_from c.args.layer.level c.args.leaf.now.block c.requires.block (λ e. true_false (c.in-Some.ensures.whole.1 e)) in
     absurd (omega arith)
 
-pub returns-else-not-are_few-clause-top : goal.returns-else-not-are_few-clause-top
-returns-else-not-are_few-clause-top g c e =
+pub returns-clause-top : goal.returns-clause-top
+returns-clause-top g c e =
     let inner = inner_from c.args.layer.level c.args.leaf.now.block c.requires.block (λ e. true_false (c.in-Some.ensures.whole.1 e)) in
     absurd (omega arith)

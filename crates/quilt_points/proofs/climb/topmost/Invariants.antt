@@ -9,11 +9,11 @@ use Rattle.quilt_points.specs.Layers.{HasPoints}
 use Rattle.quilt_points.specs.Climbing.{IsOnWay}
 use Rattle.quilt_points.proofs.climb.topmost.Given as goal
 
-abbrev pub decreases-climb : goal.decreases-climb
-decreases-climb g l = 4096 - l.top.block.side
+abbrev pub decreases-loop-top : goal.decreases-loop-top
+decreases-loop-top g l = 4096 - l.top.block.side
 
-abbrev pub invariant-climb : goal.invariant-climb
-invariant-climb g l = record {
+abbrev pub invariant-loop-top : goal.invariant-loop-top
+invariant-loop-top g l = record {
   way : (points : PointMap) (p : Pixel) (label : ℕ)
       → HasPoints (g.S.PageStore.told l.initial.store) l.tree l.layer.number l.layer.level l.layer.bucket points → finmap.get points p ≡ Some label
       → IsOnWay l.layer.level l.layer.bucket points p l.initial.top.block l.initial.top.points.items

@@ -1,5 +1,6 @@
 use Rattle.std.proofs.Common.{ℕ, ◌*◌, length, refl, ◌∙◌, arith}
 use Rattle.std.proofs.lemmas.List.{length-set}
+use Rattle.std.proofs.lemmas.Result.{err_from_is_err_and}
 use Rattle.quilt_store.proofs.Reading.{only_reads_then, only_reads_same, read_on, only_reads_err}
 use Rattle.quilt_types.specs.Quadtrees.{point_blocks}
 use Rattle.quilt_loc.proofs.Blocks.{Holds-from}
@@ -44,16 +45,17 @@ block_around-requires-clause-in_y g c =
     let at = c.pixel_of.ensures.value in
     (pixel_inside c.args.level c.pixel_of.result c.requires.level.1 c.pixel_of.ensures.in_x c.pixel_of.ensures.in_y (omega arith)).1
 
-pub returns-in-Err-clause-sound : goal.returns-in-Err-clause-sound
-returns-in-Err-clause-sound g c points h =
-    c.in-Err.ensures.sound points (has_along _ _ c.args.tree.now c.args.layer c.args.level c.args.bucket points c.loop-code.invariant.left.told h)
+pub returns-in_err-b-clause-sound : goal.returns-in_err-b-clause-sound
+returns-in_err-b-clause-sound g c =
+    let p = err_from_is_err_and c.from_residual.result c.from_residual.ensures.1 in
+    rw (p.1, p.2) (λ points h. c.in_err-b.ensures.sound points (has_along _ _ c.args.tree.now c.args.layer c.args.level c.args.bucket points c.loop-code.invariant.left.told h))
 
 pub loop-code-preserved : goal.loop-code-preserved
 loop-code-preserved g c =
     let long = c.loop-code.invariant.long in
     let small = c.exponent_of.ensures.most in
-    let held = code_held c.args.level c.in-Ok.b c.pixel_of.result c.in-Ok.ensures.block c.requires.level.1
-    (Holds-from c.in-Ok.b c.pixel_of.result c.in-Ok.ensures.holds) in
+    let held = code_held c.args.level c.in_ok-b.b c.pixel_of.result c.in_ok-b.ensures.block c.requires.level.1
+    (Holds-from c.in_ok-b.b c.pixel_of.result c.in_ok-b.ensures.holds) in
     let under = held.1 in
     let at = c.pixel_of.ensures.value in
     let to = c.end_of-code.ensures.value in
@@ -63,15 +65,15 @@ loop-code-preserved g c =
           (omega arith) (omega arith);
       seen = λ points h.
           let s = c.loop-code.invariant.seen points h in
-          let read = c.in-Ok.ensures.read points (has_along _ _ c.args.tree.now c.args.layer c.args.level c.args.bucket points
+          let read = c.in_ok-b.ensures.read points (has_along _ _ c.args.tree.now c.args.layer c.args.level c.args.bucket points
           c.loop-code.invariant.left.told h) in
           let more =
-          seen_next c.args.level c.args.bucket points c.requires.level.1 c.loop-code.code c.loop-code.counts s.0 c.pixel_of.result c.in-Ok.b
-          c.exponent_of.result c.end_of-code.result to read.block (Holds-from c.in-Ok.b c.pixel_of.result c.in-Ok.ensures.holds) at small
+          seen_next c.args.level c.args.bucket points c.requires.level.1 c.loop-code.code c.loop-code.counts s.0 c.pixel_of.result c.in_ok-b.b
+          c.exponent_of.result c.end_of-code.result to read.block (Holds-from c.in_ok-b.b c.pixel_of.result c.in_ok-b.ensures.holds) at small
           c.exponent_of.ensures.value long in
           let length_is = more.1 in
-          (more.0, tells_more (6 * length (s.0).blocks) 6 _ _ _ _ (omega arith) s.1 c.in-Ok.ensures.reads);
-      left = read_on _ g.met.S.PageStore.goes_on _ _ _ c.loop-code.invariant.left c.in-Ok.ensures.left;
+          (more.0, tells_more (6 * length (s.0).blocks) 6 _ _ _ _ (omega arith) s.1 c.in_ok-b.ensures.reads);
+      left = read_on _ g.met.S.PageStore.goes_on _ _ _ c.loop-code.invariant.left c.in_ok-b.ensures.left;
     }
 
 pub returns-clause-counts : goal.returns-clause-counts
@@ -90,5 +92,7 @@ returns-clause-reads g c points h =
     let few = few_seen c.args.level c.args.bucket points c.requires.level.1 c.loop-code.code c.loop-code.counts s.0 in
     tells_less (6 * length (s.0).blocks) (6 * length (point_blocks c.args.level c.args.bucket points)) _ _ (omega arith) s.1
 
-pub returns-in-Err-clause-left : goal.returns-in-Err-clause-left
-returns-in-Err-clause-left g c = only_reads_err _ (only_reads_then _ g.met.S.PageStore.goes_on _ _ _ c.loop-code.invariant.left c.in-Err.ensures.left)
+pub returns-in_err-b-clause-left : goal.returns-in_err-b-clause-left
+returns-in_err-b-clause-left g c =
+    let p = err_from_is_err_and c.from_residual.result c.from_residual.ensures.1 in
+    rw (p.1, p.2) (only_reads_err _ (only_reads_then _ g.met.S.PageStore.goes_on _ _ _ c.loop-code.invariant.left c.in_err-b.ensures.left))

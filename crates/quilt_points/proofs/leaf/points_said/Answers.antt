@@ -1,5 +1,6 @@
 use Rattle.std.proofs.Common.{List, [], length, take, sym, ap, subst, arith, eqb-true}
 use Rattle.std.proofs.lemmas.List.{take_all}
+use Rattle.std.proofs.lemmas.Result.{err_from_is_err_and}
 use Rattle.quilt_record.specs.declared.record.Record.{Record}
 use Rattle.quilt_points.specs.Reads.{AreSaid}
 use Rattle.quilt_edits.proofs.Lists.{member_at, take_next}
@@ -19,15 +20,16 @@ loop-r-init c = record {
   pixels = λ k d lt. let none = ap length c.new-points.ensures.items in absurd (omega arith);
 }
 
-pub returns-in-Err-clause-sound : goal.returns-in-Err-clause-sound
-returns-in-Err-clause-sound c points valid rows =
-    let w = row_there c.args.layer.level c.args.layer.bucket c.args.layer.number points c.args.b c.args.layer.has_number.0 c.args.layer.has_number.1
+pub returns-in_err-add_point-clause-sound : goal.returns-in_err-add_point-clause-sound
+returns-in_err-add_point-clause-sound c =
+    let p = err_from_is_err_and c.from_residual.result c.from_residual.ensures.1 in
+    rw (p.1, p.2) (λ points valid rows. let w = row_there c.args.layer.level c.args.layer.bucket c.args.layer.number points c.args.b c.args.layer.has_number.0 c.args.layer.has_number.1
     valid c.args.records.now rows _ (member_at c.args.records.now c.loop-r.r-index _ c.loop-r-test.true) in
-    c.in-Err.ensures.sound w.0 w.1
+    c.in_err-add_point.ensures.sound w.0 w.1)
 
 pub loop-r-preserved : goal.loop-r-preserved
 loop-r-preserved c =
-    let h = c.in-Ok.ensures.added in
+    let h = c.in_ok-add_point.ensures.added in
     record {
       said =
           subst (λ (seen : List Record). AreSaid c.args.layer.level c.args.layer.bucket c.args.layer.number c.args.b seen
@@ -41,7 +43,7 @@ loop-r-preserved c =
         there = member_at c.args.records.now c.loop-r.r-index (record { key = record { layer = 0; part = 0; code = 0; depth = 0; item = 0 }; value = [] }) c.loop-r-test.true;
         is_row = h.1;
       };
-      pixels = c.in-Ok.ensures.pixels c.loop-r.invariant.pixels;
+      pixels = c.in_ok-add_point.ensures.pixels c.loop-r.invariant.pixels;
     }
 
 pub returns-clause-read : goal.returns-clause-read

@@ -1,25 +1,27 @@
 use Rattle.std.proofs.Common.{◌∙◌, ap}
-use Rattle.std.proofs.lemmas.Result.{IfOk-weaker, IfErr-weaker}
+use Rattle.std.proofs.lemmas.Result.{IfOk-weaker, IfErr-weaker, err_from_is_err_and}
 use Rattle.quilt_record.specs.declared.key.Key.{Key}
 use Rattle.quilt_btree.specs.Lists.{floor_of}
 use Rattle.quilt_points.proofs.lookup.block_around.Goals as goal
 
-pub returns-in-Err-clause-sound : goal.returns-in-Err-clause-sound
-returns-in-Err-clause-sound g c points h = c.in-Err.ensures.sound h.records h.tree
+pub returns-in_err-found-clause-sound : goal.returns-in_err-found-clause-sound
+returns-in_err-found-clause-sound g c =
+    let p = err_from_is_err_and c.from_residual.result c.from_residual.ensures.1 in
+    rw (p.1, p.2) (λ points h. c.in_err-found.ensures.sound h.records h.tree)
 
-pub returns-in-Ok-clause-read : goal.returns-in-Ok-clause-read
-returns-in-Ok-clause-read g c =
+pub returns-clause-read : goal.returns-clause-read
+returns-clause-read g c =
     IfOk-weaker c.block_said.result _ _
     (λ v f points h. f (g.S.PageStore.told c.args.store.now) c.args.tree.now points
-    (λ rs is. c.in-Ok.ensures.floor rs is ∙ ap (λ (k : Key). floor_of k rs) c.key_behind-k.ensures) h) c.block_said.ensures.read
+    (λ rs is. c.in_ok-found.ensures.floor rs is ∙ ap (λ (k : Key). floor_of k rs) c.key_behind-k.ensures) h) c.block_said.ensures.read
 
-pub returns-in-Ok-clause-row : goal.returns-in-Ok-clause-row
-returns-in-Ok-clause-row g c =
+pub returns-clause-row : goal.returns-clause-row
+returns-clause-row g c =
     IfOk-weaker c.block_said.result _ _
-    (λ v f rs is. f rs (c.in-Ok.ensures.floor rs is ∙ ap (λ (k : Key). floor_of k rs) c.key_behind-k.ensures)) c.block_said.ensures.row
+    (λ v f rs is. f rs (c.in_ok-found.ensures.floor rs is ∙ ap (λ (k : Key). floor_of k rs) c.key_behind-k.ensures)) c.block_said.ensures.row
 
-pub returns-in-Ok-clause-sound : goal.returns-in-Ok-clause-sound
-returns-in-Ok-clause-sound g c =
+pub returns-clause-sound : goal.returns-clause-sound
+returns-clause-sound g c =
     IfErr-weaker c.block_said.result _ _
     (λ v f points h. f (g.S.PageStore.told c.args.store.now) c.args.tree.now points
-    (λ rs is. c.in-Ok.ensures.floor rs is ∙ ap (λ (k : Key). floor_of k rs) c.key_behind-k.ensures) h) c.block_said.ensures.sound
+    (λ rs is. c.in_ok-found.ensures.floor rs is ∙ ap (λ (k : Key). floor_of k rs) c.key_behind-k.ensures) h) c.block_said.ensures.sound

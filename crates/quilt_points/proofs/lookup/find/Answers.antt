@@ -7,24 +7,24 @@ use Rattle.quilt_points.proofs.lookup.find.Goals as goal
 
 pub returns-then-bucket-eq1-clause-label : goal.returns-then-bucket-eq1-clause-label
 returns-then-bucket-eq1-clause-label g c points h =
-    c.label_of.ensures ∙ one_found_at c.args.level points c.in-Ok.b c.args.at c.in-Ok.ensures.holds c.args.bucket c.in-Ok.held c.if-bucket-eq1.true
-    (c.in-Ok.ensures.read points h)
+    c.label_of.ensures ∙ one_found_at c.args.level points c.in_ok-b.b c.args.at c.in_ok-b.ensures.holds c.args.bucket c.in_ok-b.held c.if-bucket-eq1.true
+    (c.in_ok-b.ensures.read points h)
 
 pub returns-else-bucket-eq1-clause-sound : goal.returns-else-bucket-eq1-clause-sound
 returns-else-bucket-eq1-clause-sound g c =
     IfErr-weaker c.label_in.result _ _
-    (λ e f points h. f points (has_along _ _ c.args.tree.now c.args.layer c.args.level c.args.bucket points c.in-Ok.ensures.left.told h)
-    (c.in-Ok.ensures.read points h).block c.in-Ok.ensures.holds) c.label_in.ensures.sound
+    (λ e f points h. f points (has_along _ _ c.args.tree.now c.args.layer c.args.level c.args.bucket points c.in_ok-b.ensures.left.told h)
+    (c.in_ok-b.ensures.read points h).block c.in_ok-b.ensures.holds) c.label_in.ensures.sound
 
 pub returns-else-bucket-eq1-clause-left : goal.returns-else-bucket-eq1-clause-left
-returns-else-bucket-eq1-clause-left g c = only_reads_then _ g.met.S.PageStore.goes_on _ _ _ c.in-Ok.ensures.left c.label_in.ensures.left
+returns-else-bucket-eq1-clause-left g c = only_reads_then _ g.met.S.PageStore.goes_on _ _ _ c.in_ok-b.ensures.left c.label_in.ensures.left
 
 pub returns-then-bucket-eq1-clause-answered : goal.returns-then-bucket-eq1-clause-answered
 returns-then-bucket-eq1-clause-answered g c rs is = record {
-  block = c.in-Ok.b;
-  held = c.in-Ok.held;
-  there = c.in-Ok.ensures.row rs is;
-  holds = c.in-Ok.ensures.holds;
+  block = c.in_ok-b.b;
+  held = c.in_ok-b.held;
+  there = c.in_ok-b.ensures.row rs is;
+  holds = c.in_ok-b.ensures.holds;
   one = λ e. c.label_of.ensures;
   more = λ lt. let one = c.if-bucket-eq1.true in absurd (omega arith);
 }
@@ -32,10 +32,10 @@ returns-then-bucket-eq1-clause-answered g c rs is = record {
 pub returns-else-bucket-eq1-clause-answered : goal.returns-else-bucket-eq1-clause-answered
 returns-else-bucket-eq1-clause-answered g c =
     IfOk-weaker c.label_in.result _ _ (λ label f rs is. record {
-      block = c.in-Ok.b;
-      held = c.in-Ok.held;
-      there = c.in-Ok.ensures.row rs is;
-      holds = c.in-Ok.ensures.holds;
+      block = c.in_ok-b.b;
+      held = c.in_ok-b.held;
+      there = c.in_ok-b.ensures.row rs is;
+      holds = c.in_ok-b.ensures.holds;
       one = λ e. absurd (c.if-bucket-eq1.false e);
-      more = λ lt. f rs (subst (λ (o : Option (List (List ℕ))). IsTree o c.args.tree.now rs) (sym c.in-Ok.ensures.left.told) is);
+      more = λ lt. f rs (subst (λ (o : Option (List (List ℕ))). IsTree o c.args.tree.now rs) (sym c.in_ok-b.ensures.left.told) is);
     }) c.label_in.ensures.answered

@@ -6,26 +6,26 @@ use Rattle.quilt_points.proofs.Finds.{if_some_weaker}
 use Rattle.quilt_points.proofs.Bounds.{if_ok_of}
 use Rattle.quilt_points.proofs.plan.plan_put.Goals as goal
 
-pub returns-in-Ok-clause-plan : goal.returns-in-Ok-clause-plan
-returns-in-Ok-clause-plan g c =
+pub returns-clause-plan : goal.returns-clause-plan
+returns-clause-plan g c =
     IfOk-weaker c.put_into.result _ _
     (λ o f. if_some_weaker o _ _
     (λ edits k points h. k points h.spelled.valid
-    (subst (λ (held : List Point). IsHeld c.args.level c.args.bucket points c.in-Ok.leaf.block held) (sym c.deref.ensures.value)
-    (c.in-Ok.ensures.read points h)) c.in-Ok.ensures.holds) f) c.put_into.ensures.plan
+    (subst (λ (held : List Point). IsHeld c.args.level c.args.bucket points c.in_ok-leaf.leaf.block held) (sym c.deref.ensures.value)
+    (c.in_ok-leaf.ensures.read points h)) c.in_ok-leaf.ensures.holds) f) c.put_into.ensures.plan
 
-pub returns-in-Ok-clause-none : goal.returns-in-Ok-clause-none
-returns-in-Ok-clause-none g c =
+pub returns-clause-none : goal.returns-clause-none
+returns-clause-none g c =
     IfOk-weaker c.put_into.result _ _
-    (λ o f points h. f points (subst (λ (held : List Point). IsHeld c.args.level c.args.bucket points c.in-Ok.leaf.block held)
-    (sym c.deref.ensures.value) (c.in-Ok.ensures.read points h)) c.in-Ok.ensures.holds) c.put_into.ensures.none
+    (λ o f points h. f points (subst (λ (held : List Point). IsHeld c.args.level c.args.bucket points c.in_ok-leaf.leaf.block held)
+    (sym c.deref.ensures.value) (c.in_ok-leaf.ensures.read points h)) c.in_ok-leaf.ensures.holds) c.put_into.ensures.none
 
-pub returns-in-Ok-clause-sound : goal.returns-in-Ok-clause-sound
-returns-in-Ok-clause-sound g c =
+pub returns-clause-sound : goal.returns-clause-sound
+returns-clause-sound g c =
     IfErr-weaker c.put_into.result _ _
     (λ e f points h. f points h.spelled.valid
-    (subst (λ (held : List Point). IsHeld c.args.level c.args.bucket points c.in-Ok.leaf.block held) (sym c.deref.ensures.value)
-    (c.in-Ok.ensures.read points h)) c.in-Ok.ensures.holds) c.put_into.ensures.sound
+    (subst (λ (held : List Point). IsHeld c.args.level c.args.bucket points c.in_ok-leaf.leaf.block held) (sym c.deref.ensures.value)
+    (c.in_ok-leaf.ensures.read points h)) c.in_ok-leaf.ensures.holds) c.put_into.ensures.sound
 
-pub returns-in-Ok-clause-reads : goal.returns-in-Ok-clause-reads
-returns-in-Ok-clause-reads g c = if_ok_of c.put_into.result c.in-Ok.ensures.reads
+pub returns-clause-reads : goal.returns-clause-reads
+returns-clause-reads g c = if_ok_of c.put_into.result c.in_ok-leaf.ensures.reads

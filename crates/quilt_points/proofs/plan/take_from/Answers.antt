@@ -1,5 +1,5 @@
 use Rattle.std.proofs.Common.{◌≡◌, true, not, List, filter, All, sym, ◌∙◌, ap, subst}
-use Rattle.std.proofs.lemmas.Result.{IfOk-weaker, IfErr-weaker}
+use Rattle.std.proofs.lemmas.Result.{IfOk-weaker, IfErr-weaker, err_from_is_err_and}
 use Rattle.std.proofs.lemmas.List.Elements.{All-filter}
 use Rattle.quilt_types.specs.declared.plane.Point.{Point}
 use Rattle.quilt_types.specs.Plane.{is_pixel}
@@ -16,19 +16,21 @@ topmost-requires-clause-pixels g c =
     (All-filter (λ (q : Point). not (same_pixel q.at c.args.p.at)) (λ (p : Point). is_pixel c.args.layer.level p.at ≡ true)
     c.args.leaf.points.items c.requires.pixels)
 
-pub returns-in-Err-topmost-clause-sound : goal.returns-in-Err-topmost-clause-sound
-returns-in-Err-topmost-clause-sound g c points h is on some = c.in-Err-topmost.ensures.sound points h
+pub returns-in_err-top-clause-sound : goal.returns-in_err-top-clause-sound
+returns-in_err-top-clause-sound g c =
+    let p = err_from_is_err_and c.from_residual.result c.from_residual.ensures.1 in
+    rw (p.1, p.2) (λ points h is on some. c.in_err-top.ensures.sound points h)
 
 pub returns-clause-plan : goal.returns-clause-plan
 returns-clause-plan g c =
     let others_is = c.in-Ok.ensures ∙ ap (filter (λ (q : Point). not (same_pixel q.at c.args.p.at))) c.deref.ensures.value in
     IfOk-weaker c.take_out.result _ _ (λ edits f points h is on some. f points h.spelled.valid some
-    (subst (λ (held : List Point). IsOnWay c.args.layer.level c.args.layer.bucket points c.args.p.at c.in-Ok-topmost.top.block held)
-    (sym c.deref-in-Ok-topmost.ensures.value)
-    (c.in-Ok-topmost.ensures.top points c.args.p.at c.args.p.label h some
+    (subst (λ (held : List Point). IsOnWay c.args.layer.level c.args.layer.bucket points c.args.p.at c.in_ok-top.top.block held)
+    (sym c.deref-2.ensures.value)
+    (c.in_ok-top.ensures.top points c.args.p.at c.args.p.label h some
     (way_first points c.args.p.at c.args.p.label some c.args.layer.level c.args.layer.bucket c.args.leaf.block c.args.leaf.points.items is on
     c.in-Ok.points.items others_is)))
-    (c.in-Ok-topmost.ensures.last points c.args.p.at c.args.p.label h some
+    (c.in_ok-top.ensures.last points c.args.p.at c.args.p.label h some
     (way_first points c.args.p.at c.args.p.label some c.args.layer.level c.args.layer.bucket c.args.leaf.block c.args.leaf.points.items is on
     c.in-Ok.points.items others_is))) c.take_out.ensures.plan
 
@@ -36,14 +38,14 @@ pub returns-clause-sound : goal.returns-clause-sound
 returns-clause-sound g c =
     let others_is = c.in-Ok.ensures ∙ ap (filter (λ (q : Point). not (same_pixel q.at c.args.p.at))) c.deref.ensures.value in
     IfErr-weaker c.take_out.result _ _ (λ e f points h is on some. f points h.spelled.valid some
-    (subst (λ (held : List Point). IsOnWay c.args.layer.level c.args.layer.bucket points c.args.p.at c.in-Ok-topmost.top.block held)
-    (sym c.deref-in-Ok-topmost.ensures.value)
-    (c.in-Ok-topmost.ensures.top points c.args.p.at c.args.p.label h some
+    (subst (λ (held : List Point). IsOnWay c.args.layer.level c.args.layer.bucket points c.args.p.at c.in_ok-top.top.block held)
+    (sym c.deref-2.ensures.value)
+    (c.in_ok-top.ensures.top points c.args.p.at c.args.p.label h some
     (way_first points c.args.p.at c.args.p.label some c.args.layer.level c.args.layer.bucket c.args.leaf.block c.args.leaf.points.items is on
     c.in-Ok.points.items others_is)))
-    (c.in-Ok-topmost.ensures.last points c.args.p.at c.args.p.label h some
+    (c.in_ok-top.ensures.last points c.args.p.at c.args.p.label h some
     (way_first points c.args.p.at c.args.p.label some c.args.layer.level c.args.layer.bucket c.args.leaf.block c.args.leaf.points.items is on
     c.in-Ok.points.items others_is))) c.take_out.ensures.sound
 
 pub returns-clause-reads : goal.returns-clause-reads
-returns-clause-reads g c = if_ok_of c.take_out.result c.in-Ok-topmost.ensures.reads
+returns-clause-reads g c = if_ok_of c.take_out.result c.in_ok-top.ensures.reads

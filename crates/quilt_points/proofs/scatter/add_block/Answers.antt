@@ -11,7 +11,7 @@ use Rattle.quilt_points.proofs.plans.Scatters.{some_taken, taken_inside, left_ou
 use Rattle.quilt_points.proofs.scatter.add_block.Goals as goal
 
 pub end_of-requires : goal.end_of-requires
-end_of-requires g c = IsBlock-up c.args.layer.level 12 c.in-Ok.leaf.block c.args.layer.has_level.1 c.in-Ok.ensures.block
+end_of-requires g c = IsBlock-up c.args.layer.level 12 c.in_ok-leaf.leaf.block c.args.layer.has_level.1 c.in_ok-leaf.ensures.block
 
 pub count_before-count-requires : goal.count_before-count-requires
 count_before-count-requires g c = pixels_up c.args.layer.level c.args.layer.has_level.1 c.args.news.now c.requires.pixels
@@ -21,14 +21,14 @@ returns-then-has_common-clause-taken g c _ old h =
     let w = c.has_common.ensures.yes c.if-has_common.true in (
       w.0,
       taken_there c.args.news.now c.count_before-count.result w.0 w.2,
-      taken_from old c.in-Ok.leaf.block c.in-Ok.leaf.points.items (w.0).at (c.in-Ok.ensures.read old h).are w.1
+      taken_from old c.in_ok-leaf.leaf.block c.in_ok-leaf.leaf.points.items (w.0).at (c.in_ok-leaf.ensures.read old h).are w.1
           (subst (λ (l : List Point). Contains l w.1) c.deref.ensures.value w.3) w.4,
     )
 
 pub returns-clause-count : goal.returns-clause-count
 returns-clause-count g c = (
-  some_taken c.args.layer.level c.args.layer.has_level.1 c.args.news.now c.requires.order c.requires.pixels c.in-Ok.leaf.block
-      c.in-Ok.ensures.block _ c.in-Ok.ensures.holds c.end_of.result c.end_of.ensures.value c.count_before-count.result
+  some_taken c.args.layer.level c.args.layer.has_level.1 c.args.news.now c.requires.order c.requires.pixels c.in_ok-leaf.leaf.block
+      c.in_ok-leaf.ensures.block _ c.in_ok-leaf.ensures.holds c.end_of.result c.end_of.ensures.value c.count_before-count.result
       c.count_before-count.ensures.most c.count_before-count.ensures.before c.count_before-count.ensures.behind
       c.requires.some,
   c.count_before-count.ensures.most,
@@ -36,29 +36,29 @@ returns-clause-count g c = (
 
 pub returns-clause-added : goal.returns-clause-added
 returns-clause-added g c old h =
-    let is = c.in-Ok.ensures.read old h in
-    let inside = taken_inside c.args.layer.level c.args.layer.has_level.1 c.args.news.now c.requires.order c.requires.pixels c.in-Ok.leaf.block
-    c.in-Ok.ensures.block _ c.in-Ok.ensures.holds c.end_of.result c.end_of.ensures.value c.count_before-count.result
+    let is = c.in_ok-leaf.ensures.read old h in
+    let inside = taken_inside c.args.layer.level c.args.layer.has_level.1 c.args.news.now c.requires.order c.requires.pixels c.in_ok-leaf.leaf.block
+    c.in_ok-leaf.ensures.block _ c.in_ok-leaf.ensures.holds c.end_of.result c.end_of.ensures.value c.count_before-count.result
     c.count_before-count.ensures.most c.count_before-count.ensures.before c.count_before-count.ensures.behind in
     record {
-      block = c.in-Ok.leaf.block;
-      held = c.in-Ok.leaf.points.items;
+      block = c.in_ok-leaf.leaf.block;
+      held = c.in_ok-leaf.leaf.points.items;
       is = is;
       inside = inside;
-      outside = left_outside c.args.layer.level c.args.layer.has_level.1 c.args.news.now c.requires.order c.requires.pixels c.in-Ok.leaf.block
-          c.in-Ok.ensures.block _ c.in-Ok.ensures.holds c.end_of.result c.end_of.ensures.value c.count_before-count.result
+      outside = left_outside c.args.layer.level c.args.layer.has_level.1 c.args.news.now c.requires.order c.requires.pixels c.in_ok-leaf.leaf.block
+          c.in_ok-leaf.ensures.block _ c.in_ok-leaf.ensures.holds c.end_of.result c.end_of.ensures.value c.count_before-count.result
           c.count_before-count.ensures.most c.count_before-count.ensures.before c.count_before-count.ensures.behind;
       free = λ p cp.
-          free_from c.args.layer.level c.args.layer.bucket old c.in-Ok.leaf.block c.in-Ok.leaf.points.items p.at is.are (inside p cp)
+          free_from c.args.layer.level c.args.layer.bucket old c.in_ok-leaf.leaf.block c.in_ok-leaf.leaf.points.items p.at is.are (inside p cp)
           (λ q cq e. c.has_common.ensures.no c.if-has_common.false p q cp (subst (λ (l : List Point). Contains l q) (sym c.deref.ensures.value) cq) e);
-      gone = c.in-Ok-add_delta.ensures.without
+      gone = c.in-Ok.ensures.without
           ∙ ap (λ (l : List Point). c.args.delta.now.without.items ++ map (block_record c.args.layer.level c.args.layer.bucket c.args.layer.number)
-          (gone_of c.args.layer.bucket c.in-Ok.leaf.block (point_entries l) (point_entries (take c.count_before-count.result c.args.news.now))))
-          c.deref-in-Ok.ensures.value;
-      come = c.in-Ok-add_delta.ensures.with (c.args.layer.level - depth c.args.layer.level c.in-Ok.leaf.block)
-          (level_is c.args.layer.level c.in-Ok.leaf.block c.in-Ok.ensures.block)
+          (gone_of c.args.layer.bucket c.in_ok-leaf.leaf.block (point_entries l) (point_entries (take c.count_before-count.result c.args.news.now))))
+          c.deref-2.ensures.value;
+      come = c.in-Ok.ensures.with (c.args.layer.level - depth c.args.layer.level c.in_ok-leaf.leaf.block)
+          (level_is c.args.layer.level c.in_ok-leaf.leaf.block c.in_ok-leaf.ensures.block)
           ∙ ap (λ (l : List Point). c.args.delta.now.with.items ++ map (block_record c.args.layer.level c.args.layer.bucket c.args.layer.number)
-          (come_of c.args.layer.bucket (c.args.layer.level - depth c.args.layer.level c.in-Ok.leaf.block) c.in-Ok.leaf.block (point_entries l)
+          (come_of c.args.layer.bucket (c.args.layer.level - depth c.args.layer.level c.in_ok-leaf.leaf.block) c.in_ok-leaf.leaf.block (point_entries l)
           (point_entries (take c.count_before-count.result c.args.news.now))))
-          c.deref-in-Ok.ensures.value;
+          c.deref-2.ensures.value;
     }

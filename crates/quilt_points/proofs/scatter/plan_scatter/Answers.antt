@@ -2,6 +2,7 @@ use Rattle.std.proofs.Common.{◌≡◌, ℕ, ◌+◌, ◌*◌, ◌<◌, ◌≤�
 use Rattle.std.specs.FinMap as finmap
 use Rattle.std.specs.List.Sorted.{IsPermutation}
 use Rattle.std.proofs.lemmas.List.Sorted.{All-permutation, length_permutation}
+use Rattle.std.proofs.lemmas.Result.{err_from_is_err_and}
 use Rattle.quilt_world.specs.Tale.{Goes}
 use Rattle.quilt_world.proofs.ReadCounts.{reads_none}
 use Rattle.quilt_types.specs.declared.plane.Point.{Point}
@@ -25,10 +26,10 @@ grown-requires-clause-pixels g c =
     (subst (λ (l : List Point). IsPermutation l c.in-Ok-Some.news.items) c.items.ensures
     (if_some_at c.in-Ok-Some.field-0 _ c.in-Ok-Some.news c.in-Ok-Some.field-0-is c.in-Ok-Some.ensures.same)) c.requires.pixels)
 
-pub returns-in-Ok-None-grown-clause-none : goal.returns-in-Ok-None-grown-clause-none
-returns-in-Ok-None-grown-clause-none g c old h = (
+pub returns-in_default-clause-none : goal.returns-in_default-clause-none
+returns-in_default-clause-none g c old h = (
   λ _ new.
-      let w = c.in-Ok-None-grown.ensures.taken c.in-Ok-None-grown.field-0-is old h in
+      let w = c.in_ok-delta.ensures.taken c.in_default.is old h in
       let perm =
       (subst (λ (l : List Point). IsPermutation l c.in-Ok-Some.news.items) c.items.ensures
       (if_some_at c.in-Ok-Some.field-0 _ c.in-Ok-Some.news c.in-Ok-Some.field-0-is c.in-Ok-Some.ensures.same)) in
@@ -38,9 +39,10 @@ returns-in-Ok-None-grown-clause-none g c old h = (
   λ _. refl,
 )
 
-pub returns-in-Err-edits_of-clause-sound : goal.returns-in-Err-edits_of-clause-sound
-returns-in-Err-edits_of-clause-sound g c old h =
-    memory_sound c.in-Err-edits_of.e (c.in-Err-edits_of.ensures.memory
+pub returns-in_err-edits-clause-sound : goal.returns-in_err-edits-clause-sound
+returns-in_err-edits-clause-sound g c =
+    let p = err_from_is_err_and c.from_residual-in_err-edits.result c.from_residual-in_err-edits.ensures.1 in
+    rw (p.1, p.2) (λ old h. memory_sound c.in_err-edits.field-0.0 (c.in_err-edits.ensures.memory
     (scatter_can c.args.level c.args.bucket c.args.layer c.requires.level.1 c.requires.layer (let f = c.ranges.layer.fits in
     omega arith) old h.spelled.valid c.args.points.now c.in-Ok-Some.news.items
     (subst (λ (l : List Point). IsPermutation l c.in-Ok-Some.news.items) c.items.ensures
@@ -48,10 +50,10 @@ returns-in-Err-edits_of-clause-sound g c old h =
     (if_some_at c.in-Ok-Some.field-0 _ c.in-Ok-Some.news c.in-Ok-Some.field-0-is c.in-Ok-Some.ensures.order) c.requires.pixels
     (subst (All (λ (p : Point). p.label < 2 ^ 32)) c.items.ensures
     (if_some_at c.in-Ok-Some.field-0 _ c.in-Ok-Some.news c.in-Ok-Some.field-0-is c.in-Ok-Some.ensures.labels))
-    c.in-Ok-Some-grown.delta.without.items c.in-Ok-Some-grown.delta.with.items
+    c.in-Some.delta.without.items c.in-Some.delta.with.items
     (subst (λ (l : List Point). IsGrown c.args.level c.args.layer c.args.bucket old l
-    [] c.in-Ok-Some-grown.delta.without.items c.in-Ok-Some-grown.delta.with.items) c.deref.ensures.value
-    (if_some_at c.in-Ok-Some-grown.field-0 _ c.in-Ok-Some-grown.delta c.in-Ok-Some-grown.field-0-is c.in-Ok-Some-grown.ensures.grown old h))))
+    [] c.in-Some.delta.without.items c.in-Some.delta.with.items) c.deref.ensures.value
+    (if_some_at c.in_ok-delta.field-0 _ c.in-Some.delta c.in-Some.is c.in_ok-delta.ensures.grown old h)))))
 
 pub returns-clause-plan : goal.returns-clause-plan
 returns-clause-plan g c old h =
@@ -62,11 +64,11 @@ returns-clause-plan g c old h =
     (if_some_at c.in-Ok-Some.field-0 _ c.in-Ok-Some.news c.in-Ok-Some.field-0-is c.in-Ok-Some.ensures.order) c.requires.pixels
     (subst (All (λ (p : Point). p.label < 2 ^ 32)) c.items.ensures
     (if_some_at c.in-Ok-Some.field-0 _ c.in-Ok-Some.news c.in-Ok-Some.field-0-is c.in-Ok-Some.ensures.labels))
-    c.in-Ok-Some-grown.delta.without.items c.in-Ok-Some-grown.delta.with.items
+    c.in-Some.delta.without.items c.in-Some.delta.with.items
     (subst (λ (l : List Point). IsGrown c.args.level c.args.layer c.args.bucket old l
-    [] c.in-Ok-Some-grown.delta.without.items c.in-Ok-Some-grown.delta.with.items) c.deref.ensures.value
-    (if_some_at c.in-Ok-Some-grown.field-0 _ c.in-Ok-Some-grown.delta c.in-Ok-Some-grown.field-0-is c.in-Ok-Some-grown.ensures.grown old h))
-    c.in-Ok.edits c.in-Ok.ensures.remove c.in-Ok.ensures.add
+    [] c.in-Some.delta.without.items c.in-Some.delta.with.items) c.deref.ensures.value
+    (if_some_at c.in_ok-delta.field-0 _ c.in-Some.delta c.in-Some.is c.in_ok-delta.ensures.grown old h))
+    c.in_ok-edits.edits c.in_ok-edits.ensures.remove c.in_ok-edits.ensures.add
 
 pub returns-clause-none : goal.returns-clause-none
 returns-clause-none g c old h = (
@@ -78,22 +80,22 @@ returns-clause-none g c old h = (
       (if_some_at c.in-Ok-Some.field-0 _ c.in-Ok-Some.news c.in-Ok-Some.field-0-is c.in-Ok-Some.ensures.order) c.requires.pixels
       (subst (All (λ (p : Point). p.label < 2 ^ 32)) c.items.ensures
       (if_some_at c.in-Ok-Some.field-0 _ c.in-Ok-Some.news c.in-Ok-Some.field-0-is c.in-Ok-Some.ensures.labels))
-      c.in-Ok-Some-grown.delta.without.items c.in-Ok-Some-grown.delta.with.items
+      c.in-Some.delta.without.items c.in-Some.delta.with.items
       (subst (λ (l : List Point). IsGrown c.args.level c.args.layer c.args.bucket old l
-      [] c.in-Ok-Some-grown.delta.without.items c.in-Ok-Some-grown.delta.with.items) c.deref.ensures.value
-      (if_some_at c.in-Ok-Some-grown.field-0 _ c.in-Ok-Some-grown.delta c.in-Ok-Some-grown.field-0-is c.in-Ok-Some-grown.ensures.grown old h)))),
+      [] c.in-Some.delta.without.items c.in-Some.delta.with.items) c.deref.ensures.value
+      (if_some_at c.in_ok-delta.field-0 _ c.in-Some.delta c.in-Some.is c.in_ok-delta.ensures.grown old h)))),
 )
 
 pub returns-in-Ok-None-clause-reads : goal.returns-in-Ok-None-clause-reads
 returns-in-Ok-None-clause-reads g c = reads_none ((12 + 3 * c.args.bucket) * length c.args.points.now) (g.S.PageStore.reads c.args.store.now)
 
-pub returns-in-Ok-None-grown-clause-reads : goal.returns-in-Ok-None-grown-clause-reads
-returns-in-Ok-None-grown-clause-reads g c =
+pub returns-in_default-clause-reads : goal.returns-in_default-clause-reads
+returns-in_default-clause-reads g c =
     subst (λ (n : ℕ). Goes {A = ℕ} (λ old new. new ≤ old + (12 + 3 * c.args.bucket) * n) (g.S.PageStore.reads c.args.store.now)
     (g.S.PageStore.reads c.grown.new.store)) (ap length c.deref.ensures.value
     ∙ length_permutation _ _ (subst (λ (l : List Point). IsPermutation l c.in-Ok-Some.news.items) c.items.ensures
     (if_some_at c.in-Ok-Some.field-0 _ c.in-Ok-Some.news c.in-Ok-Some.field-0-is c.in-Ok-Some.ensures.same)))
-    c.in-Ok-None-grown.ensures.reads
+    c.in_ok-delta.ensures.reads
 
 pub returns-clause-reads : goal.returns-clause-reads
 returns-clause-reads g c =
@@ -101,4 +103,4 @@ returns-clause-reads g c =
     (g.S.PageStore.reads c.grown.new.store)) (ap length c.deref.ensures.value
     ∙ length_permutation _ _ (subst (λ (l : List Point). IsPermutation l c.in-Ok-Some.news.items) c.items.ensures
     (if_some_at c.in-Ok-Some.field-0 _ c.in-Ok-Some.news c.in-Ok-Some.field-0-is c.in-Ok-Some.ensures.same)))
-    c.in-Ok-Some-grown.ensures.reads
+    c.in_ok-delta.ensures.reads

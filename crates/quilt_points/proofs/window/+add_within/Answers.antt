@@ -1,5 +1,6 @@
 use Rattle.std.proofs.Common.{ℕ, ◌+◌, ◌*◌, ◌^◌, ◌≤◌, Option, [], List, length, get_or, sym, ◌∙◌, ap, subst, arith, Contains}
 use Rattle.std.proofs.lemmas.List.{append-nil}
+use Rattle.std.proofs.lemmas.Result.{err_from_is_err_and}
 use Rattle.quilt_store.proofs.Reading.{only_reads_then, read_on, only_reads_err, only_reads_ok}
 use Rattle.quilt_types.specs.declared.plane.Block.{Block}
 use Rattle.quilt_types.specs.Plane.{in_window}
@@ -23,25 +24,27 @@ pub returns-then-not-meets-clause-found : goal.returns-then-not-meets-clause-fou
 returns-then-not-meets-clause-found g t c points h o =
     ([], sym (append-nil c.args.found.now.items), none_of points (in_window c.args.w) c.args.b (meets_none c.args.w c.args.b (sym c.meets.ensures ∙ c.if-not-meets.true)))
 
-pub returns-in-Err-clause-sound : goal.returns-in-Err-clause-sound
-returns-in-Err-clause-sound g t c points h o = c.in-Err.ensures.sound points h
+pub returns-in_err-visit-clause-sound : goal.returns-in_err-visit-clause-sound
+returns-in_err-visit-clause-sound g t c =
+    let p = err_from_is_err_and c.from_residual.result c.from_residual.ensures.1 in
+    rw (p.1, p.2) (λ points h o. c.in_err-visit.ensures.sound points h)
 
 pub returns-then-b-le1-clause-sound : goal.returns-then-b-le1-clause-sound
 returns-then-b-le1-clause-sound g t c points h o page e =
     open_pixel c.args.layer.level c.args.layer.bucket points c.args.b o
-    ((c.in-Ok-false.ensures.none (cc)).1 points h) c.args.layer.has_bucket.0 c.if-b-le1.true
+    ((c.in_ok-visit.ensures.none c.if-branch.false).1 points h) c.args.layer.has_bucket.0 c.if-b-le1.true
 
 pub quarters-q-items-requires-clause-valid : goal.quarters-q-items-requires-clause-valid
 quarters-q-items-requires-clause-valid g t c = IsBlock-up c.args.layer.level 12 c.args.b c.args.layer.has_level.1 c.requires.block
 
 pub loop-q-init : goal.loop-q-init
 loop-q-init g t c = record {
-  found = λ points h o. ([], (c.in-Ok-false.ensures.none (cc)).0 ∙ sym (append-nil c.args.found.now.items), all_none points (in_window c.args.w));
+  found = λ points h o. ([], (c.in_ok-visit.ensures.none c.if-branch.false).0 ∙ sym (append-nil c.args.found.now.items), all_none points (in_window c.args.w));
   covered = λ rs p is inside q m on. absurd (Contains-nil q m);
   reads = λ points k h o e.
-      reads_first c.args.layer.bucket points c.args.w (6 + 3 * c.args.layer.bucket) k c.quarters-q-items.result _ _ c.in-Ok-false.ensures.reads;
-  left = only_reads_ok _ c.in-Ok-false.ensures.left tt;
-  search = c.in-Ok-false.ensures.search;
+      reads_first c.args.layer.bucket points c.args.w (6 + 3 * c.args.layer.bucket) k c.quarters-q-items.result _ _ c.in_ok-visit.ensures.reads;
+  left = only_reads_ok _ c.in_ok-visit.ensures.left tt;
+  search = c.in_ok-visit.ensures.search;
 }
 
 pub add_within-requires : goal.add_within-requires
@@ -54,17 +57,18 @@ add_within-requires g t c κs within =
     c.loop-q.invariant.search in
     (omega arith, (within, (rooted, (search, (c.requires.window, q.block)))))
 
-pub returns-in-Err-add_within-clause-sound : goal.returns-in-Err-add_within-clause-sound
-returns-in-Err-add_within-clause-sound g t c points h o =
-    c.in-Err-add_within.ensures.sound points
+pub returns-in_err-add_within-clause-sound : goal.returns-in_err-add_within-clause-sound
+returns-in_err-add_within-clause-sound g t c =
+    let p = err_from_is_err_and c.from_residual-in_err-add_within.result c.from_residual-in_err-add_within.ensures.1 in
+    rw (p.1, p.2) (λ points h o. c.in_err-add_within.ensures.sound points
     (has_along _ _ c.args.tree.now c.args.layer.number c.args.layer.level c.args.layer.bucket points c.loop-q.invariant.left.told h)
     (open_quarter c.args.layer.level c.args.layer.bucket points c.args.b o
-    ((c.in-Ok-false.ensures.none (cc)).1 points h) c.if-b-le1.false
+    ((c.in_ok-visit.ensures.none c.if-branch.false).1 points h) c.if-b-le1.false
     (get_or c.quarters-q-items.result c.loop-q.q-index (record { y = 0; x = 0; side = 0 }))
     (subst (λ (l : List Block). Contains l (get_or c.quarters-q-items.result c.loop-q.q-index (record { y = 0; x = 0; side = 0 })))
     c.quarters-q-items.ensures.value
     (member_at c.quarters-q-items.result c.loop-q.q-index (record { y = 0; x = 0; side = 0 }) (let lt = c.loop-q-test.true in
-    let four = ap length c.quarters-q-items.ensures.value in omega arith))))
+    let four = ap length c.quarters-q-items.ensures.value in omega arith)))))
 
 pub loop-q-preserved : goal.loop-q-preserved
 loop-q-preserved g t c = record {
@@ -72,10 +76,10 @@ loop-q-preserved g t c = record {
       found_next points (in_window c.args.w) c.args.layer.level c.args.b c.quarters-q-items.result c.loop-q.q-index
       (record { y = 0; x = 0; side = 0 }) c.requires.block c.if-b-le1.false c.quarters-q-items.ensures.value c.loop-q-test.true
       c.args.found.now.items c.loop-q.found.items c.add_within.new.found.items (c.loop-q.invariant.found points h o)
-      (c.in-Ok.ensures.found points (has_along _ _ c.args.tree.now c.args.layer.number c.args.layer.level c.args.layer.bucket points
+      (c.in_ok-add_within.ensures.found points (has_along _ _ c.args.tree.now c.args.layer.number c.args.layer.level c.args.layer.bucket points
       c.loop-q.invariant.left.told h)
       (open_quarter c.args.layer.level c.args.layer.bucket points c.args.b o
-      ((c.in-Ok-false.ensures.none (cc)).1 points h) c.if-b-le1.false
+      ((c.in_ok-visit.ensures.none c.if-branch.false).1 points h) c.if-b-le1.false
       (get_or c.quarters-q-items.result c.loop-q.q-index (record { y = 0; x = 0; side = 0 }))
       (subst (λ (l : List Block). Contains l (get_or c.quarters-q-items.result c.loop-q.q-index (record { y = 0; x = 0; side = 0 })))
       c.quarters-q-items.ensures.value
@@ -85,16 +89,16 @@ loop-q-preserved g t c = record {
       covered_next c.args.layer.level c.args.layer.bucket c.args.layer.number rs p c.quarters-q-items.result c.loop-q.q-index
       (record { y = 0; x = 0; side = 0 }) (let lt = c.loop-q-test.true in let four = ap length c.quarters-q-items.ensures.value in omega arith)
       (c.loop-q.invariant.covered rs p is inside)
-      (c.in-Ok.ensures.covered rs p (subst (λ (o : Option (List (List ℕ))). IsTree o c.args.tree.now rs) (sym c.loop-q.invariant.left.told) is) inside);
+      (c.in_ok-add_within.ensures.covered rs p (subst (λ (o : Option (List (List ℕ))). IsTree o c.args.tree.now rs) (sym c.loop-q.invariant.left.told) is) inside);
   reads = λ points k h o e.
       reads_next c.args.layer.bucket points c.args.w (6 + 3 * c.args.layer.bucket) k c.quarters-q-items.result c.loop-q.q-index
       (record { y = 0; x = 0; side = 0 }) _ _ _
       (let lt = c.loop-q-test.true in let four = ap length c.quarters-q-items.ensures.value in omega arith)
       (c.loop-q.invariant.reads points k h o e)
-      (c.in-Ok.ensures.reads points k
+      (c.in_ok-add_within.ensures.reads points k
       (has_along _ _ c.args.tree.now c.args.layer.number c.args.layer.level c.args.layer.bucket points c.loop-q.invariant.left.told h)
       (open_quarter c.args.layer.level c.args.layer.bucket points c.args.b o
-      ((c.in-Ok-false.ensures.none (cc)).1 points h) c.if-b-le1.false
+      ((c.in_ok-visit.ensures.none c.if-branch.false).1 points h) c.if-b-le1.false
       (get_or c.quarters-q-items.result c.loop-q.q-index (record { y = 0; x = 0; side = 0 }))
       (subst (λ (l : List Block). Contains l (get_or c.quarters-q-items.result c.loop-q.q-index (record { y = 0; x = 0; side = 0 })))
       c.quarters-q-items.ensures.value
@@ -102,9 +106,9 @@ loop-q-preserved g t c = record {
       let four = ap length c.quarters-q-items.ensures.value in omega arith))))
       (quarter_side k _ _ (quarter_at c.args.layer.level c.args.b c.quarters-q-items.result c.loop-q.q-index (record { y = 0; x = 0; side = 0 })
       c.requires.block c.if-b-le1.false c.quarters-q-items.ensures.value c.loop-q-test.true).half e));
-  left = read_on _ g.met.S.PageStore.goes_on _ _ _ c.loop-q.invariant.left c.in-Ok.ensures.left;
+  left = read_on _ g.met.S.PageStore.goes_on _ _ _ c.loop-q.invariant.left c.in_ok-add_within.ensures.left;
   search = search_along _ _ c.args.tree.now c.args.layer.level c.args.layer.bucket c.args.layer.number c.add_within.new.search
-      (sym c.loop-q.invariant.left.told) c.in-Ok.ensures.search;
+      (sym c.loop-q.invariant.left.told) c.in_ok-add_within.ensures.search;
 }
 
 pub returns-clause-found : goal.returns-clause-found
@@ -113,8 +117,10 @@ returns-clause-found g t c points h o =
     c.quarters-q-items.ensures.value c.loop-q-test.false
     c.args.found.now.items c.loop-q.found.items (c.loop-q.invariant.found points h o)
 
-pub returns-in-Err-add_within-clause-left : goal.returns-in-Err-add_within-clause-left
-returns-in-Err-add_within-clause-left g t c = only_reads_err _ (only_reads_then _ g.met.S.PageStore.goes_on _ _ _ c.loop-q.invariant.left c.in-Err-add_within.ensures.left)
+pub returns-in_err-add_within-clause-left : goal.returns-in_err-add_within-clause-left
+returns-in_err-add_within-clause-left g t c =
+    let p = err_from_is_err_and c.from_residual-in_err-add_within.result c.from_residual-in_err-add_within.ensures.1 in
+    rw (p.1, p.2) (only_reads_err _ (only_reads_then _ g.met.S.PageStore.goes_on _ _ _ c.loop-q.invariant.left c.in_err-add_within.ensures.left))
 
 pub returns-then-not-meets-clause-covered : goal.returns-then-not-meets-clause-covered
 returns-then-not-meets-clause-covered g t c rs p is inside on = absurd (meets_none c.args.w c.args.b (sym c.meets.ensures ∙ c.if-not-meets.true) p on inside)
@@ -143,13 +149,13 @@ returns-clause-reads g t c points k h o e =
     (reads_within c.args.layer.bucket points c.args.w (6 + 3 * c.args.layer.bucket) j.0 c.args.b c.quarters-q-items.result c.loop-q.q-index _ _
     c.quarters-q-items.ensures.value (sym c.meets.ensures ∙ c.if-not-meets.false)
     (open_many c.args.layer.level c.args.layer.bucket points c.args.b o
-    ((c.in-Ok-false.ensures.none (cc)).1 points h))
+    ((c.in_ok-visit.ensures.none c.if-branch.false).1 points h))
     (c.loop-q.invariant.reads points j.0 h o (e ∙ ap (λ (i : ℕ). 2 ^ i) j.1)))
 
-pub returns-in-Ok-true-clause-reads : goal.returns-in-Ok-true-clause-reads
-returns-in-Ok-true-clause-reads g t c points k h o e =
+pub returns-then-branch-clause-reads : goal.returns-then-branch-clause-reads
+returns-then-branch-clause-reads g t c points k h o e =
     reads_once c.args.layer.bucket points c.args.w (6 + 3 * c.args.layer.bucket) k c.args.b _ _ (sym c.meets.ensures ∙ c.if-not-meets.false)
-    c.in-Ok-true.ensures.reads
+    c.in_ok-visit.ensures.reads
 
 pub returns-clause-search : goal.returns-clause-search
 returns-clause-search g t c = c.loop-q.invariant.search

@@ -4,11 +4,11 @@ use Rattle.quilt_points.proofs.window.single_of.Goals as goal
 
 pub returns-then-not-is_same-clause-read : goal.returns-then-not-is_same-clause-read
 returns-then-not-is_same-clause-read g c points h =
-    none_around c.args.layer.level c.args.layer.bucket points c.args.b c.in-Ok.around c.first_in-at.result c.in-Ok.held
-    ((c.in-Ok.ensures.seen).read points h) c.in-Ok.ensures.holds c.first_in-at.ensures.holds
+    none_around c.args.layer.level c.args.layer.bucket points c.args.b c.in_ok-around.around c.first_in-at.result c.in_ok-around.held
+    ((c.in_ok-around.ensures.seen).read points h) c.in_ok-around.ensures.holds c.first_in-at.ensures.holds
     (λ e. both_ways c.is_same.result c.if-not-is_same.true (c.is_same.ensures.no e))
 
-pub returns-else-not-is_same-clause-read : goal.returns-else-not-is_same-clause-read
-returns-else-not-is_same-clause-read g c points h =
-    single_held c.args.layer.level c.args.layer.bucket points c.args.b c.in-Ok.around c.in-Ok.held c.requires.bucket
-    (c.is_same.ensures.yes c.if-not-is_same.false) ((c.in-Ok.ensures.seen).read points h)
+pub returns-clause-read : goal.returns-clause-read
+returns-clause-read g c points h =
+    single_held c.args.layer.level c.args.layer.bucket points c.args.b c.in_ok-around.around c.in_ok-around.held c.requires.bucket
+    (c.is_same.ensures.yes c.if-not-is_same.false) ((c.in_ok-around.ensures.seen).read points h)

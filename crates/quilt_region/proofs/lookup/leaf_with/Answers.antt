@@ -1,6 +1,7 @@
 use Rattle.std.proofs.Common.{◌≡◌, true, false, Option, Some, None, sym, ◌∙◌, ap, subst, List, Contains, arith}
 use Rattle.std.specs.Prelude.{IfSome, unwrap_or}
 use Rattle.std.proofs.lemmas.Option.{none-some}
+use Rattle.std.proofs.lemmas.Result.{err_from_is_err_and}
 use Rattle.quilt_record.specs.declared.key.Key.{Key}
 use Rattle.quilt_record.specs.declared.record.Record.{Record}
 use Rattle.quilt_btree.specs.Lists.{floor_of}
@@ -29,91 +30,93 @@ pub key_with-k-requires-clause-in_y : goal.key_with-k-requires-clause-in_y
 key_with-k-requires-clause-in_y g c = let m = side_most c.args.level c.requires.level.1 in let y = c.requires.in_y in omega arith
 
 pub covers-requires : goal.covers-requires
-covers-requires g c = IsBlock-up c.args.level 12 c.in-Some.leaf.block c.requires.level.1 c.in-Some.ensures.block
+covers-requires g c = IsBlock-up c.args.level 12 c.in-Some-leaf_of.leaf.block c.requires.level.1 c.in-Some-leaf_of.ensures.block
 
-pub returns-in-Err-clause-sound : goal.returns-in-Err-clause-sound
-returns-in-Err-clause-sound g c grid h = c.in-Err.ensures.sound h.records h.tree
-
-pub returns-in-Ok-None-clause-sound : goal.returns-in-Ok-None-clause-sound
-returns-in-Ok-None-clause-sound g c grid h page e =
-    let f =
-    floor_found (g.S.PageStore.told c.args.store.now) c.args.tree.now c.args.layer c.args.level grid c.args.p _ _
-    c.requires.level.1 c.requires.in_x c.requires.in_y c.key_with-k.ensures c.in-Ok-None.ensures.floor h in
-    none-some _ (sym c.in-Ok-None.field-0-is ∙ f.2)
-
-pub returns-in-Some-clause-leaf : goal.returns-in-Some-clause-leaf
-returns-in-Some-clause-leaf g c grid h =
-    let f =
-    leaf_read (g.S.PageStore.told c.args.store.now) c.args.tree.now c.args.layer c.args.level grid c.args.p _ _ c.in-Ok-Some.r c.leaf_of.result
-    c.requires.layer c.requires.level.1 c.requires.in_x c.requires.in_y c.key_with-k.ensures c.in-Ok-Some.ensures.floor c.in-Ok-Some.field-0-is
-    c.leaf_of.ensures.one h in
-    let same = read_same c.args.level grid c.args.p c.leaf_of.result c.in-Some.leaf c.in-Some.is f in
-    record {
-      member = subst (λ (l : Leaf). Contains (leaves c.args.level grid) (leaf_pair l)) same f.member;
-      holds = Holds-from c.in-Some.leaf.block c.args.p (ap (λ (l : Leaf). in_block l.block c.args.p) (sym same) ∙ f.holds);
-    }
+pub returns-in_err-r-clause-sound : goal.returns-in_err-r-clause-sound
+returns-in_err-r-clause-sound g c =
+    let p = err_from_is_err_and c.from_residual.result c.from_residual.ensures.1 in
+    rw (p.1, p.2) (λ grid h. c.in_err-r.ensures.sound h.records h.tree)
 
 pub returns-in_default-clause-sound : goal.returns-in_default-clause-sound
 returns-in_default-clause-sound g c grid h page e =
     let f =
-    leaf_read (g.S.PageStore.told c.args.store.now) c.args.tree.now c.args.layer c.args.level grid c.args.p _ _ c.in-Ok-Some.r c.leaf_of.result
-    c.requires.layer c.requires.level.1 c.requires.in_x c.requires.in_y c.key_with-k.ensures c.in-Ok-Some.ensures.floor c.in-Ok-Some.field-0-is
+    floor_found (g.S.PageStore.told c.args.store.now) c.args.tree.now c.args.layer c.args.level grid c.args.p _ _
+    c.requires.level.1 c.requires.in_x c.requires.in_y c.key_with-k.ensures c.in_ok-r.ensures.floor h in
+    none-some _ (sym c.in_default.is ∙ f.2)
+
+pub returns-in-Some-leaf_of-clause-leaf : goal.returns-in-Some-leaf_of-clause-leaf
+returns-in-Some-leaf_of-clause-leaf g c grid h =
+    let f =
+    leaf_read (g.S.PageStore.told c.args.store.now) c.args.tree.now c.args.layer c.args.level grid c.args.p _ _ c.in-Some.r c.leaf_of.result
+    c.requires.layer c.requires.level.1 c.requires.in_x c.requires.in_y c.key_with-k.ensures c.in_ok-r.ensures.floor c.in-Some.is
+    c.leaf_of.ensures.one h in
+    let same = read_same c.args.level grid c.args.p c.leaf_of.result c.in-Some-leaf_of.leaf c.in-Some-leaf_of.is f in
+    record {
+      member = subst (λ (l : Leaf). Contains (leaves c.args.level grid) (leaf_pair l)) same f.member;
+      holds = Holds-from c.in-Some-leaf_of.leaf.block c.args.p (ap (λ (l : Leaf). in_block l.block c.args.p) (sym same) ∙ f.holds);
+    }
+
+pub returns-in_default-leaf_of-clause-sound : goal.returns-in_default-leaf_of-clause-sound
+returns-in_default-leaf_of-clause-sound g c grid h page e =
+    let f =
+    leaf_read (g.S.PageStore.told c.args.store.now) c.args.tree.now c.args.layer c.args.level grid c.args.p _ _ c.in-Some.r c.leaf_of.result
+    c.requires.layer c.requires.level.1 c.requires.in_x c.requires.in_y c.key_with-k.ensures c.in_ok-r.ensures.floor c.in-Some.is
     c.leaf_of.ensures.one h in
     false_true (c.if-covers.ensures
-    ∙ ap (λ (l : Leaf). in_block l.block c.args.p) (sym (read_same c.args.level grid c.args.p c.leaf_of.result c.in-Some.leaf c.in-Some.is f)) ∙ f.holds)
+    ∙ ap (λ (l : Leaf). in_block l.block c.args.p) (sym (read_same c.args.level grid c.args.p c.leaf_of.result c.in-Some-leaf_of.leaf c.in-Some-leaf_of.is f)) ∙ f.holds)
 
-pub returns-in_default-2-clause-sound : goal.returns-in_default-2-clause-sound
-returns-in_default-2-clause-sound g c grid h page e =
+pub returns-in_default-leaf_of-2-clause-sound : goal.returns-in_default-leaf_of-2-clause-sound
+returns-in_default-leaf_of-2-clause-sound g c grid h page e =
     let f =
-    leaf_read (g.S.PageStore.told c.args.store.now) c.args.tree.now c.args.layer c.args.level grid c.args.p _ _ c.in-Ok-Some.r c.leaf_of.result
-    c.requires.layer c.requires.level.1 c.requires.in_x c.requires.in_y c.key_with-k.ensures c.in-Ok-Some.ensures.floor c.in-Ok-Some.field-0-is
+    leaf_read (g.S.PageStore.told c.args.store.now) c.args.tree.now c.args.layer c.args.level grid c.args.p _ _ c.in-Some.r c.leaf_of.result
+    c.requires.layer c.requires.level.1 c.requires.in_x c.requires.in_y c.key_with-k.ensures c.in_ok-r.ensures.floor c.in-Some.is
     c.leaf_of.ensures.one h in
-    none-some _ (sym c.in_default.is ∙ f.is)
+    none-some _ (sym c.in_default-leaf_of.is ∙ f.is)
 
-pub returns-in-Err-clause-again : goal.returns-in-Err-clause-again
-returns-in-Err-clause-again g c =
+pub returns-in_err-r-clause-again : goal.returns-in_err-r-clause-again
+returns-in_err-r-clause-again g c =
     subst (λ k. (rs : List Record) → IsTree (g.S.PageStore.told c.args.store.now) c.args.tree.now rs
     → ReadsNone (λ pages. floor_pages pages k c.args.tree.now.height c.args.tree.now.root) (g.S.PageStore.told c.args.store.now)
     (g.S.PageStore.held c.args.store.now) (g.S.PageStore.reads c.args.store.now) (g.S.PageStore.reads c.floor.new.store))
-    c.key_with-k.ensures c.in-Err.ensures.again
-
-pub returns-in-Ok-None-clause-again : goal.returns-in-Ok-None-clause-again
-returns-in-Ok-None-clause-again g c =
-    subst (λ k. (rs : List Record) → IsTree (g.S.PageStore.told c.args.store.now) c.args.tree.now rs
-    → ReadsNone (λ pages. floor_pages pages k c.args.tree.now.height c.args.tree.now.root) (g.S.PageStore.told c.args.store.now)
-    (g.S.PageStore.held c.args.store.now) (g.S.PageStore.reads c.args.store.now) (g.S.PageStore.reads c.floor.new.store))
-    c.key_with-k.ensures c.in-Ok-None.ensures.again
-
-pub returns-in-Some-clause-again : goal.returns-in-Some-clause-again
-returns-in-Some-clause-again g c =
-    subst (λ k. (rs : List Record) → IsTree (g.S.PageStore.told c.args.store.now) c.args.tree.now rs
-    → ReadsNone (λ pages. floor_pages pages k c.args.tree.now.height c.args.tree.now.root) (g.S.PageStore.told c.args.store.now)
-    (g.S.PageStore.held c.args.store.now) (g.S.PageStore.reads c.args.store.now) (g.S.PageStore.reads c.floor.new.store))
-    c.key_with-k.ensures c.in-Ok-Some.ensures.again
+    c.key_with-k.ensures c.in_err-r.ensures.again
 
 pub returns-in_default-clause-again : goal.returns-in_default-clause-again
 returns-in_default-clause-again g c =
     subst (λ k. (rs : List Record) → IsTree (g.S.PageStore.told c.args.store.now) c.args.tree.now rs
     → ReadsNone (λ pages. floor_pages pages k c.args.tree.now.height c.args.tree.now.root) (g.S.PageStore.told c.args.store.now)
     (g.S.PageStore.held c.args.store.now) (g.S.PageStore.reads c.args.store.now) (g.S.PageStore.reads c.floor.new.store))
-    c.key_with-k.ensures c.in-Ok-Some.ensures.again
+    c.key_with-k.ensures c.in_ok-r.ensures.again
 
-pub returns-in_default-2-clause-again : goal.returns-in_default-2-clause-again
-returns-in_default-2-clause-again g c =
+pub returns-in-Some-leaf_of-clause-again : goal.returns-in-Some-leaf_of-clause-again
+returns-in-Some-leaf_of-clause-again g c =
     subst (λ k. (rs : List Record) → IsTree (g.S.PageStore.told c.args.store.now) c.args.tree.now rs
     → ReadsNone (λ pages. floor_pages pages k c.args.tree.now.height c.args.tree.now.root) (g.S.PageStore.told c.args.store.now)
     (g.S.PageStore.held c.args.store.now) (g.S.PageStore.reads c.args.store.now) (g.S.PageStore.reads c.floor.new.store))
-    c.key_with-k.ensures c.in-Ok-Some.ensures.again
+    c.key_with-k.ensures c.in_ok-r.ensures.again
 
-pub returns-in-Some-clause-held : goal.returns-in-Some-clause-held
-returns-in-Some-clause-held g c =
+pub returns-in_default-leaf_of-clause-again : goal.returns-in_default-leaf_of-clause-again
+returns-in_default-leaf_of-clause-again g c =
+    subst (λ k. (rs : List Record) → IsTree (g.S.PageStore.told c.args.store.now) c.args.tree.now rs
+    → ReadsNone (λ pages. floor_pages pages k c.args.tree.now.height c.args.tree.now.root) (g.S.PageStore.told c.args.store.now)
+    (g.S.PageStore.held c.args.store.now) (g.S.PageStore.reads c.args.store.now) (g.S.PageStore.reads c.floor.new.store))
+    c.key_with-k.ensures c.in_ok-r.ensures.again
+
+pub returns-in_default-leaf_of-2-clause-again : goal.returns-in_default-leaf_of-2-clause-again
+returns-in_default-leaf_of-2-clause-again g c =
+    subst (λ k. (rs : List Record) → IsTree (g.S.PageStore.told c.args.store.now) c.args.tree.now rs
+    → ReadsNone (λ pages. floor_pages pages k c.args.tree.now.height c.args.tree.now.root) (g.S.PageStore.told c.args.store.now)
+    (g.S.PageStore.held c.args.store.now) (g.S.PageStore.reads c.args.store.now) (g.S.PageStore.reads c.floor.new.store))
+    c.key_with-k.ensures c.in_ok-r.ensures.again
+
+pub returns-in-Some-leaf_of-clause-held : goal.returns-in-Some-leaf_of-clause-held
+returns-in-Some-leaf_of-clause-held g c =
     subst (λ k. (rs : List Record) → IsTree (g.S.PageStore.told c.args.store.now) c.args.tree.now rs
     → HoldsFirst (λ pages. floor_pages pages k c.args.tree.now.height c.args.tree.now.root) (g.S.PageStore.told c.args.store.now)
     (g.S.PageStore.held c.args.store.now) (g.S.PageStore.held c.floor.new.store))
-    c.key_with-k.ensures c.in-Ok-Some.ensures.held
+    c.key_with-k.ensures c.in_ok-r.ensures.held
 
-pub returns-in-Some-clause-row : goal.returns-in-Some-clause-row
-returns-in-Some-clause-row g c rs is =
-    sym (c.in-Ok-Some.ensures.floor rs is ∙ ap (λ (k : Key). floor_of k rs) c.key_with-k.ensures) ∙ c.in-Ok-Some.field-0-is
-    ∙ ap (λ (r : Record). Some r) (is_there c.leaf_of.result c.in-Some.leaf (λ l. c.in-Ok-Some.r ≡ leaf_record c.args.level c.args.layer (leaf_pair l)) c.in-Some.is
+pub returns-in-Some-leaf_of-clause-row : goal.returns-in-Some-leaf_of-clause-row
+returns-in-Some-leaf_of-clause-row g c rs is =
+    sym (c.in_ok-r.ensures.floor rs is ∙ ap (λ (k : Key). floor_of k rs) c.key_with-k.ensures) ∙ c.in-Some.is
+    ∙ ap (λ (r : Record). Some r) (is_there c.leaf_of.result c.in-Some-leaf_of.leaf (λ l. c.in-Some.r ≡ leaf_record c.args.level c.args.layer (leaf_pair l)) c.in-Some-leaf_of.is
     c.leaf_of.ensures.record)

@@ -2,6 +2,8 @@ use Rattle.std.proofs.Common.{ℕ, ◌+◌, ◌*◌, ◌≤◌, length, refl, �
 use Rattle.quilt_loc.proofs.Blocks.{IsBlock-up, side_most}
 use Rattle.quilt_world.specs.Tale.{Goes}
 use Rattle.quilt_blocks.proofs.Chains.{member_pos}
+use Rattle.quilt_region.proofs.Beside.{if_err_weaker, if_ok_weaker}
+use Rattle.quilt_region.proofs.Results.{if_ok_from}
 use Rattle.quilt_region.proofs.WithinKeys.{length_within, read_within}
 use Rattle.quilt_region.proofs.lookup.records_in.Goals as goal
 
@@ -14,14 +16,16 @@ code_of-requires-clause-in_y g c = let m = side_most c.args.level c.requires.lev
 pub end_of-requires : goal.end_of-requires
 end_of-requires g c = IsBlock-up c.args.level 12 c.args.b c.requires.level.1 c.requires.block
 
-pub returns-in-Err-clause-sound : goal.returns-in-Err-clause-sound
-returns-in-Err-clause-sound g c grid h = c.in-Err.ensures.sound h.records h.tree
+pub returns-clause-sound : goal.returns-clause-sound
+returns-clause-sound g c = if_err_weaker c.range.result (λ e f grid h. f h.records h.tree) c.range.ensures.sound
 
-pub returns-in-Ok-clause-records : goal.returns-in-Ok-clause-records
-returns-in-Ok-clause-records g c grid h =
+pub returns-clause-records : goal.returns-clause-records
+returns-clause-records g c =
+    if_ok_weaker c.range.result
+    (λ records range grid h.
     let pos = member_pos c.args.level c.args.b c.requires.block in
     let end = c.end_of.ensures.value in
-    read_within (g.S.PageStore.told c.args.store.now) c.args.tree.now c.args.layer c.args.level grid c.args.b _ _ c.in-Ok.records.items 4294967295
+    read_within (g.S.PageStore.told c.args.store.now) c.args.tree.now c.args.layer c.args.level grid c.args.b _ _ records.items 4294967295
     c.requires.level.1 c.requires.block
     (record {
       low_layer = c.from.ensures;
@@ -34,15 +38,18 @@ returns-in-Ok-clause-records g c grid h =
       high_code = omega arith;
       high_depth = refl;
     })
-    (omega arith) c.in-Ok.ensures.range h
+    (omega arith) range h)
+    c.range.ensures.range
 
-pub returns-in-Ok-clause-reads : goal.returns-in-Ok-clause-reads
-returns-in-Ok-clause-reads g c grid h =
+pub returns-clause-reads : goal.returns-clause-reads
+returns-clause-reads g c =
+    if_ok_from c.range.result c.range.ensures.range c.range.ensures.reads
+    (λ records range reads grid h.
     let n = c.args.level in
     let pos = member_pos n c.args.b c.requires.block in
     let end = c.end_of.ensures.value in
     let all =
-    read_within (g.S.PageStore.told c.args.store.now) c.args.tree.now c.args.layer n grid c.args.b _ _ c.in-Ok.records.items 4294967295
+    read_within (g.S.PageStore.told c.args.store.now) c.args.tree.now c.args.layer n grid c.args.b _ _ records.items 4294967295
     c.requires.level.1 c.requires.block
     (record {
       low_layer = c.from.ensures;
@@ -55,7 +62,7 @@ returns-in-Ok-clause-reads g c grid h =
       high_code = omega arith;
       high_depth = refl;
     })
-    (omega arith) c.in-Ok.ensures.range h in
-    let many = c.in-Ok.records.ok.0 ∙ ap length all ∙ length_within n c.args.layer grid c.args.b in
+    (omega arith) range h in
+    let many = records.ok.0 ∙ ap length all ∙ length_within n c.args.layer grid c.args.b in
     subst (λ (k : ℕ). Goes {A = ℕ} (λ old new. new ≤ old + 6 + 3 * k) (g.S.PageStore.reads c.args.store.now)
-    (g.S.PageStore.reads c.range.new.store)) many c.in-Ok.ensures.reads
+    (g.S.PageStore.reads c.range.new.store)) many reads)

@@ -1,4 +1,5 @@
 use Rattle.std.proofs.Common.{◌≡◌, ◌*◌, refl, sym, ◌∙◌, ap, subst, arith}
+use Rattle.std.proofs.lemmas.Result.{err_from_is_err_and}
 use Rattle.quilt_store.proofs.Reading.{only_reads_then, only_reads_same, read_on, only_reads_err, only_reads_ok}
 use Rattle.quilt_types.specs.declared.plane.Block.{Block}
 use Rattle.quilt_types.specs.Plane.{parent_of, IsBlock, Within}
@@ -41,7 +42,7 @@ loop-larger-preserved g c =
     let n = c.args.level in
     let top = c.loop-larger.top in
     let inv = c.loop-larger.invariant in
-    let more = c.in-Ok-true.ensures in
+    let more = c.in_ok-has_around.ensures in
     let lt = not_whole n top inv.block (λ e. true_false (c.in-Some.ensures.whole.1 e)) in
     let is = c.in-Some.ensures.value in
     let larger = IsBlock-parent_of n top inv.block lt in
@@ -49,8 +50,8 @@ loop-larger-preserved g c =
       block = subst (IsBlock n) (sym is) larger;
       inside = subst (Within c.args.b) (sym is) (Within-trans c.args.b top (parent_of top) inv.inside (Within-parent_of n top inv.block lt));
       same = λ grid h. around_more n grid c.args.b top c.in-Some.larger c.args.c.0 (inv.same grid h)
-          (more.yes c.in-Ok-true.field-0-test grid (subst (λ told. HasRegion told c.args.tree.now c.args.layer n grid) (sym inv.left.told) h));
-      cut_out = λ grid h out. more.cut_out c.in-Ok-true.field-0-test grid
+          (more.yes c.if-not-branch.false grid (subst (λ told. HasRegion told c.args.tree.now c.args.layer n grid) (sym inv.left.told) h));
+      cut_out = λ grid h out. more.cut_out c.if-not-branch.false grid
           (subst (λ told. HasRegion told c.args.tree.now c.args.layer n grid) (sym inv.left.told) h);
       left = read_on _ g.met.S.PageStore.goes_on _ _ _ inv.left more.left;
       reads = λ j k d e.
@@ -58,32 +59,33 @@ loop-larger-preserved g c =
           saved_then (24 * j) (24 * inv.block.level) 24 (24 * k) _ _ _ (omega arith) (inv.reads j inv.block.level d inv.block.size) more.reads;
     }
 
-pub returns-in-Err-clause-sound : goal.returns-in-Err-clause-sound
-returns-in-Err-clause-sound g c grid h =
-    c.in-Err.ensures.sound grid (subst (λ told. HasRegion told c.args.tree.now c.args.layer c.args.level grid) (sym c.loop-larger.invariant.left.told) h)
+pub returns-in_err-has_around-clause-sound : goal.returns-in_err-has_around-clause-sound
+returns-in_err-has_around-clause-sound g c =
+    let p = err_from_is_err_and c.from_residual.result c.from_residual.ensures.1 in
+    rw (p.1, p.2) (λ grid h. c.in_err-has_around.ensures.sound grid (subst (λ told. HasRegion told c.args.tree.now c.args.layer c.args.level grid) (sym c.loop-larger.invariant.left.told) h))
 
-pub returns-in-Err-clause-reads : goal.returns-in-Err-clause-reads
-returns-in-Err-clause-reads g c j d =
+pub returns-in_err-has_around-clause-reads : goal.returns-in_err-has_around-clause-reads
+returns-in_err-has_around-clause-reads g c j d =
     let inv = c.loop-larger.invariant in
     let lt = not_whole c.args.level c.loop-larger.top inv.block (λ e. true_false (c.in-Some.ensures.whole.1 e)) in
     let room = level_room c.args.level c.loop-larger.top inv.block lt in
-    saved_then (24 * j) (24 * inv.block.level) 24 (24 * c.args.level) _ _ _ (omega arith) (inv.reads j inv.block.level d inv.block.size) c.in-Err.ensures.reads
+    saved_then (24 * j) (24 * inv.block.level) 24 (24 * c.args.level) _ _ _ (omega arith) (inv.reads j inv.block.level d inv.block.size) c.in_err-has_around.ensures.reads
 
-pub returns-in-Ok-false-clause-ends : goal.returns-in-Ok-false-clause-ends
-returns-in-Ok-false-clause-ends g c grid h out lt has =
+pub returns-then-not-branch-clause-ends : goal.returns-then-not-branch-clause-ends
+returns-then-not-branch-clause-ends g c grid h out lt has =
     let n = c.args.level in
     let inv = c.loop-larger.invariant in
-    c.in-Ok-false.ensures.no c.in-Ok-false.field-0-test grid (subst (λ told. HasRegion told c.args.tree.now c.args.layer n grid) (sym inv.left.told) h)
+    c.in_ok-has_around.ensures.no c.if-not-branch.true grid (subst (λ told. HasRegion told c.args.tree.now c.args.layer n grid) (sym inv.left.told) h)
     (inv.cut_out grid h out)
     (subst (λ (l : Block). HasAround n grid l c.loop-larger.top c.args.c.0) (sym c.in-Some.ensures.value) has)
 
-pub returns-in-Ok-false-clause-reads : goal.returns-in-Ok-false-clause-reads
-returns-in-Ok-false-clause-reads g c j d =
+pub returns-then-not-branch-clause-reads : goal.returns-then-not-branch-clause-reads
+returns-then-not-branch-clause-reads g c j d =
     let inv = c.loop-larger.invariant in
     let lt = not_whole c.args.level c.loop-larger.top inv.block (λ e. true_false (c.in-Some.ensures.whole.1 e)) in
     let room = level_room c.args.level c.loop-larger.top inv.block lt in
     saved_then (24 * j) (24 * inv.block.level) 24 (24 * c.args.level) _ _ _ (omega arith) (inv.reads j inv.block.level d inv.block.size)
-    c.in-Ok-false.ensures.reads
+    c.in_ok-has_around.ensures.reads
 
 pub returns-clause-ends : goal.returns-clause-ends
 returns-clause-ends g c grid h out lt has = let whole = c.in_default.ensures.whole.0 refl in omega arith
@@ -94,8 +96,10 @@ returns-clause-reads g c j d =
     let low = inv.block.low in
     saved_more (24 * j) (24 * j) (24 * inv.block.level) (24 * c.args.level) _ _ (omega arith) (inv.reads j inv.block.level d inv.block.size)
 
-pub returns-in-Err-clause-left : goal.returns-in-Err-clause-left
-returns-in-Err-clause-left g c = only_reads_err _ (only_reads_then _ g.met.S.PageStore.goes_on _ _ _ c.loop-larger.invariant.left c.in-Err.ensures.left)
+pub returns-in_err-has_around-clause-left : goal.returns-in_err-has_around-clause-left
+returns-in_err-has_around-clause-left g c =
+    let p = err_from_is_err_and c.from_residual.result c.from_residual.ensures.1 in
+    rw (p.1, p.2) (only_reads_err _ (only_reads_then _ g.met.S.PageStore.goes_on _ _ _ c.loop-larger.invariant.left c.in_err-has_around.ensures.left))
 
-pub returns-in-Ok-false-clause-left : goal.returns-in-Ok-false-clause-left
-returns-in-Ok-false-clause-left g c = only_reads_ok _ (only_reads_then _ g.met.S.PageStore.goes_on _ _ _ c.loop-larger.invariant.left c.in-Ok-false.ensures.left) _
+pub returns-then-not-branch-clause-left : goal.returns-then-not-branch-clause-left
+returns-then-not-branch-clause-left g c = only_reads_ok _ (only_reads_then _ g.met.S.PageStore.goes_on _ _ _ c.loop-larger.invariant.left c.in_ok-has_around.ensures.left) _

@@ -1,6 +1,7 @@
 use Rattle.std.proofs.Common.{◌≡◌, ℕ, ◌+◌, ◌*◌, ◌^◌, ◌<◌, get_or, sym, ◌∙◌, ap, subst, ⊎_elim, Contains, arith}
 use Rattle.std.proofs.lemmas.Bool.{cases_lt}
 use Rattle.std.proofs.lemmas.List.{get_or_default}
+use Rattle.std.proofs.lemmas.Result.{err_from_is_err_and}
 use Rattle.quilt_store.proofs.Reading.{only_reads_then, read_on, only_reads_err, only_reads_ok}
 use Rattle.quilt_types.specs.declared.plane.Block.{Block}
 use Rattle.quilt_types.specs.Plane.{quarters_of, parent_of, IsBlock}
@@ -34,14 +35,15 @@ has_quarter-requires-clause-block g c =
     (larger_block c.args.level c.args.b c.args.larger c.requires.block c.requires.small c.requires.larger)
     (larger_wide c.args.level c.args.b c.args.larger c.requires.block c.requires.larger) c.quarters-q-items.ensures.value c.loop-q-test.true).block
 
-pub returns-in-Err-clause-sound : goal.returns-in-Err-clause-sound
-returns-in-Err-clause-sound g c grid h =
-    c.in-Err.ensures.sound grid (subst (λ told. HasRegion told c.args.tree.now c.args.layer c.args.level grid) (sym c.loop-q.invariant.left.told) h)
+pub returns-in_err-has_quarter-clause-sound : goal.returns-in_err-has_quarter-clause-sound
+returns-in_err-has_quarter-clause-sound g c =
+    let p = err_from_is_err_and c.from_residual.result c.from_residual.ensures.1 in
+    rw (p.1, p.2) (λ grid h. c.in_err-has_quarter.ensures.sound grid (subst (λ told. HasRegion told c.args.tree.now c.args.layer c.args.level grid) (sym c.loop-q.invariant.left.told) h))
 
 pub loop-q-preserved : goal.loop-q-preserved
 loop-q-preserved g c =
     let inv = c.loop-q.invariant in
-    let more = c.in-Ok-true.ensures in
+    let more = c.in_ok-has_quarter.ensures in
     record {
       others = λ j d grid lt h differ.
           ⊎_elim (λ less. inv.others j d grid less h differ)
@@ -53,22 +55,22 @@ loop-q-preserved g c =
           ap (λ l. get_or l c.loop-q.q-index z) c.quarters-q-items.ensures.value
           ∙ get_or_default (quarters_of c.args.larger) c.loop-q.q-index z d test ∙ ap (λ i. get_or (quarters_of c.args.larger) i d) (sym at) in
           subst (λ (b : Block). Contains (leaves c.args.level grid) (b, c.args.c.0)) q
-          (more.yes c.in-Ok-true.field-0-test grid (subst (λ told. HasRegion told c.args.tree.now c.args.layer c.args.level grid) (sym inv.left.told) h)
+          (more.yes c.if-not-branch.false grid (subst (λ told. HasRegion told c.args.tree.now c.args.layer c.args.level grid) (sym inv.left.told) h)
           (λ e. differ (sym q ∙ e))))
           (cases_lt j c.loop-q.q-index);
       left = read_on _ g.met.S.PageStore.goes_on _ _ _ inv.left more.left;
       reads = reads_then (6 * c.loop-q.q-index) 6 (6 * (c.loop-q.q-index + 1)) _ _ _ (omega arith) inv.reads more.reads;
     }
 
-pub returns-in-Ok-false-clause-no : goal.returns-in-Ok-false-clause-no
-returns-in-Ok-false-clause-no g c f grid h out has =
+pub returns-then-not-branch-clause-no : goal.returns-then-not-branch-clause-no
+returns-then-not-branch-clause-no g c f grid h out has =
     let n = c.args.level in
     let b = c.args.b in
     let inv = c.loop-q.invariant in
     let z : Block = record { y = 0; x = 0; side = 0 } in
     let q = get_or c.quarters-q-items.result c.loop-q.q-index z in
     let test = c.loop-q-test.true in
-    let no = c.in-Ok-false.ensures.no c.in-Ok-false.field-0-test grid (subst (λ told. HasRegion told c.args.tree.now c.args.layer n grid)
+    let no = c.in_ok-has_quarter.ensures.no c.if-not-branch.true grid (subst (λ told. HasRegion told c.args.tree.now c.args.layer n grid)
     (sym inv.left.told) h) in
     let is : get_or c.quarters-q-items.result c.loop-q.q-index z ≡ get_or (quarters_of (parent_of b)) c.loop-q.q-index z =
     ap (λ l. get_or l c.loop-q.q-index z) (c.quarters-q-items.ensures.value ∙ ap quarters_of c.requires.larger) in
@@ -104,8 +106,10 @@ returns-clause-cut_out g c t grid h =
           (IsBlock-parent_of n c.args.larger hl lt) (Within-parent_of n c.args.larger hl lt) u);
     }
 
-pub returns-in-Err-clause-left : goal.returns-in-Err-clause-left
-returns-in-Err-clause-left g c = only_reads_err _ (only_reads_then _ g.met.S.PageStore.goes_on _ _ _ c.loop-q.invariant.left c.in-Err.ensures.left)
+pub returns-in_err-has_quarter-clause-left : goal.returns-in_err-has_quarter-clause-left
+returns-in_err-has_quarter-clause-left g c =
+    let p = err_from_is_err_and c.from_residual.result c.from_residual.ensures.1 in
+    rw (p.1, p.2) (only_reads_err _ (only_reads_then _ g.met.S.PageStore.goes_on _ _ _ c.loop-q.invariant.left c.in_err-has_quarter.ensures.left))
 
-pub returns-in-Ok-false-clause-left : goal.returns-in-Ok-false-clause-left
-returns-in-Ok-false-clause-left g c = only_reads_ok _ (only_reads_then _ g.met.S.PageStore.goes_on _ _ _ c.loop-q.invariant.left c.in-Ok-false.ensures.left) _
+pub returns-then-not-branch-clause-left : goal.returns-then-not-branch-clause-left
+returns-then-not-branch-clause-left g c = only_reads_ok _ (only_reads_then _ g.met.S.PageStore.goes_on _ _ _ c.loop-q.invariant.left c.in_ok-has_quarter.ensures.left) _

@@ -5,12 +5,12 @@ use Rattle.quilt_region.specs.Plans.{ReplacesGrid}
 use Rattle.quilt_region.proofs.plans.KnownPlans.{removes_same, adds_same}
 use Rattle.quilt_region.proofs.plan.plan_known.Goals as goal
 
-pub returns-in-Ok-repaint-clause-plan : goal.returns-in-Ok-repaint-clause-plan
-returns-in-Ok-repaint-clause-plan c g is knows =
+pub returns-in-Ok-clause-plan : goal.returns-in-Ok-clause-plan
+returns-in-Ok-clause-plan c g is knows =
     let n = c.args.level in
     let k = c.args.known.now in
-    let leads = subst (λ (m : Raster). ReplacesGrid m.level c.args.layer m.grid (painted m.level m.grid c.args.w k.around.0) c.in-Ok-repaint.edits)
-    (c.in-Ok.ensures.list g is) c.in-Ok-repaint.ensures in
+    let leads = subst (λ (m : Raster). ReplacesGrid m.level c.args.layer m.grid (painted m.level m.grid c.args.w k.around.0) c.in-Ok.edits)
+    (c.in_ok-old.ensures.list g is) c.in-Ok.ensures in
     record {
       remove = leads.remove ∙ sym (removes_same n g c.args.w k c.requires.level.1 c.requires.window knows c.args.layer);
       add = leads.add ∙ sym (adds_same n g c.args.w k c.requires.level.1 c.requires.window knows c.args.layer);

@@ -11,40 +11,40 @@ use Rattle.quilt_region.specs.Windows.{HoldsWindow, leaves_within}
 use Rattle.quilt_region.proofs.Beside.{if_err_weaker, if_ok_weaker}
 use Rattle.quilt_world.proofs.ReadCounts.{reads_more}
 use Rattle.quilt_region.proofs.Counting.{then_saved, saved_less}
-use Rattle.quilt_region.proofs.Nearby.{pixel_block, pixel_holds, pixel_within, power_le}
+use Rattle.quilt_region.proofs.Nearby.{power_le}
 use Rattle.quilt_region.proofs.plans.QuarterPlans.{some_at}
 use Rattle.quilt_region.proofs.plan.plan_rect.Goals as goal
 
-pub returns-in-Ok-Some-clause-reads : goal.returns-in-Ok-Some-clause-reads
-returns-in-Ok-Some-clause-reads g c grid b h hb holds =
+pub returns-in-Some-clause-reads : goal.returns-in-Some-clause-reads
+returns-in-Some-clause-reads g c grid b h hb holds =
     let n = c.args.level in
     let own = length (leaves_within n grid b) in
     let large : (a : Block) → IsBlock n a → HoldsWindow a c.args.w
     → 64 ≤ a.side = some_at (λ (edits : Edits). (a : Block) → IsBlock c.args.level a → HoldsWindow a c.args.w
-    → 64 ≤ a.side) c.in-Ok-Some.field-0 c.in-Ok-Some.edits c.in-Ok-Some.field-0-is c.in-Ok-Some.ensures.large in
+    → 64 ≤ a.side) c.in_ok-edits.field-0 c.in-Some.edits c.in-Some.is c.in_ok-edits.ensures.large in
     let six = power_le 6 hb.level hb.size (large b hb holds) in
     let low = hb.low in
     reads_more (144 + 3 * own) (15 + 24 * n + 3 * own) _ _ (omega arith)
     (some_at (λ (edits : Edits). (grid : Grid) (a : Block) → HasRegion (g.S.PageStore.told c.args.store.now) c.args.tree.now c.args.layer n grid
     → IsBlock n a → HoldsWindow a c.args.w
     → Goes {A = ℕ} (λ old new. new ≤ old + (144 + 3 * length (leaves_within n grid a))) (g.S.PageStore.reads c.args.store.now)
-    (g.S.PageStore.reads c.plan_apart.new.store)) c.in-Ok-Some.field-0 c.in-Ok-Some.edits c.in-Ok-Some.field-0-is
-    c.in-Ok-Some.ensures.reads grid b h hb holds)
+    (g.S.PageStore.reads c.plan_apart.new.store)) c.in_ok-edits.field-0 c.in-Some.edits c.in-Some.is
+    c.in_ok-edits.ensures.reads grid b h hb holds)
 
-pub returns-in-Ok-None-clause-sound : goal.returns-in-Ok-None-clause-sound
-returns-in-Ok-None-clause-sound g c =
+pub returns-in-None-clause-sound : goal.returns-in-None-clause-sound
+returns-in-None-clause-sound g c =
     if_err_weaker c.plan_together.result
-    (λ e law grid h. law grid (subst (λ told. HasRegion told c.args.tree.now c.args.layer c.args.level grid) (sym c.in-Ok-None.ensures.left.told) h))
+    (λ e law grid h. law grid (subst (λ told. HasRegion told c.args.tree.now c.args.layer c.args.level grid) (sym c.in_ok-edits.ensures.left.told) h))
     c.plan_together.ensures.sound
 
-pub returns-in-Ok-None-clause-reads : goal.returns-in-Ok-None-clause-reads
-returns-in-Ok-None-clause-reads g c =
+pub returns-in-None-clause-reads : goal.returns-in-None-clause-reads
+returns-in-None-clause-reads g c =
     if_ok_weaker c.plan_together.result
     (λ edits law grid b h hb holds.
     let n = c.args.level in
     let most = 15 + 24 * n + 3 * length (leaves_within n grid b) in
-    let tried = c.in-Ok-None.ensures.tried (ap is_some c.in-Ok-None.field-0-is) in
-    let rest = law grid b tried.0 (subst (λ told. HasRegion told c.args.tree.now c.args.layer n grid) (sym c.in-Ok-None.ensures.left.told) h) hb holds
+    let tried = c.in_ok-edits.ensures.tried (ap is_some c.in-None.is) in
+    let rest = law grid b tried.0 (subst (λ told. HasRegion told c.args.tree.now c.args.layer n grid) (sym c.in_ok-edits.ensures.left.told) h) hb holds
     tried.1 in
     saved_less (24 * tried.0) (24 * tried.0 + most) most _ _ (omega arith)
     (then_saved (24 * tried.0) (24 * tried.0) most (24 * tried.0 + most) _ _ _ (omega arith) tried.2 rest))
@@ -53,11 +53,11 @@ returns-in-Ok-None-clause-reads g c =
 true_false : true ≡ false → ⊥
 true_false e = cc
 
-pub returns-in-Ok-None-clause-pixel : goal.returns-in-Ok-None-clause-pixel
-returns-in-Ok-None-clause-pixel g c wide high = absurd (true_false (sym (c.is_one_pixel.ensures.no wide high) ∙ c.if-is_one_pixel.false))
+pub returns-in-None-clause-pixel : goal.returns-in-None-clause-pixel
+returns-in-None-clause-pixel g c wide high = absurd (true_false (sym (c.is_one_pixel.ensures.no wide high) ∙ c.if-is_one_pixel.false))
 
-pub returns-in-Ok-Some-clause-pixel : goal.returns-in-Ok-Some-clause-pixel
-returns-in-Ok-Some-clause-pixel g c wide high = absurd (true_false (sym (c.is_one_pixel.ensures.no wide high) ∙ c.if-is_one_pixel.false))
+pub returns-in-Some-clause-pixel : goal.returns-in-Some-clause-pixel
+returns-in-Some-clause-pixel g c wide high = absurd (true_false (sym (c.is_one_pixel.ensures.no wide high) ∙ c.if-is_one_pixel.false))
 
 pub plan_pixel-requires-clause-wide : goal.plan_pixel-requires-clause-wide
 plan_pixel-requires-clause-wide g c = (c.is_one_pixel.ensures.yes c.if-is_one_pixel.true).0
@@ -76,5 +76,5 @@ returns-then-is_one_pixel-clause-reads g c =
 pub returns-then-is_one_pixel-clause-pixel : goal.returns-then-is_one_pixel-clause-pixel
 returns-then-is_one_pixel-clause-pixel g c wide high = if_ok_weaker c.plan_pixel.result (λ edits read grid h. read) c.plan_pixel.ensures.reads
 
-pub returns-in-Ok-None-clause-left : goal.returns-in-Ok-None-clause-left
-returns-in-Ok-None-clause-left g c = only_reads_then _ g.met.S.PageStore.goes_on _ _ _ c.in-Ok-None.ensures.left c.plan_together.ensures.left
+pub returns-in-None-clause-left : goal.returns-in-None-clause-left
+returns-in-None-clause-left g c = only_reads_then _ g.met.S.PageStore.goes_on _ _ _ c.in_ok-edits.ensures.left c.plan_together.ensures.left

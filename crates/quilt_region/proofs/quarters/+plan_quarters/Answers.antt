@@ -1,5 +1,6 @@
 use Rattle.std.proofs.Common.{◌≡◌, ℕ, ◌+◌, ◌-◌, ◌*◌, ◌<◌, ◌≤◌, Bool, length, take, get_or, refl, sym, ◌∙◌, ap, subst, ⊎_elim, arith}
 use Rattle.std.specs.List.{sum_by}
+use Rattle.std.proofs.lemmas.Result.{err_from_is_err_and}
 use Rattle.quilt_store.proofs.Reading.{only_reads_then, only_reads_err, only_reads_ok}
 use Rattle.quilt_types.specs.declared.plane.Block.{Block}
 use Rattle.quilt_types.specs.declared.plane.Colour.{Colour}
@@ -97,126 +98,132 @@ returns-in_default-clause-reads g t c =
     (36 * c.args.count + 3 * sum_by f (take c.args.count (quarters_of c.args.b))) _ _ (omega arith) (law yes grid h))
     c.plan_quarters.ensures.reads
 
-pub returns-in-Err-plan_quarters-clause-sound : goal.returns-in-Err-plan_quarters-clause-sound
-returns-in-Err-plan_quarters-clause-sound g t c grid h =
-    c.in-Err-plan_quarters.ensures.sound grid (subst (λ told. HasRegion told c.args.tree.now c.args.layer c.args.level grid)
-    (sym c.in-Ok-Some.ensures.left.told) h)
+pub returns-in_err-plan_quarters-clause-sound : goal.returns-in_err-plan_quarters-clause-sound
+returns-in_err-plan_quarters-clause-sound g t c =
+    let p = err_from_is_err_and c.from_residual-in_err-plan_quarters.result c.from_residual-in_err-plan_quarters.ensures.1 in
+    rw (p.1, p.2) (λ grid h. c.in_err-plan_quarters.ensures.sound grid (subst (λ told. HasRegion told c.args.tree.now c.args.layer c.args.level grid)
+    (sym c.in_ok-known.ensures.left.told) h))
 
-pub returns-in-Err-plan_part-clause-sound : goal.returns-in-Err-plan_part-clause-sound
-returns-in-Err-plan_part-clause-sound g t c grid h =
-    let after = subst (λ told. HasRegion told c.args.tree.now c.args.layer c.args.level grid)
-    (sym (c.in-Ok-true.ensures.left.told ∙ c.in-Ok-Some.ensures.left.told)) h in
+pub returns-in_err-plan_part-clause-sound : goal.returns-in_err-plan_part-clause-sound
+returns-in_err-plan_part-clause-sound g t c =
+    let p = err_from_is_err_and c.from_residual-in_err-plan_part.result c.from_residual-in_err-plan_part.ensures.1 in
+    rw (p.1, p.2) (λ grid h. let after = subst (λ told. HasRegion told c.args.tree.now c.args.layer c.args.level grid)
+    (sym (c.in_ok-plan_quarters.ensures.left.told ∙ c.in_ok-known.ensures.left.told)) h in
     let law : (grid : Grid) → HasRegion (g.S.PageStore.told c.args.store.now) c.args.tree.now c.args.layer c.args.level grid
-    → KnowsAround c.args.level grid c.in-Some.v c.in-Ok-Some.known =
+    → KnowsAround c.args.level grid c.in-Some.v c.in-Some-2.known =
     some_at (λ (k : Known). (grid : Grid) → HasRegion (g.S.PageStore.told c.args.store.now) c.args.tree.now c.args.layer c.args.level grid
-    → KnowsAround c.args.level grid c.in-Some.v k) c.in-Ok-Some.field-0 c.in-Ok-Some.known c.in-Ok-Some.field-0-is c.in-Ok-Some.ensures.knows in
-    c.in-Err-plan_part.ensures.sound grid after (law grid h)
+    → KnowsAround c.args.level grid c.in-Some.v k) c.in_ok-known.field-0 c.in-Some-2.known c.in-Some-2.is c.in_ok-known.ensures.knows in
+    c.in_err-plan_part.ensures.sound grid after (law grid h))
 
-pub returns-in-Ok-clause-remove : goal.returns-in-Ok-clause-remove
-returns-in-Ok-clause-remove g t c test grid h several =
+pub returns-clause-remove : goal.returns-clause-remove
+returns-clause-remove g t c test grid h several =
     let n = c.args.level in
     let le = c.requires.level.1 in
     let some : 1 ≤ c.args.count = omega (arith, c.if-count-eq0.false) in
     let at = quarter_is c.args.b c.quarters.result c.args.count _ c.quarters.ensures.value some c.requires.most n c.requires.block c.requires.wide in
     let colour = ap (λ (d : Colour). d.0)
-    (some_at (λ (k : Known). k.around ≡ c.args.c) c.in-Ok-Some.field-0 c.in-Ok-Some.known c.in-Ok-Some.field-0-is c.in-Ok-Some.ensures.colour) in
+    (some_at (λ (k : Known). k.around ≡ c.args.c) c.in_ok-known.field-0 c.in-Some-2.known c.in-Some-2.is c.in_ok-known.ensures.colour) in
     let law : (grid : Grid) → HasRegion (g.S.PageStore.told c.args.store.now) c.args.tree.now c.args.layer c.args.level grid
-    → KnowsAround c.args.level grid c.in-Some.v c.in-Ok-Some.known =
+    → KnowsAround c.args.level grid c.in-Some.v c.in-Some-2.known =
     some_at (λ (k : Known). (grid : Grid) → HasRegion (g.S.PageStore.told c.args.store.now) c.args.tree.now c.args.layer c.args.level grid
-    → KnowsAround c.args.level grid c.in-Some.v k) c.in-Ok-Some.field-0 c.in-Ok-Some.known c.in-Ok-Some.field-0-is c.in-Ok-Some.ensures.knows in
+    → KnowsAround c.args.level grid c.in-Some.v k) c.in_ok-known.field-0 c.in-Some-2.known c.in-Some-2.is c.in_ok-known.ensures.knows in
     let knows = law grid h in
-    let told = c.in-Ok-Some.ensures.left.told in
+    let told = c.in_ok-known.ensures.left.told in
     let after = subst (λ told. HasRegion told c.args.tree.now c.args.layer n grid) (sym told) h in
-    let later = subst (λ told. HasRegion told c.args.tree.now c.args.layer n grid) (sym (c.in-Ok-true.ensures.left.told ∙ told)) h in
+    let later = subst (λ told. HasRegion told c.args.tree.now c.args.layer n grid) (sym (c.in_ok-plan_quarters.ensures.left.told ∙ told)) h in
     let part = with_part n c.args.layer grid c.args.w c.args.c.0 c.args.b le c.requires.window c.requires.block c.requires.wide _ at.member
-    c.in-Some.v c.in-Ok-Some.known c.in-Some.ensures.some colour knows
-    (some_at (λ (k : Known). k.top.side < (get_or c.quarters.result (c.args.count - 1) zero_block).side) c.in-Ok-Some.field-0 c.in-Ok-Some.known
-    c.in-Ok-Some.field-0-is c.in-Ok-Some.ensures.small) in
+    c.in-Some.v c.in-Some-2.known c.in-Some.ensures.some colour knows
+    (some_at (λ (k : Known). k.top.side < (get_or c.quarters.result (c.args.count - 1) zero_block).side) c.in_ok-known.field-0 c.in-Some-2.known
+    c.in-Some-2.is c.in_ok-known.ensures.small) in
     list_step c.args.b c.quarters.result c.args.count _ c.quarters.ensures.value some c.requires.most
     (records_without_in n c.args.layer grid (painted n grid c.args.w c.args.c.0)) _ _ _ _
-    (c.in-Ok-true.ensures.remove c.in-Ok-true.field-0-test grid after several) (c.in-Ok.ensures.remove grid later knows)
+    (c.in_ok-plan_quarters.ensures.remove c.if-not-branch.false grid after several) (c.in_ok-plan_part.ensures.remove grid later knows)
     (part.0 ∙ ap (λ (d : ℕ). records_without n c.args.layer grid (painted n grid c.in-Some.v d)) (sym colour))
 
-pub returns-in-Ok-clause-add : goal.returns-in-Ok-clause-add
-returns-in-Ok-clause-add g t c test grid h several =
+pub returns-clause-add : goal.returns-clause-add
+returns-clause-add g t c test grid h several =
     let n = c.args.level in
     let le = c.requires.level.1 in
     let some : 1 ≤ c.args.count = omega (arith, c.if-count-eq0.false) in
     let at = quarter_is c.args.b c.quarters.result c.args.count _ c.quarters.ensures.value some c.requires.most n c.requires.block c.requires.wide in
     let colour = ap (λ (d : Colour). d.0)
-    (some_at (λ (k : Known). k.around ≡ c.args.c) c.in-Ok-Some.field-0 c.in-Ok-Some.known c.in-Ok-Some.field-0-is c.in-Ok-Some.ensures.colour) in
+    (some_at (λ (k : Known). k.around ≡ c.args.c) c.in_ok-known.field-0 c.in-Some-2.known c.in-Some-2.is c.in_ok-known.ensures.colour) in
     let law : (grid : Grid) → HasRegion (g.S.PageStore.told c.args.store.now) c.args.tree.now c.args.layer c.args.level grid
-    → KnowsAround c.args.level grid c.in-Some.v c.in-Ok-Some.known =
+    → KnowsAround c.args.level grid c.in-Some.v c.in-Some-2.known =
     some_at (λ (k : Known). (grid : Grid) → HasRegion (g.S.PageStore.told c.args.store.now) c.args.tree.now c.args.layer c.args.level grid
-    → KnowsAround c.args.level grid c.in-Some.v k) c.in-Ok-Some.field-0 c.in-Ok-Some.known c.in-Ok-Some.field-0-is c.in-Ok-Some.ensures.knows in
+    → KnowsAround c.args.level grid c.in-Some.v k) c.in_ok-known.field-0 c.in-Some-2.known c.in-Some-2.is c.in_ok-known.ensures.knows in
     let knows = law grid h in
-    let told = c.in-Ok-Some.ensures.left.told in
+    let told = c.in_ok-known.ensures.left.told in
     let after = subst (λ told. HasRegion told c.args.tree.now c.args.layer n grid) (sym told) h in
-    let later = subst (λ told. HasRegion told c.args.tree.now c.args.layer n grid) (sym (c.in-Ok-true.ensures.left.told ∙ told)) h in
+    let later = subst (λ told. HasRegion told c.args.tree.now c.args.layer n grid) (sym (c.in_ok-plan_quarters.ensures.left.told ∙ told)) h in
     let part = with_part n c.args.layer grid c.args.w c.args.c.0 c.args.b le c.requires.window c.requires.block c.requires.wide _ at.member
-    c.in-Some.v c.in-Ok-Some.known c.in-Some.ensures.some colour knows
-    (some_at (λ (k : Known). k.top.side < (get_or c.quarters.result (c.args.count - 1) zero_block).side) c.in-Ok-Some.field-0 c.in-Ok-Some.known
-    c.in-Ok-Some.field-0-is c.in-Ok-Some.ensures.small) in
+    c.in-Some.v c.in-Some-2.known c.in-Some.ensures.some colour knows
+    (some_at (λ (k : Known). k.top.side < (get_or c.quarters.result (c.args.count - 1) zero_block).side) c.in_ok-known.field-0 c.in-Some-2.known
+    c.in-Some-2.is c.in_ok-known.ensures.small) in
     list_step c.args.b c.quarters.result c.args.count _ c.quarters.ensures.value some c.requires.most
     (records_without_in n c.args.layer (painted n grid c.args.w c.args.c.0) grid) _ _ _ _
-    (c.in-Ok-true.ensures.add c.in-Ok-true.field-0-test grid after several) (c.in-Ok.ensures.add grid later knows)
+    (c.in_ok-plan_quarters.ensures.add c.if-not-branch.false grid after several) (c.in_ok-plan_part.ensures.add grid later knows)
     (part.1 ∙ ap (λ (d : ℕ). records_without n c.args.layer (painted n grid c.in-Some.v d) grid) (sym colour))
 
-pub returns-in-Ok-clause-several : goal.returns-in-Ok-clause-several
-returns-in-Ok-clause-several g t c test grid q p h member held inside =
+pub returns-clause-several : goal.returns-clause-several
+returns-clause-several g t c test grid q p h member held inside =
     let n = c.args.level in
     let le = c.requires.level.1 in
     let some : 1 ≤ c.args.count = omega (arith, c.if-count-eq0.false) in
     let at = quarter_is c.args.b c.quarters.result c.args.count _ c.quarters.ensures.value some c.requires.most n c.requires.block c.requires.wide in
     let law : (grid : Grid) → HasRegion (g.S.PageStore.told c.args.store.now) c.args.tree.now c.args.layer c.args.level grid
-    → KnowsAround c.args.level grid c.in-Some.v c.in-Ok-Some.known =
+    → KnowsAround c.args.level grid c.in-Some.v c.in-Some-2.known =
     some_at (λ (k : Known). (grid : Grid) → HasRegion (g.S.PageStore.told c.args.store.now) c.args.tree.now c.args.layer c.args.level grid
-    → KnowsAround c.args.level grid c.in-Some.v k) c.in-Ok-Some.field-0 c.in-Ok-Some.known c.in-Ok-Some.field-0-is c.in-Ok-Some.ensures.knows in
+    → KnowsAround c.args.level grid c.in-Some.v k) c.in_ok-known.field-0 c.in-Some-2.known c.in-Some-2.is c.in_ok-known.ensures.knows in
     part_several n c.args.layer grid c.args.w c.args.c.0 c.args.b le c.requires.window c.requires.block c.requires.wide _ at.member c.in-Some.v
-    c.in-Ok-Some.known c.in-Some.ensures.some
+    c.in-Some-2.known c.in-Some.ensures.some
     (ap (λ (d : Colour). d.0)
-    (some_at (λ (k : Known). k.around ≡ c.args.c) c.in-Ok-Some.field-0 c.in-Ok-Some.known c.in-Ok-Some.field-0-is c.in-Ok-Some.ensures.colour))
+    (some_at (λ (k : Known). k.around ≡ c.args.c) c.in_ok-known.field-0 c.in-Some-2.known c.in-Some-2.is c.in_ok-known.ensures.colour))
     (law grid h) (some_at (λ (k : Known). k.top.side < (get_or c.quarters.result (c.args.count - 1) zero_block).side)
-    c.in-Ok-Some.field-0 c.in-Ok-Some.known c.in-Ok-Some.field-0-is c.in-Ok-Some.ensures.small)
+    c.in_ok-known.field-0 c.in-Some-2.known c.in-Some-2.is c.in_ok-known.ensures.small)
 
-pub returns-in-Ok-clause-reads : goal.returns-in-Ok-clause-reads
-returns-in-Ok-clause-reads g t c test grid h =
+pub returns-clause-reads : goal.returns-clause-reads
+returns-clause-reads g t c test grid h =
     let n = c.args.level in
     let le = c.requires.level.1 in
     let some : 1 ≤ c.args.count = omega (arith, c.if-count-eq0.false) in
     let at = quarter_is c.args.b c.quarters.result c.args.count _ c.quarters.ensures.value some c.requires.most n c.requires.block c.requires.wide in
-    let told = c.in-Ok-Some.ensures.left.told in
+    let told = c.in_ok-known.ensures.left.told in
     let after = subst (λ told. HasRegion told c.args.tree.now c.args.layer n grid) (sym told) h in
-    let later = subst (λ told. HasRegion told c.args.tree.now c.args.layer n grid) (sym (c.in-Ok-true.ensures.left.told ∙ told)) h in
+    let later = subst (λ told. HasRegion told c.args.tree.now c.args.layer n grid) (sym (c.in_ok-plan_quarters.ensures.left.told ∙ told)) h in
     let f : Block → ℕ = λ q. length (leaves_within n grid q) in
     let sum = sum_step c.args.b c.quarters.result c.args.count zero_block c.quarters.ensures.value some c.requires.most f in
     let law : (grid : Grid) → HasRegion (g.S.PageStore.told c.args.store.now) c.args.tree.now c.args.layer c.args.level grid
-    → KnowsAround c.args.level grid c.in-Some.v c.in-Ok-Some.known =
+    → KnowsAround c.args.level grid c.in-Some.v c.in-Some-2.known =
     some_at (λ (k : Known). (grid : Grid) → HasRegion (g.S.PageStore.told c.args.store.now) c.args.tree.now c.args.layer c.args.level grid
-    → KnowsAround c.args.level grid c.in-Some.v k) c.in-Ok-Some.field-0 c.in-Ok-Some.known c.in-Ok-Some.field-0-is c.in-Ok-Some.ensures.knows in
+    → KnowsAround c.args.level grid c.in-Some.v k) c.in_ok-known.field-0 c.in-Some-2.known c.in-Some-2.is c.in_ok-known.ensures.knows in
     let knows = law grid h in
     let inside = top_inside n c.args.layer grid c.args.w c.args.c.0 c.args.b le c.requires.window c.requires.block c.requires.wide _ at.member
-    c.in-Some.v c.in-Ok-Some.known c.in-Some.ensures.some
+    c.in-Some.v c.in-Some-2.known c.in-Some.ensures.some
     (ap (λ (d : Colour). d.0)
-    (some_at (λ (k : Known). k.around ≡ c.args.c) c.in-Ok-Some.field-0 c.in-Ok-Some.known c.in-Ok-Some.field-0-is c.in-Ok-Some.ensures.colour))
+    (some_at (λ (k : Known). k.around ≡ c.args.c) c.in_ok-known.field-0 c.in-Some-2.known c.in-Some-2.is c.in_ok-known.ensures.colour))
     knows (some_at (λ (k : Known). k.top.side < (get_or c.quarters.result (c.args.count - 1) zero_block).side)
-    c.in-Ok-Some.field-0 c.in-Ok-Some.known c.in-Ok-Some.field-0-is c.in-Ok-Some.ensures.small) in
-    let more = more_within n grid le c.in-Ok-Some.known.read (get_or c.quarters.result (c.args.count - 1) zero_block) knows.blocks.read at.block inside in
+    c.in_ok-known.field-0 c.in-Some-2.known c.in-Some-2.is c.in_ok-known.ensures.small) in
+    let more = more_within n grid le c.in-Some-2.known.read (get_or c.quarters.result (c.args.count - 1) zero_block) knows.blocks.read at.block inside in
     let before = sum_by f (take (c.args.count - 1) (quarters_of c.args.b)) in
-    let own = length (leaves_within n grid c.in-Ok-Some.known.read) in
+    let own = length (leaves_within n grid c.in-Some-2.known.read) in
     reads_then 30 (36 * (c.args.count - 1) + 3 * before + (6 + 3 * own))
-    (36 * c.args.count + 3 * sum_by f (take c.args.count (quarters_of c.args.b))) _ _ _ (omega arith) c.in-Ok-Some.ensures.reads
+    (36 * c.args.count + 3 * sum_by f (take c.args.count (quarters_of c.args.b))) _ _ _ (omega arith) c.in_ok-known.ensures.reads
     (reads_then (36 * (c.args.count - 1) + 3 * before) (6 + 3 * own) (36 * (c.args.count - 1) + 3 * before + (6 + 3 * own)) _ _ _ (omega arith)
-    (c.in-Ok-true.ensures.reads c.in-Ok-true.field-0-test grid after) (c.in-Ok.ensures.reads grid later))
+    (c.in_ok-plan_quarters.ensures.reads c.if-not-branch.false grid after) (c.in_ok-plan_part.ensures.reads grid later))
 
-pub returns-in-Err-plan_quarters-clause-left : goal.returns-in-Err-plan_quarters-clause-left
-returns-in-Err-plan_quarters-clause-left g t c = only_reads_err _ (only_reads_then _ g.met.S.PageStore.goes_on _ _ _ c.in-Ok-Some.ensures.left c.in-Err-plan_quarters.ensures.left)
+pub returns-in_err-plan_quarters-clause-left : goal.returns-in_err-plan_quarters-clause-left
+returns-in_err-plan_quarters-clause-left g t c =
+    let p = err_from_is_err_and c.from_residual-in_err-plan_quarters.result c.from_residual-in_err-plan_quarters.ensures.1 in
+    rw (p.1, p.2) (only_reads_err _ (only_reads_then _ g.met.S.PageStore.goes_on _ _ _ c.in_ok-known.ensures.left c.in_err-plan_quarters.ensures.left))
 
-pub returns-in-Ok-false-clause-left : goal.returns-in-Ok-false-clause-left
-returns-in-Ok-false-clause-left g t c = only_reads_ok _ (only_reads_then _ g.met.S.PageStore.goes_on _ _ _ c.in-Ok-Some.ensures.left c.in-Ok-false.ensures.left) _
+pub returns-then-not-branch-clause-left : goal.returns-then-not-branch-clause-left
+returns-then-not-branch-clause-left g t c = only_reads_ok _ (only_reads_then _ g.met.S.PageStore.goes_on _ _ _ c.in_ok-known.ensures.left c.in_ok-plan_quarters.ensures.left) _
 
-pub returns-in-Err-plan_part-clause-left : goal.returns-in-Err-plan_part-clause-left
-returns-in-Err-plan_part-clause-left g t c = only_reads_err _ (only_reads_then _ g.met.S.PageStore.goes_on _ _ _ c.in-Ok-Some.ensures.left (only_reads_then _ g.met.S.PageStore.goes_on _ _ _ c.in-Ok-true.ensures.left c.in-Err-plan_part.ensures.left))
+pub returns-in_err-plan_part-clause-left : goal.returns-in_err-plan_part-clause-left
+returns-in_err-plan_part-clause-left g t c =
+    let p = err_from_is_err_and c.from_residual-in_err-plan_part.result c.from_residual-in_err-plan_part.ensures.1 in
+    rw (p.1, p.2) (only_reads_err _ (only_reads_then _ g.met.S.PageStore.goes_on _ _ _ c.in_ok-known.ensures.left (only_reads_then _ g.met.S.PageStore.goes_on _ _ _ c.in_ok-plan_quarters.ensures.left c.in_err-plan_part.ensures.left)))
 
-pub returns-in-Ok-clause-left : goal.returns-in-Ok-clause-left
-returns-in-Ok-clause-left g t c = only_reads_ok _ (only_reads_then _ g.met.S.PageStore.goes_on _ _ _ c.in-Ok-Some.ensures.left (only_reads_then _ g.met.S.PageStore.goes_on _ _ _ c.in-Ok-true.ensures.left c.in-Ok.ensures.left)) _
+pub returns-clause-left : goal.returns-clause-left
+returns-clause-left g t c = only_reads_ok _ (only_reads_then _ g.met.S.PageStore.goes_on _ _ _ c.in_ok-known.ensures.left (only_reads_then _ g.met.S.PageStore.goes_on _ _ _ c.in_ok-plan_quarters.ensures.left c.in_ok-plan_part.ensures.left)) _

@@ -1,4 +1,5 @@
 use Rattle.std.proofs.Common.{◌≡◌, ◌+◌, ◌*◌, length, sym, ◌∙◌, arith}
+use Rattle.std.proofs.lemmas.Result.{err_from_is_err_and}
 use Rattle.quilt_types.specs.declared.plane.Pixel.{Pixel}
 use Rattle.quilt_types.specs.declared.stop.Stop.TheVariants.{Memory, Damaged}
 use Rattle.quilt_types.specs.Algebra.{painted}
@@ -13,41 +14,42 @@ use Rattle.quilt_region.proofs.quarters.plan_in_block.Goals as goal
 memory_sound : (page : _) → Memory ≡ Damaged page → ⊥
 memory_sound page e = cc
 
-pub returns-in-Err-edits_of-clause-sound : goal.returns-in-Err-edits_of-clause-sound
-returns-in-Err-edits_of-clause-sound g c grid h page e =
-    let n = c.args.level in
+pub returns-in_err-edits-clause-sound : goal.returns-in_err-edits-clause-sound
+returns-in_err-edits-clause-sound g c =
+    let p = err_from_is_err_and c.from_residual-in_err-edits.result c.from_residual-in_err-edits.ensures.1 in
+    rw (p.1, p.2) (λ grid h page e. let n = c.args.level in
     let le = c.requires.level.1 in
     let w = c.args.w in
     let p : Pixel = record { x = w.x; y = w.y } in
     let q = quarter_with n c.args.b le c.requires.block c.requires.wide p (window_corner c.args.b n w c.requires.window c.requires.holds) in
-    let several = c.in-Ok-true.ensures.several c.in-Ok-true.field-0-test grid q.0 p h q.1 q.2 (inside_from w p (corner_in n w c.requires.window)) in
+    let several = c.in_ok-plan_quarters.ensures.several c.if-not-branch.false grid q.0 p h q.1 q.2 (inside_from w p (corner_in n w c.requires.window)) in
     let both = quarters_whole n c.args.layer grid w c.args.c.0 c.args.b le c.requires.window c.requires.block c.requires.wide c.requires.holds several in
     let removed =
-    from_none c.new-remove.result.items _ _ _ (c.in-Ok-true.ensures.remove c.in-Ok-true.field-0-test grid h several) c.new-remove.ensures.items both.0 in
-    let added = from_none c.new-add.result.items _ _ _ (c.in-Ok-true.ensures.add c.in-Ok-true.field-0-test grid h several) c.new-add.ensures.items both.1 in
-    memory_sound page (sym (c.in-Err-edits_of.ensures.memory (can_be n c.args.layer grid (painted n grid w c.args.c.0) _ _ le removed added)) ∙ e)
+    from_none c.new-remove.result.items _ _ _ (c.in_ok-plan_quarters.ensures.remove c.if-not-branch.false grid h several) c.new-remove.ensures.items both.0 in
+    let added = from_none c.new-add.result.items _ _ _ (c.in_ok-plan_quarters.ensures.add c.if-not-branch.false grid h several) c.new-add.ensures.items both.1 in
+    memory_sound page (sym (c.in_err-edits.ensures.memory (can_be n c.args.layer grid (painted n grid w c.args.c.0) _ _ le removed added)) ∙ e))
 
-pub returns-in-Ok-clause-plan : goal.returns-in-Ok-clause-plan
-returns-in-Ok-clause-plan g c grid h =
+pub returns-clause-plan : goal.returns-clause-plan
+returns-clause-plan g c grid h =
     let n = c.args.level in
     let le = c.requires.level.1 in
     let w = c.args.w in
     let p : Pixel = record { x = w.x; y = w.y } in
     let q = quarter_with n c.args.b le c.requires.block c.requires.wide p (window_corner c.args.b n w c.requires.window c.requires.holds) in
-    let several = c.in-Ok-true.ensures.several c.in-Ok-true.field-0-test grid q.0 p h q.1 q.2 (inside_from w p (corner_in n w c.requires.window)) in
+    let several = c.in_ok-plan_quarters.ensures.several c.if-not-branch.false grid q.0 p h q.1 q.2 (inside_from w p (corner_in n w c.requires.window)) in
     let both = quarters_whole n c.args.layer grid w c.args.c.0 c.args.b le c.requires.window c.requires.block c.requires.wide c.requires.holds several in
     let removed =
-    from_none c.new-remove.result.items _ _ _ (c.in-Ok-true.ensures.remove c.in-Ok-true.field-0-test grid h several) c.new-remove.ensures.items both.0 in
-    let added = from_none c.new-add.result.items _ _ _ (c.in-Ok-true.ensures.add c.in-Ok-true.field-0-test grid h several) c.new-add.ensures.items both.1 in
+    from_none c.new-remove.result.items _ _ _ (c.in_ok-plan_quarters.ensures.remove c.if-not-branch.false grid h several) c.new-remove.ensures.items both.0 in
+    let added = from_none c.new-add.result.items _ _ _ (c.in_ok-plan_quarters.ensures.add c.if-not-branch.false grid h several) c.new-add.ensures.items both.1 in
     let after = painted n grid w c.args.c.0 in
     record {
-      remove = sorted_is n c.args.layer grid after _ _ le removed c.in-Ok.ensures.remove c.in-Ok.ensures.order.remove;
-      add = sorted_is n c.args.layer after grid _ _ le added c.in-Ok.ensures.add c.in-Ok.ensures.order.add;
+      remove = sorted_is n c.args.layer grid after _ _ le removed c.in_ok-edits.ensures.remove c.in_ok-edits.ensures.order.remove;
+      add = sorted_is n c.args.layer after grid _ _ le added c.in_ok-edits.ensures.add c.in_ok-edits.ensures.order.add;
     }
 
-pub returns-in-Ok-clause-reads : goal.returns-in-Ok-clause-reads
-returns-in-Ok-clause-reads g c grid h =
+pub returns-clause-reads : goal.returns-clause-reads
+returns-clause-reads g c grid h =
     let n = c.args.level in
     let few = few_in_quarters n c.args.b c.requires.level.1 c.requires.block c.requires.wide grid in
     reads_more (36 * 4 + 3 * _) (144 + 3 * length (leaves_within n grid c.args.b)) _ _ (omega arith)
-    (c.in-Ok-true.ensures.reads c.in-Ok-true.field-0-test grid h)
+    (c.in_ok-plan_quarters.ensures.reads c.if-not-branch.false grid h)
