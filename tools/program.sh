@@ -206,29 +206,22 @@ lanes() {
 # begin WORDS..: runs these words, and notes under which number
 begin() {
     # shellcheck disable=SC2016 # that shell's number
-    sh -c 'echo "$$" >"$1"; shift; exec "$@"' sh "$out/rt.pid" "$@"
+    sh -c 'echo "$$" >>"$1"; shift; exec "$@"' sh "$out/rt.pid" "$@"
 }
 
-# The crates that nearly all others lie below, so that nothing is left to be built beside them.
-last='quilt_map quilt_top quilt'
-# The crate that takes longest, which half of the others wait for: beside them it would have one process.
-first=quilt_btree
+# Two crates that most of the others wait for, or lie below. Each takes minutes, and among those that rt builds side by side it would have one process.
+tree=quilt_btree
+map=quilt_map
 
-# The crates below the last ones, one a line.
-below_last() {
-    stands_on quilt | awk -v last="$last" '
-        BEGIN { count = split(last, names, " "); for (i = 1; i <= count; i++) is_last[names[i]] }
-        !($1 in is_last)'
+# below NAME: what this crate stands on, one a line
+below() {
+    stands_on "$1" | grep -v -x "$1"
 }
 
-# A crate that a long chain of others stands on, none of which waits for the first one or is waited for by what stands on it.
-aside=quilt_words
-
-# Those of the crates below the last ones that come before the first: all but what stands on it, and but a long chain, which keeps the processors busy
-# beside what stands on it.
-before_first() {
-    for name in $(below_last); do
-        stands_on "$name" | grep -q -x -e "$first" -e "$aside" || echo "$name"
+# free_of NAME: those of the crates on standard input that do not stand on this one
+free_of() {
+    while read -r crate; do
+        stands_on "$crate" | grep -q -x "$1" || echo "$crate"
     done
 }
 
@@ -246,29 +239,56 @@ write_below() {
     } >"$below/BUILD.bazel"
 }
 
-# side_by_side NAME..: proves these crates and what they stand on. A crate that waits for another keeps its place among those that are worked on, so there
-# are two for each processor.
+# side_by_side LANES NAME..: proves these crates and what they stand on. A crate that waits for another keeps its place among those that are worked on, so
+# there should be two for each processor.
 side_by_side() {
+    side=$1
+    shift
     write_below "$out/below" "$@" || return
-    (cd "$out/below" && begin rt all check --jobs "$(lanes 2)")
+    (cd "$out/below" && begin rt all check --jobs "$side")
 }
 
-# Proves and builds the program: what comes before the first crate, side by side; the first crate, with as many processes as there are lanes; then all
-# else that the program stands on, side by side again; and the last crates, each with as many processes as the first. Where memory does not last for that,
-# each after the other. The program runs at the end: it ends in status 6 for a map that is not there, in which rt itself never ends.
+# beside NAME OTHER..: proves this crate with several processes, and the others side by side meanwhile; or the one after the other, where there is one lane,
+# or no way to let an interrupt come to what a shell has put into the background.
+beside() {
+    wide=$1 every=$(lanes 2)
+    shift
+    if [ "$every" -eq 1 ] || ! env --default-signal=INT true 2>/dev/null; then
+        side_by_side "$every" "$@" && (cd "$here/crates/$wide" && begin rt lib --jobs "$(lanes 1)")
+        return
+    fi
+    part=$(((every * 3 + 7) / 8))
+    (cd "$here/crates/$wide" && begin env --default-signal=INT rt lib --jobs "$part") &
+    lib=$!
+    side_by_side $((every - part)) "$@"
+    others=$?
+    wait "$lib" && return "$others"
+}
+
+# Proves what the program stands on, but for the last crates, in an order that keeps the processors busy: what lies below the tree; the tree, and all that
+# need not wait for it; what else lies below the map; and the map, and all that need not wait for that.
+prove_below() {
+    # shellcheck disable=SC2046 # the names of crates are plain words
+    side_by_side "$(lanes 2)" $(below "$tree") &&
+        beside "$tree" $(below "$map" | free_of "$tree") &&
+        side_by_side "$(lanes 2)" $(below "$map") &&
+        beside "$map" $(stands_on quilt | free_of "$map")
+}
+
+# Proves and builds the program; where memory does not last for that, one crate after the other. The program runs at the end: it ends in status 6 for a map
+# that is not there, in which rt itself never ends.
 prove() {
     jobs=$(lanes 1)
     (
         # (no gate runs over a folder that such a crate was left in)
         trap 'rm -rf "$out/below"' EXIT
         trap 'exit 130' INT HUP TERM
-        # shellcheck disable=SC2046 # the names of crates are plain words
-        if [ -d "$here/crates/$first" ]; then
-            side_by_side $(before_first) || exit
-            (cd "$here/crates/$first" && begin rt lib --jobs "$jobs") || exit
+        if [ -d "$here/crates/$tree" ]; then
+            prove_below
+        else
+            # shellcheck disable=SC2046 # the names of crates are plain words
+            side_by_side "$(lanes 2)" $(below quilt)
         fi
-        # shellcheck disable=SC2046 # the names of crates are plain words
-        side_by_side $(below_last)
     )
     is_well=$?
     if [ "$is_well" -ne 0 ]; then
@@ -312,17 +332,21 @@ functions_so_far() {
     tail -c 16384 "$1" 2>/dev/null | awk '/^crate |^== / { told = "" } /^so far: / { told = $3 " " $5 } END { if (told != "") print told }'
 }
 
-# The crates that are being proved by the rt of this number, in one line, and how many of their functions are done. Where rt works on several crates it
+# The crates that are being proved by each rt of these numbers, in one line, and how many of their functions are done. Where rt works on several crates it
 # keeps what is said of one in a file without a name until that is done; of one crate it says so at once.
 crates_under_way() {
-    # shellcheck disable=SC2013 # they are numbers in one line
-    for child in $(cat "/proc/$1/task/"*/children 2>/dev/null); do
-        tr '\0' '\n' <"/proc/$child/cmdline" 2>/dev/null | sed -n '/^--crate-name$/{n;p;q;}'
+    for number in "$@"; do
+        # shellcheck disable=SC2013 # they are numbers in one line
+        for child in $(cat "/proc/$number/task/"*/children 2>/dev/null); do
+            tr '\0' '\n' <"/proc/$child/cmdline" 2>/dev/null | sed -n '/^--crate-name$/{n;p;q;}'
+        done
     done | tr '\n' ' '
     {
         functions_so_far "$log"
-        for file in "/proc/$1/fd/"*; do
-            case $(readlink "$file") in *'(deleted)') functions_so_far "$file" ;; esac
+        for number in "$@"; do
+            for file in "/proc/$number/fd/"*; do
+                case $(readlink "$file") in *'(deleted)') functions_so_far "$file" ;; esac
+            done
         done
     } | awk '{ done += $1; all += $2 } END { if (all) print done " of " all }'
 }
@@ -340,8 +364,9 @@ watch() {
     while kill -0 "$1" 2>/dev/null; do
         count=$(stands_on "$(proved_by "$log" | tr '\n' ' ')" | wc -l)
         spent=$(($(date +%s) - began))
+        # shellcheck disable=SC2046 # the numbers are plain words
         line=$(printf 'quilt: [%s] %d:%02d, %d of %d crates, %s' "$(bar "$count" "$all")" $((spent / 60)) $((spent % 60)) \
-            "$count" "$all" "$(crates_under_way "$(cat "$out/rt.pid" 2>/dev/null)")")
+            "$count" "$all" "$(crates_under_way $(cat "$out/rt.pid" 2>/dev/null))")
         printf '\r%.*s\033[K' "$((${columns:-80} - 1))" "$line" >&2
         sleep 1
     done

@@ -4,7 +4,7 @@ ghost use Rattle.quilt_world.specs.Causes.{Rose};
 ghost use Rattle.quilt_world.specs.Tale.{taken_bytes};
 ghost use Rattle.quilt_top.specs.Ends.{status_of};
 ghost use Rattle.quilt_top.specs.Openings.{end_of_stop};
-ghost use Rattle.quilt_top.specs.Words.{asked_for};
+ghost use Rattle.quilt_top.specs.Words.{Order as Asked, asked_for};
 ghost use Rattle.quilt_top.specs.Headline.{KeepsPromises, WhereTold, IsUsage, HasEndCause};
 ghost use Rattle.quilt_top.specs.Stronger.{KeepsMore};
 
@@ -73,6 +73,16 @@ impl End {
     }
 }
 
+/// How a run ends that calls nothing of the world.
+fn left_alone<W: World>(end: End, world: W) -> (End, W)
+    requires door { W.door world ≡ doors.Shut }
+    requires untaken { IfSome (W.told world) (λ t. taken_bytes t.log ≡ []) }
+    ensures same { result ≡ (end, world) }
+    ensures more { (order : Option Asked) → WhereTold (KeepsMore order (W.door result.1) result.0) (W.told world) (W.told result.1) }
+{
+    (end, world)
+}
+
 /// Does all that the program does, by the words after its name, and hands the world back, of whose input nothing was taken yet.
 pub fn run_quilt<'a, R: Threads + Sync, W: World>(
     rt: &R,
@@ -91,10 +101,10 @@ pub fn run_quilt<'a, R: Threads + Sync, W: World>(
     ensures more { WhereTold (KeepsMore (asked_for (map (λ w. w.now) words.entry.now)) (W.door result.1) result.0) (W.told world) (W.told result.1) }
 {
     let Ok(order) = read_order(alloc, words) else {
-        return (End::Memory, world);
+        return left_alone(End::Memory, world);
     };
     match order {
-        None => (End::Usage, world),
+        None => left_alone(End::Usage, world),
         Some(Order::New(file)) => new_file(alloc, world, file),
         Some(Order::Run(file)) => run_file(rt, alloc, world, file),
     }

@@ -2,7 +2,6 @@ use Rattle.std.proofs.Common.{◌≡◌, Option, Some, map, subst, rules}
 use Rattle.quilt_top.specs.Headline.{HasEndCause}
 use Rattle.quilt_top.specs.Meanings.{run_from}
 use Rattle.quilt_top.specs.Words.{Order, asked_for}
-use Rattle.quilt_top.proofs.InTurn.{shut_more}
 use Rattle.quilt_top.proofs.Promises.{cause_by}
 use Rattle.quilt_top.proofs.run.run_quilt.Goals as goal
 
@@ -13,11 +12,3 @@ returns-in-Some-Run-clause-cause g c =
     subst (λ (order : Option Order). HasEndCause order (g.W.Disk.faults c.args.world) (g.W.Disk.faults c.run_file.result.1)
     (g.W.Disk.door c.run_file.result.1) c.run_file.result.0) is
     (cause_by file.source file.path.now file.pool _ _ _ _ c.run_file.ensures.cause c.run_file.ensures.short)
-
--- ---- where nothing was done
-
-pub returns-in_default-clause-more : goal.returns-in_default-clause-more
-returns-in_default-clause-more g c = shut_more (asked_for (map (λ w. w.now) c.args.words.now)) _ _ _ c.requires.door c.requires.untaken
-
-pub returns-in-None-clause-more : goal.returns-in-None-clause-more
-returns-in-None-clause-more g c = shut_more (asked_for (map (λ w. w.now) c.args.words.now)) _ _ _ c.requires.door c.requires.untaken
