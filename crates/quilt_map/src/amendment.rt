@@ -28,10 +28,9 @@ impl<W: World> Session<W> {
         ensures goes_on { books.GoesOn self.old.book self.new.book }
         ensures cause { HasStopCause (W.faults (books.world_of self.old.book)) (W.faults (books.world_of self.new.book)) result }
     {
-        match self.change(edits.remove.records(), edits.add.records()) {
-            Err(e) => Err(e),
-            Ok(false) => Ok(Reply::No(Code::Full)),
-            Ok(true) => Ok(Reply::Ok(text)),
+        if !self.change(edits.remove.records(), edits.add.records())? {
+            return Ok(Reply::No(Code::Full));
         }
+        Ok(Reply::Ok(text))
     }
 }

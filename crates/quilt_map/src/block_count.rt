@@ -55,10 +55,8 @@ impl<W: World> Session<W> {
             None => Ok(Reply::No(Code::Unknown)),
             Some((number, kind)) => {
                 let level = self.book.head().level;
-                match count_blocks(&mut self.book, number, kind) {
-                    Err(stop) => Err(stop),
-                    Ok(counts) => told(blocks_text(self.alloc, level, &counts)),
-                }
+                let counts = count_blocks(&mut self.book, number, kind)?;
+                told(blocks_text(self.alloc, level, &counts))
             }
         }
     }

@@ -71,10 +71,7 @@ impl<W: World> Session<W> {
         if is_over(records, removed.len(), added.len(), quota) {
             return Ok(false);
         }
-        match edit_records(self.alloc, &mut self.book, removed, added) {
-            Err(e) => return Err(e),
-            Ok(()) => {}
-        }
+        edit_records(self.alloc, &mut self.book, removed, added)?;
         let count = self.changes.saturating_add(removed.len() as u64);
         self.changes = count.saturating_add(added.len() as u64);
         Ok(true)

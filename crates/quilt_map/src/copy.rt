@@ -59,15 +59,11 @@ fn layer_records<W: Disk>(
     if entry.number == 0 {
         return Err(DAMAGED);
     }
-    match read_records(alloc, book, entry.number) {
-        Err(e) => Err(e),
-        Ok(records) => {
-            let Ok(all) = listed(alloc, entry, &records) else {
-                return Err(Stop::Memory);
-            };
-            Ok(all)
-        }
-    }
+    let records = read_records(alloc, book, entry.number)?;
+    let Ok(all) = listed(alloc, entry, &records) else {
+        return Err(Stop::Memory);
+    };
+    Ok(all)
 }
 
 /// The record under the number of another layer.
@@ -108,18 +104,14 @@ fn copied_records<W: Disk>(
     ensures still { IsStill book.old book.new }
     ensures cause { HasStopCause (W.faults (books.world_of book.old)) (W.faults (books.world_of book.new)) result }
 {
-    match read_records(alloc, book, number) {
-        Err(e) => Err(e),
-        Ok(records) => {
-            let Ok(copies) = moved_records(alloc, entry.number, &records) else {
-                return Err(Stop::Memory);
-            };
-            let Ok(all) = listed(alloc, entry, &copies) else {
-                return Err(Stop::Memory);
-            };
-            Ok(all)
-        }
-    }
+    let records = read_records(alloc, book, number)?;
+    let Ok(copies) = moved_records(alloc, entry.number, &records) else {
+        return Err(Stop::Memory);
+    };
+    let Ok(all) = listed(alloc, entry, &copies) else {
+        return Err(Stop::Memory);
+    };
+    Ok(all)
 }
 
 impl<W: World> Session<W> {
@@ -143,18 +135,13 @@ impl<W: World> Session<W> {
             name: name.copy(),
             kind: e.kind,
         };
-        match layer_records(self.alloc, &mut self.book, &entry) {
-            Err(e) => Err(e),
-            Ok(all) => match self.change(all.records(), &[]) {
-                Err(e) => Err(e),
-                // A map with fewer records is within its quota.
-                Ok(false) => Err(DAMAGED),
-                Ok(true) => {
-                    self.catalog.remove(i);
-                    Ok(Reply::Ok(text))
-                }
-            },
+        let all = layer_records(self.alloc, &mut self.book, &entry)?;
+        // A map with fewer records is within its quota.
+        if !self.change(all.records(), &[])? {
+            return Err(DAMAGED);
         }
+        self.catalog.remove(i);
+        Ok(Reply::Ok(text))
     }
 
     /// Puts a copy of a layer of any kind into the work, under a name that no layer has.
@@ -175,10 +162,8 @@ impl<W: World> Session<W> {
                     return Err(Stop::Memory);
                 };
                 let entry = new_entry(self.catalog.entries(), other, kind);
-                match copied_records(self.alloc, &mut self.book, number, &entry) {
-                    Err(e) => Err(e),
-                    Ok(all) => self.place(entry, all.records(), text),
-                }
+                let all = copied_records(self.alloc, &mut self.book, number, &entry)?;
+                self.place(entry, all.records(), text)
             }
         }
     }

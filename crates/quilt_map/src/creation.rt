@@ -87,14 +87,11 @@ impl<W: World> Session<W> {
         ensures cause { HasStopCause (W.faults (books.world_of self.old.book)) (W.faults (books.world_of self.new.book)) result }
         ensures reads { OnOk result (Goes (λ old new. new ≤ old + 6 * length records.now) (reads_in self.old.book) (reads_in self.new.book)) }
     {
-        match self.change(&[], records) {
-            Err(e) => Err(e),
-            Ok(false) => Ok(Reply::No(Code::Full)),
-            Ok(true) => {
-                self.catalog.insert(entry);
-                Ok(Reply::Ok(text))
-            }
+        if !self.change(&[], records)? {
+            return Ok(Reply::No(Code::Full));
         }
+        self.catalog.insert(entry);
+        Ok(Reply::Ok(text))
     }
 
     /// Makes a region layer with these leaves under a name that no layer has.

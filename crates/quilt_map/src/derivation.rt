@@ -106,13 +106,11 @@ impl<W: World> Session<W> {
             → command.now ≡ commands.Window a w c → IsSideOver w side
             → Goes (λ old new. new ≤ old + cut_pages s.last.level g side w) (reads_in self.old.book) (reads_in self.new.book)) }
     {
-        match read_derived(self.alloc, &mut self.book, number, command) {
-            Err(stop) => Err(stop),
-            Ok(list) => match derived_list(self.alloc, &list, command) {
-                Err(_) => Err(Stop::Memory),
-                Ok(made) => self.make_region(into, &made),
-            },
-        }
+        let list = read_derived(self.alloc, &mut self.book, number, command)?;
+        let Ok(made) = derived_list(self.alloc, &list, command) else {
+            return Err(Stop::Memory);
+        };
+        self.make_region(into, &made)
     }
 
     /// Makes a layer of a region layer with this name, under a name that no layer has: with other colours, cut to a window, shifted, or as a

@@ -51,10 +51,8 @@ pub(crate) fn edit_records<W: Disk>(
     if fits(book.head().records, added.len(), quota) {
         return edit_merged(alloc, book, removed, added);
     }
-    match edit_merged(alloc, book, removed, &[]) {
-        Err(e) => Err(e),
-        Ok(()) => edit_merged(alloc, book, &[], added),
-    }
+    edit_merged(alloc, book, removed, &[])?;
+    edit_merged(alloc, book, &[], added)
 }
 
 /// Takes records out of the tree of the work and puts others in, in one walk, where the tree has room for these beside those that go.
@@ -118,10 +116,7 @@ fn apply<W: Disk>(book: &mut Book<W>, batch: &Batch) -> Result<(), Stop>
         height: head.height,
         records: head.records,
     };
-    match tree.apply(book, batch) {
-        Err(e) => return Err(e),
-        Ok(()) => {}
-    }
+    tree.apply(book, batch)?;
     book.set_tree(tree.root, tree.height, tree.records);
     Ok(())
 }

@@ -134,10 +134,10 @@ impl<W: World> Session<W> {
     {
         match lines_and_region(self.catalog.entries(), l, a) {
             Err(code) => Ok(Reply::No(code)),
-            Ok((layer, number)) => match read_region(self.alloc, &mut self.book, number) {
-                Err(stop) => Err(stop),
-                Ok(list) => select_over(self.alloc, &mut self.book, layer, &list),
-            },
+            Ok((layer, number)) => {
+                let list = read_region(self.alloc, &mut self.book, number)?;
+                select_over(self.alloc, &mut self.book, layer, &list)
+            }
         }
     }
 
@@ -156,16 +156,14 @@ impl<W: World> Session<W> {
     {
         match both_lines(self.catalog.entries(), l, m) {
             Err(code) => Ok(Reply::No(code)),
-            Ok((first, second)) => match read_segments(self.alloc, &mut self.book, first) {
-                Err(stop) => Err(stop),
-                Ok(a) => {
-                    if *l == *m {
-                        let level = self.book.head().level;
-                        return crossed(rt, self.alloc, level, a.items(), a.items());
-                    }
-                    crossed_with(rt, self.alloc, &mut self.book, &a, second)
+            Ok((first, second)) => {
+                let a = read_segments(self.alloc, &mut self.book, first)?;
+                if *l == *m {
+                    let level = self.book.head().level;
+                    return crossed(rt, self.alloc, level, a.items(), a.items());
                 }
-            },
+                crossed_with(rt, self.alloc, &mut self.book, &a, second)
+            }
         }
     }
 }

@@ -39,10 +39,10 @@ impl<W: World> Session<W> {
     {
         match region_number(self.catalog.entries(), name) {
             Err(code) => Ok(Reply::No(code)),
-            Ok(number) => match read_region(self.alloc, &mut self.book, number) {
-                Err(stop) => Err(stop),
-                Ok(list) => told(number_text(self.alloc, measure_of(command, &list))),
-            },
+            Ok(number) => {
+                let list = read_region(self.alloc, &mut self.book, number)?;
+                told(number_text(self.alloc, measure_of(command, &list)))
+            }
         }
     }
 }

@@ -59,16 +59,12 @@ impl<W: World> Session<W> {
         ensures goes_on { books.GoesOn self.old.book self.new.book }
         ensures cause { HasStopCause (W.faults (books.world_of self.old.book)) (W.faults (books.world_of self.new.book)) result }
     {
-        match read_region(self.alloc, &mut self.book, first) {
-            Err(stop) => Err(stop),
-            Ok(below) => match read_region(self.alloc, &mut self.book, second) {
-                Err(stop) => Err(stop),
-                Ok(above) => match overlay(self.alloc, op, &below, &above) {
-                    Err(_) => Err(Stop::Memory),
-                    Ok(made) => self.make_region(into, &made),
-                },
-            },
-        }
+        let below = read_region(self.alloc, &mut self.book, first)?;
+        let above = read_region(self.alloc, &mut self.book, second)?;
+        let Ok(made) = overlay(self.alloc, op, &below, &above) else {
+            return Err(Stop::Memory);
+        };
+        self.make_region(into, &made)
     }
 
     /// Makes a layer of two region layers with these names, under a name that no layer has.

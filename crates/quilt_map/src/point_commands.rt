@@ -39,10 +39,9 @@ impl<W: World> Session<W> {
         let Ok(text) = done_text(self.alloc) else {
             return Err(Stop::Memory);
         };
-        match plan_point(self.alloc, &mut self.book, layer, at, label) {
-            Err(e) => Err(e),
-            Ok(None) => Ok(Reply::No(Code::Present)),
-            Ok(Some(edits)) => self.amend(&edits, text),
+        match plan_point(self.alloc, &mut self.book, layer, at, label)? {
+            None => Ok(Reply::No(Code::Present)),
+            Some(edits) => self.amend(&edits, text),
         }
     }
 
@@ -81,11 +80,10 @@ impl<W: World> Session<W> {
         let Ok(text) = done_text(self.alloc) else {
             return Err(Stop::Memory);
         };
-        match plan_removal(self.alloc, &mut self.book, layer, at) {
-            Err(e) => Err(e),
-            Ok(None) => Ok(Reply::No(Code::Absent)),
+        match plan_removal(self.alloc, &mut self.book, layer, at)? {
+            None => Ok(Reply::No(Code::Absent)),
             // A layer has no more records without the point, so the quota never refuses this.
-            Ok(Some(edits)) => self.amend(&edits, text),
+            Some(edits) => self.amend(&edits, text),
         }
     }
 
@@ -124,10 +122,9 @@ impl<W: World> Session<W> {
                 if !has_pixel(self.book.head().level, at) {
                     return Ok(Reply::No(Code::Outside));
                 }
-                match read_label(&mut self.book, layer, at) {
-                    Err(stop) => Err(stop),
-                    Ok(None) => Ok(Reply::No(Code::Absent)),
-                    Ok(Some(label)) => told(number_text(self.alloc, u64::from(label))),
+                match read_label(&mut self.book, layer, at)? {
+                    None => Ok(Reply::No(Code::Absent)),
+                    Some(label) => told(number_text(self.alloc, u64::from(label))),
                 }
             }
         }
@@ -149,10 +146,8 @@ impl<W: World> Session<W> {
                 if !has_window(self.book.head().level, w) {
                     return Ok(Reply::No(Code::Outside));
                 }
-                match read_points(self.alloc, &mut self.book, layer, w) {
-                    Err(stop) => Err(stop),
-                    Ok(list) => told(points_text(self.alloc, &list)),
-                }
+                let list = read_points(self.alloc, &mut self.book, layer, w)?;
+                told(points_text(self.alloc, &list))
             }
         }
     }

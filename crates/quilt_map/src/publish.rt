@@ -41,10 +41,8 @@ impl<W: World> Session<W> {
         let Ok(text) = edition_text(self.alloc, number + 1) else {
             return Err(Stop::Memory);
         };
-        match self.commit() {
-            Err(e) => Err(e),
-            Ok(()) => Ok(Reply::Ok(text)),
-        }
+        self.commit()?;
+        Ok(Reply::Ok(text))
     }
 
     /// Makes the work the next edition, in format 2.
@@ -75,10 +73,8 @@ impl<W: World> Session<W> {
             return Err(Stop::Memory);
         };
         self.book.raise();
-        match self.commit() {
-            Err(e) => Err(e),
-            Ok(()) => Ok(Reply::Ok(text)),
-        }
+        self.commit()?;
+        Ok(Reply::Ok(text))
     }
 
     /// Makes the work the last edition again. It calls no device.

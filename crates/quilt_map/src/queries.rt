@@ -99,12 +99,10 @@ impl<W: World> Session<W> {
                 if !has_pixel(self.book.head().level, at) {
                     return Ok(Reply::No(Code::Outside));
                 }
-                match read_colour(&mut self.book, number, at) {
-                    Err(stop) => Err(stop),
-                    Ok(colour) => match number_text(self.alloc, u64::from(colour.0)) {
-                        Err(_) => Err(Stop::Memory),
-                        Ok(text) => Ok(Reply::Ok(text)),
-                    },
+                let colour = read_colour(&mut self.book, number, at)?;
+                match number_text(self.alloc, u64::from(colour.0)) {
+                    Err(_) => Err(Stop::Memory),
+                    Ok(text) => Ok(Reply::Ok(text)),
                 }
             }
         }
@@ -126,10 +124,8 @@ impl<W: World> Session<W> {
                 if !has_window(head.level, w) {
                     return Ok(Reply::No(Code::Outside));
                 }
-                match read_part(self.alloc, &mut self.book, number, w) {
-                    Err(stop) => Err(stop),
-                    Ok(list) => told(show_text(self.alloc, &list, w, head.format)),
-                }
+                let list = read_part(self.alloc, &mut self.book, number, w)?;
+                told(show_text(self.alloc, &list, w, head.format))
             }
         }
     }
@@ -143,10 +139,10 @@ impl<W: World> Session<W> {
     {
         match region_number(self.catalog.entries(), name) {
             Err(code) => Ok(Reply::No(code)),
-            Ok(number) => match read_region(self.alloc, &mut self.book, number) {
-                Err(stop) => Err(stop),
-                Ok(list) => told(leaves_text(self.alloc, &list)),
-            },
+            Ok(number) => {
+                let list = read_region(self.alloc, &mut self.book, number)?;
+                told(leaves_text(self.alloc, &list))
+            }
         }
     }
 }

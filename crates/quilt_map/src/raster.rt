@@ -55,10 +55,8 @@ impl<W: World> Session<W> {
         let Ok(text) = done_text(self.alloc) else {
             return Err(Stop::Memory);
         };
-        match plan_redraw(self.alloc, &mut self.book, number, list) {
-            Err(e) => Err(e),
-            Ok(edits) => self.amend(&edits, text),
-        }
+        let edits = plan_redraw(self.alloc, &mut self.book, number, list)?;
+        self.amend(&edits, text)
     }
 
     /// Gives the region layer the colours of a raster, whose quadrants pass the gate. The rows are none where one is missing or not

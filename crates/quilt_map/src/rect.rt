@@ -34,10 +34,8 @@ impl<W: World> Session<W> {
         let Ok(text) = done_text(self.alloc) else {
             return Err(Stop::Memory);
         };
-        match plan_paint(self.alloc, &mut self.book, number, w, c) {
-            Err(e) => Err(e),
-            Ok(edits) => self.amend(&edits, text),
-        }
+        let edits = plan_paint(self.alloc, &mut self.book, number, w, c)?;
+        self.amend(&edits, text)
     }
 
     /// Paints a window of the region layer.

@@ -202,11 +202,9 @@ pub(crate) fn plan_redraw<W: Disk>(
     ensures still { IsStill book.old book.new }
     ensures cause { HasStopCause (W.faults (world_of book.old)) (W.faults (world_of book.new)) result }
 {
-    match read_region(alloc, book, number) {
-        Err(e) => Err(e),
-        Ok(old) => match plan_replace(alloc, number, &old, new) {
-            Err(_) => Err(Stop::Memory),
-            Ok(edits) => Ok(edits),
-        },
+    let old = read_region(alloc, book, number)?;
+    match plan_replace(alloc, number, &old, new) {
+        Err(_) => Err(Stop::Memory),
+        Ok(edits) => Ok(edits),
     }
 }

@@ -42,10 +42,9 @@ impl<W: World> Session<W> {
         let Ok(text) = done_text(self.alloc) else {
             return Err(Stop::Memory);
         };
-        match plan_points(self.alloc, &mut self.book, layer, points) {
-            Err(e) => Err(e),
-            Ok(None) => Ok(Reply::No(Code::Present)),
-            Ok(Some(edits)) => self.amend(&edits, text),
+        match plan_points(self.alloc, &mut self.book, layer, points)? {
+            None => Ok(Reply::No(Code::Present)),
+            Some(edits) => self.amend(&edits, text),
         }
     }
 

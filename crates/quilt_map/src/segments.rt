@@ -42,10 +42,9 @@ impl<W: World> Session<W> {
         let Ok(text) = done_text(self.alloc) else {
             return Err(Stop::Memory);
         };
-        match plan_addition(self.alloc, &mut self.book, layer, id, s) {
-            Err(e) => Err(e),
-            Ok(None) => Ok(Reply::No(Code::Present)),
-            Ok(Some(edits)) => self.amend(&edits, text),
+        match plan_addition(self.alloc, &mut self.book, layer, id, s)? {
+            None => Ok(Reply::No(Code::Present)),
+            Some(edits) => self.amend(&edits, text),
         }
     }
 
@@ -82,11 +81,10 @@ impl<W: World> Session<W> {
         let Ok(text) = done_text(self.alloc) else {
             return Err(Stop::Memory);
         };
-        match plan_removal(self.alloc, &mut self.book, layer, id) {
-            Err(e) => Err(e),
-            Ok(None) => Ok(Reply::No(Code::Absent)),
+        match plan_removal(self.alloc, &mut self.book, layer, id)? {
+            None => Ok(Reply::No(Code::Absent)),
             // Fewer records come than go, so the quota never refuses this.
-            Ok(Some(edits)) => self.amend(&edits, text),
+            Some(edits) => self.amend(&edits, text),
         }
     }
 

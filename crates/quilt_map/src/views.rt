@@ -63,28 +63,26 @@ fn select<W: Disk>(
     ensures cause { HasStopCause (W.faults (world_of book.old)) (W.faults (world_of book.new)) result }
 {
     match command {
-        Command::Cross { w, .. } => match cross(alloc, view, book, *w) {
-            Err(e) => Err(e),
-            Ok(list) => told(segs_text(alloc, list.items())),
-        },
-        Command::Clip { w, .. } => match clipped(alloc, view, book, *w) {
-            Err(e) => Err(e),
-            Ok(clips) => told(clips_text(alloc, clips.items())),
-        },
+        Command::Cross { w, .. } => {
+            let list = cross(alloc, view, book, *w)?;
+            told(segs_text(alloc, list.items()))
+        }
+        Command::Clip { w, .. } => {
+            let clips = clipped(alloc, view, book, *w)?;
+            told(clips_text(alloc, clips.items()))
+        }
         Command::Nearest { at, .. } => match nearest(alloc, view, book, *at) {
             Err(e) => Err(e),
             Ok(None) => Ok(Reply::No(Code::Absent)),
             Ok(Some((id, far))) => told(nearest_text(alloc, id, far)),
         },
-        Command::Rank { at, k, .. } => match ranked(alloc, view, book, *at, *k) {
-            Err(e) => Err(e),
-            Ok(ranks) => {
-                if ranks.items().is_empty() {
-                    return Ok(Reply::No(Code::Absent));
-                }
-                told(ranks_text(alloc, ranks.items()))
+        Command::Rank { at, k, .. } => {
+            let ranks = ranked(alloc, view, book, *at, *k)?;
+            if ranks.items().is_empty() {
+                return Ok(Reply::No(Code::Absent));
             }
-        },
+            told(ranks_text(alloc, ranks.items()))
+        }
         _ => unreachable!(),
     }
 }
@@ -129,10 +127,10 @@ pub(crate) fn select_over<W: Disk>(
 {
     match view_of(book, layer) {
         None => Err(DAMAGED),
-        Some(view) => match over(alloc, &view, book, list) {
-            Err(e) => Err(e),
-            Ok(found) => told(ids_text(alloc, found.items())),
-        },
+        Some(view) => {
+            let found = over(alloc, &view, book, list)?;
+            told(ids_text(alloc, found.items()))
+        }
     }
 }
 
@@ -198,8 +196,6 @@ pub(crate) fn crossed_with<W: Disk, R: Threads + Sync>(
     ensures still { IsStill book.old book.new }
     ensures cause { HasStopCause (W.faults (world_of book.old)) (W.faults (world_of book.new)) result }
 {
-    match read_segments(alloc, book, layer) {
-        Err(e) => Err(e),
-        Ok(b) => crossed(rt, alloc, book.head().level, a.items(), b.items()),
-    }
+    let b = read_segments(alloc, book, layer)?;
+    crossed(rt, alloc, book.head().level, a.items(), b.items())
 }

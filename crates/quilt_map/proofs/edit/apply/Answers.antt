@@ -1,5 +1,6 @@
 use Rattle.std.proofs.Common.{List, refl, sym, ◌∙◌, subst}
 use Rattle.std.proofs.lemmas.Bool.{false≢true}
+use Rattle.std.proofs.lemmas.Result.{err_from_is_err_and}
 use Rattle.quilt_record.specs.declared.record.Record.{Record}
 use Rattle.quilt_btree.specs.Edits.{IsWhole}
 use Rattle.quilt_btree.specs.Batches.{removed, records_put}
@@ -23,15 +24,17 @@ returns-clause-edited g c = λ rs whole.
     let run = c.args.batch.now in
     let before = whole_as (told_of a) (told_of a) (free_of a) (free_of a) a.journal.pages a.journal.pages a.work c.head-head.result rs refl refl refl
     c.head-head.ensures.work whole in
-    let made = c.in-Ok.ensures.edited rs before in
+    let made = c.in_ok-apply.ensures.edited rs before in
     let tree = record (work_of d) { root = c.apply.new.self.root; height = c.apply.new.self.height; records = c.apply.new.self.records } in
     let after = subst (λ (l : List Record). IsWhole (told_of d) (free_of d) a.journal.pages c.apply.new.self l) (c.apply.ensures.list rs before made.0) made.1 in
     whole_as (told_of d) (told_of e) (free_of d) (free_of e) a.journal.pages a.journal.pages tree e.work (put_all (records_put run) (without_all (removed run) rs))
     c.set_tree.ensures.told c.set_tree.ensures.free refl c.set_tree.ensures.work after
 
-pub returns-in-Err-clause-sound : goal.returns-in-Err-clause-sound
-returns-in-Err-clause-sound g c = λ rs whole due page is.
+pub returns-in_err-apply-clause-sound : goal.returns-in_err-apply-clause-sound
+returns-in_err-apply-clause-sound g c =
+    let p = err_from_is_err_and c.from_residual.result c.from_residual.ensures.1 in
+    rw (p.1, p.2) (λ rs whole due page is.
     let a = c.args.book.now in
     let before = whole_as (told_of a) (told_of a) (free_of a) (free_of a) a.journal.pages a.journal.pages a.work c.head-head.result rs refl refl refl
     c.head-head.ensures.work whole in
-    false≢true (sym (c.in-Err.ensures.fails rs before page is).1 ∙ due)
+    false≢true (sym (c.in_err-apply.ensures.fails rs before page is).1 ∙ due))

@@ -5,5 +5,5 @@ use Rattle.quilt_map.proofs.regions.plan_redraw.Goals as goal
 
 pub returns-clause-plan : goal.returns-clause-plan
 returns-clause-plan g c = λ grid has.
-    subst (λ (l : Raster). ReplacesGrid l.level c.args.number l.grid c.args.new.now.grid c.in-Ok-plan_replace.edits)
-    (c.in-Ok.ensures.list grid has) c.in-Ok-plan_replace.ensures.plan
+    subst (λ (l : Raster). ReplacesGrid l.level c.args.number l.grid c.args.new.now.grid c.in-Ok.edits)
+    (c.in_ok-old.ensures.list grid has) c.in-Ok.ensures.plan

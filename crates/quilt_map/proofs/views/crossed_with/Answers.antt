@@ -13,10 +13,10 @@ crossed-requires-clause-first_ends g c κs within =
 pub crossed-requires-clause-second_ends : goal.crossed-requires-clause-second_ends
 crossed-requires-clause-second_ends g c κs within =
     let same = c.head.ensures.work ∙ c.read_segments.ensures.still.later.2.1 in
-    ends_at c.in-Ok.b c.items-in-Ok.result.now c.args.book.now.work.level c.head.result.level c.items-in-Ok.ensures
-    (ap (λ (h : Head). h.level) same) c.in-Ok.ensures.inside
+    ends_at c.in_ok-b.b c.items-2.result.now c.args.book.now.work.level c.head.result.level c.items-2.ensures
+    (ap (λ (h : Head). h.level) same) c.in_ok-b.ensures.inside
 
-pub returns-in-Ok-clause-reply : goal.returns-in-Ok-clause-reply
-returns-in-Ok-clause-reply g c =
+pub returns-clause-reply : goal.returns-clause-reply
+returns-clause-reply g c =
     if_ok _ _ c.crossed.result (λ given tells first second cover is holds.
-    tells first second (is ∙ sym c.items.ensures) (sym (c.items-in-Ok.ensures ∙ c.in-Ok.ensures.segments second cover holds))) c.crossed.ensures.reply
+    tells first second (is ∙ sym c.items.ensures) (sym (c.items-2.ensures ∙ c.in_ok-b.ensures.segments second cover holds))) c.crossed.ensures.reply

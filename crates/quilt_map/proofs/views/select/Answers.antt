@@ -26,35 +26,35 @@ pub ranked-requires-clause-y : goal.ranked-requires-clause-y
 ranked-requires-clause-y g c = (rank_small c.args.view.now.level c.args.command.now c.args.view.now.has_level.1 c.requires.inside c.in-Rank.l c.in-Rank.at
     c.in-Rank.k c.in-Rank.is).1
 
-pub returns-in-Ok-clause-reply : goal.returns-in-Ok-clause-reply
-returns-in-Ok-clause-reply g c =
+pub returns-in_ok-list-in-Cross-clause-reply : goal.returns-in_ok-list-in-Cross-clause-reply
+returns-in_ok-list-in-Cross-clause-reply g c =
     told_reply (Shows {D = g.W.Disk} c.args.book.now c.args.view.now)
     (λ l. selected c.args.command.now l.segs) c.segs_text.result c.told.result c.told.ensures.text
     (λ l shows. if_ok _ _ c.segs_text.result
-    (λ t written. cross_body c.args.command.now l.segs c.in-Cross.l c.in-Cross.w c.in-Cross.is c.in-Ok.list c.items.result.now
-    (c.in-Ok.ensures.cross l shows) c.items.ensures t written) c.segs_text.ensures)
+    (λ t written. cross_body c.args.command.now l.segs c.in-Cross.l c.in-Cross.w c.in-Cross.is c.in_ok-list-in-Cross.list c.items.result.now
+    (c.in_ok-list-in-Cross.ensures.cross l shows) c.items.ensures t written) c.segs_text.ensures)
 
-pub returns-in-Ok-clause-reads : goal.returns-in-Ok-clause-reads
-returns-in-Ok-clause-reads g c =
+pub returns-in_ok-list-in-Cross-clause-reads : goal.returns-in_ok-list-in-Cross-clause-reads
+returns-in_ok-list-in-Cross-clause-reads g c =
     any_ok _ c.told.result (λ reply l shows found answered.
     window_costs c.args.command.now l.segs l.cover c.args.view.now.level c.in-Cross.w (reads_in {D = g.W.Disk} c.args.book.now)
     (reads_in {D = g.W.Disk} c.cross.new.store)
-    (ap (λ (x : Command). is_asked x l.segs) c.in-Cross.is) (c.in-Ok.ensures.reads l shows))
+    (ap (λ (x : Command). is_asked x l.segs) c.in-Cross.is) (c.in_ok-list-in-Cross.ensures.reads l shows))
 
-pub returns-in-Ok-clipped-clause-reply : goal.returns-in-Ok-clipped-clause-reply
-returns-in-Ok-clipped-clause-reply g c =
+pub returns-in_ok-clips-in-Clip-clause-reply : goal.returns-in_ok-clips-in-Clip-clause-reply
+returns-in_ok-clips-in-Clip-clause-reply g c =
     told_reply (Shows {D = g.W.Disk} c.args.book.now c.args.view.now)
-    (λ l. selected c.args.command.now l.segs) c.clips_text.result c.told-in-Ok-clipped.result c.told-in-Ok-clipped.ensures.text
+    (λ l. selected c.args.command.now l.segs) c.clips_text.result c.told-in-Clip.result c.told-in-Clip.ensures.text
     (λ l shows. if_ok _ _ c.clips_text.result
-    (λ t written. clip_body c.args.command.now l.segs c.in-Clip.l c.in-Clip.w c.in-Clip.is c.in-Ok-clipped.clips c.items-in-Ok-clipped.result.now
-    (c.in-Ok-clipped.ensures.clipped l shows) c.items-in-Ok-clipped.ensures t written) c.clips_text.ensures)
+    (λ t written. clip_body c.args.command.now l.segs c.in-Clip.l c.in-Clip.w c.in-Clip.is c.in_ok-clips-in-Clip.clips c.items-in-Clip.result.now
+    (c.in_ok-clips-in-Clip.ensures.clipped l shows) c.items-in-Clip.ensures t written) c.clips_text.ensures)
 
-pub returns-in-Ok-clipped-clause-reads : goal.returns-in-Ok-clipped-clause-reads
-returns-in-Ok-clipped-clause-reads g c =
-    any_ok _ c.told-in-Ok-clipped.result (λ reply l shows found answered.
+pub returns-in_ok-clips-in-Clip-clause-reads : goal.returns-in_ok-clips-in-Clip-clause-reads
+returns-in_ok-clips-in-Clip-clause-reads g c =
+    any_ok _ c.told-in-Clip.result (λ reply l shows found answered.
     window_costs c.args.command.now l.segs l.cover c.args.view.now.level c.in-Clip.w (reads_in {D = g.W.Disk} c.args.book.now)
     (reads_in {D = g.W.Disk} c.clipped.new.store)
-    (ap (λ (x : Command). is_asked x l.segs) c.in-Clip.is) (c.in-Ok-clipped.ensures.reads l shows))
+    (ap (λ (x : Command). is_asked x l.segs) c.in-Clip.is) (c.in_ok-clips-in-Clip.ensures.reads l shows))
 
 pub returns-in-Ok-None-clause-reply : goal.returns-in-Ok-None-clause-reply
 returns-in-Ok-None-clause-reply g c = λ l shows.
@@ -80,16 +80,16 @@ returns-in-Ok-Some-clause-reads g c =
 pub returns-then-is_empty-clause-reply : goal.returns-then-is_empty-clause-reply
 returns-then-is_empty-clause-reply g c = λ l shows.
     let at = c.in-Rank in
-    rank_absent c.args.command.now l.segs at.l at.at at.k at.is (subst AsksSome at.is c.requires.some) c.in-Ok-ranked.ranks c.items-in-Ok-ranked.result.now
-    (c.in-Ok-ranked.ensures.ranked l shows) c.items-in-Ok-ranked.ensures
+    rank_absent c.args.command.now l.segs at.l at.at at.k at.is (subst AsksSome at.is c.requires.some) c.in_ok-ranks-in-Rank.ranks c.items-in-Rank.result.now
+    (c.in_ok-ranks-in-Rank.ensures.ranked l shows) c.items-in-Rank.ensures
     c.is_empty.result c.is_empty.ensures c.if-is_empty.true
 
 pub returns-else-is_empty-clause-reply : goal.returns-else-is_empty-clause-reply
 returns-else-is_empty-clause-reply g c =
     let at = c.in-Rank in
     told_reply (Shows {D = g.W.Disk} c.args.book.now c.args.view.now)
-    (λ l. selected c.args.command.now l.segs) c.ranks_text.result c.told-in-Ok-ranked.result c.told-in-Ok-ranked.ensures.text
+    (λ l. selected c.args.command.now l.segs) c.ranks_text.result c.told-in-Rank.result c.told-in-Rank.ensures.text
     (λ l shows. if_ok _ _ c.ranks_text.result (λ t written.
-    rank_body c.args.command.now l.segs at.l at.at at.k at.is (subst AsksSome at.is c.requires.some) c.in-Ok-ranked.ranks c.items-in-Ok-ranked.result.now
-    (c.in-Ok-ranked.ensures.ranked l shows) c.items-in-Ok-ranked.ensures
-    c.is_empty.result c.is_empty.ensures c.if-is_empty.false c.items-in-Ok-ranked-2.result.now c.items-in-Ok-ranked-2.ensures t written) c.ranks_text.ensures)
+    rank_body c.args.command.now l.segs at.l at.at at.k at.is (subst AsksSome at.is c.requires.some) c.in_ok-ranks-in-Rank.ranks c.items-in-Rank.result.now
+    (c.in_ok-ranks-in-Rank.ensures.ranked l shows) c.items-in-Rank.ensures
+    c.is_empty.result c.is_empty.ensures c.if-is_empty.false c.items-in-Rank-2.result.now c.items-in-Rank-2.ensures t written) c.ranks_text.ensures)

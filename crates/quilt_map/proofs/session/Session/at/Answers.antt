@@ -1,6 +1,7 @@
 use Rattle.quilt_types.specs.declared.code.Code.TheVariants as no
 use Rattle.quilt_replies.specs.declared.reply.Reply.TheVariants as reply
 use Rattle.std.proofs.Common.{true, false, List, Option, refl, sym, subst, ◌∙◌, ap, Some}
+use Rattle.std.proofs.lemmas.Result.{err_from_is_err_and}
 use Rattle.std.specs.Map.{keys_of}
 use Rattle.quilt_types.specs.Layers.{Map}
 use Rattle.quilt_world.specs.Disk.{Pages}
@@ -41,13 +42,15 @@ returns-in-Err-clause-answer g c = λ s at.
 pub returns-in-Err-clause-keeps : goal.returns-in-Err-clause-keeps
 returns-in-Err-clause-keeps g c = keeps_here {D = g.W.Disk} c.args.self.now c.args.self.now.warm
 
-pub returns-in-Err-read_colour-clause-sound : goal.returns-in-Err-read_colour-clause-sound
-returns-in-Err-read_colour-clause-sound g c = λ s at.
+pub returns-in_err-colour-in-Ok-clause-sound : goal.returns-in_err-colour-in-Ok-clause-sound
+returns-in_err-colour-in-Ok-clause-sound g c =
+    let p = err_from_is_err_and c.from_residual.result c.from_residual.ensures.1 in
+    rw (p.1, p.2) (λ s at.
     let old = c.args.self.now in
     let name = c.args.name.now in
     let region = c.in-Ok.ensures.found s.work at.work.numbers (catalog_as {D = g.W.Disk} old s at c.entries.result.now c.entries.ensures.entries) in
-    c.in-Err-read_colour.ensures.sound region.grid (has_number {D = g.W.Disk} old s at name c.in-Ok.number region)
-    (has_region {D = g.W.Disk} old s at name c.in-Ok.number region)
+    c.in_err-colour-in-Ok.ensures.sound region.grid (has_number {D = g.W.Disk} old s at name c.in-Ok.number region)
+    (has_region {D = g.W.Disk} old s at name c.in-Ok.number region))
 
 pub returns-in-Ok-number_text-clause-answer : goal.returns-in-Ok-number_text-clause-answer
 returns-in-Ok-number_text-clause-answer g c = λ s at.
@@ -59,8 +62,8 @@ returns-in-Ok-number_text-clause-answer g c = λ s at.
     asked_on {D = g.W.Disk} s (commands.At name c.args.at) (at_asks s name c.args.at) old at c.read_colour.new.book old.warm
     (reply.Ok c.in-Ok-number_text.text) c.read_colour.ensures.still (g.met.W.Disk.is_consistent c.read_colour.new.book.world)
     (text_tells ((answer s (commands.At name c.args.at)).reply) c.in-Ok-number_text.text
-    (at_body {D = g.W.Disk} old s at name c.in-Ok.number region c.args.at c.in-Ok-read_colour.colour.0 c.from.result inside
-    c.in-Ok-read_colour.ensures.colour c.from.ensures c.in-Ok-number_text.text c.in-Ok-number_text.ensures))
+    (at_body {D = g.W.Disk} old s at name c.in-Ok.number region c.args.at c.in_ok-colour-in-Ok.colour.0 c.from.result inside
+    c.in_ok-colour-in-Ok.ensures.colour c.from.ensures c.in-Ok-number_text.text c.in-Ok-number_text.ensures))
 
 pub returns-in-Err-clause-held : goal.returns-in-Err-clause-held
 returns-in-Err-clause-held g c = cold _ _ _ _
@@ -74,11 +77,13 @@ returns-then-not-has_pixel-clause-held g c = cold _ _ _ _
 pub returns-then-not-has_pixel-clause-again : goal.returns-then-not-has_pixel-clause-again
 returns-then-not-has_pixel-clause-again g c = λ s at warm asked. reads_same (reads_in {D = g.W.Disk} c.args.self.now.book)
 
-pub returns-in-Err-read_colour-clause-held : goal.returns-in-Err-read_colour-clause-held
-returns-in-Err-read_colour-clause-held g c = cold _ _ _ _
+pub returns-in_err-colour-in-Ok-clause-held : goal.returns-in_err-colour-in-Ok-clause-held
+returns-in_err-colour-in-Ok-clause-held g c =
+    let p = err_from_is_err_and c.from_residual.result c.from_residual.ensures.1 in
+    rw p.1 (cold _ _ _ _)
 
-pub returns-in-Err-read_colour-clause-again : goal.returns-in-Err-read_colour-clause-again
-returns-in-Err-read_colour-clause-again g c = λ s at warm asked.
+pub returns-in_err-colour-in-Ok-clause-again : goal.returns-in_err-colour-in-Ok-clause-again
+returns-in_err-colour-in-Ok-clause-again g c = λ s at warm asked.
     let old = c.args.self.now in
     let catalog = catalog_as {D = g.W.Disk} old s at old.catalog refl in
     let is = λ (layers : Map) (numbers : Numbering) (k : IsCatalogOf layers numbers old.catalog).
@@ -112,7 +117,7 @@ returns-in-Ok-number_text-clause-held g c =
     warm_as (Some (c.args.name.now, c.args.at)) old.catalog (told_of {D = g.W.Disk} old.book) (told_of {D = g.W.Disk} book) old.book.work book.work
     (keys_of (entries_of book.pool)) (keys_of (entries_of book.pool)) still.told still.later.2.1 refl
     (warmed old.catalog (told_of {D = g.W.Disk} old.book) old.book.work (keys_of (entries_of book.pool)) (c.args.name.now, c.args.at) c.in-Ok.number is
-    c.in-Ok-read_colour.ensures.held)
+    c.in_ok-colour-in-Ok.ensures.held)
 
 pub returns-in-Ok-number_text-clause-again : goal.returns-in-Ok-number_text-clause-again
 returns-in-Ok-number_text-clause-again g c = λ s at warm asked.

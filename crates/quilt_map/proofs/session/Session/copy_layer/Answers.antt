@@ -1,4 +1,5 @@
 use Rattle.std.proofs.Common.{◌≢◌, ℕ, ◌<◌, List, length, All, refl, sym, ◌∙◌, ap, subst}
+use Rattle.std.proofs.lemmas.Result.{err_from_is_err_and}
 use Rattle.quilt_types.specs.Layers.{is_name}
 use Rattle.quilt_types.specs.declared.code.Code.TheVariants as no
 use Rattle.quilt_record.specs.declared.entry.Entry.{Entry}
@@ -45,17 +46,19 @@ returns-in-Some-why_not_new-clause-answer g c = λ s at.
     answered_same {D = g.W.Disk} s (commands.Copy name other) old _ (Refused code) (given.No code)
     (copy_refused s name other found.layer code found.got refuses) refl refl refl at at
 
-pub returns-in-Err-clause-sound : goal.returns-in-Err-clause-sound
-returns-in-Err-clause-sound g c = λ s at. c.in-Err.ensures.sound at.work.records (at_tree {D = g.W.Disk} c.args.self.now s at)
+pub returns-in_err-all-in-None-clause-sound : goal.returns-in_err-all-in-None-clause-sound
+returns-in_err-all-in-None-clause-sound g c =
+    let p = err_from_is_err_and c.from_residual.result c.from_residual.ensures.1 in
+    rw (p.1, p.2) (λ s at. c.in_err-all-in-None.ensures.sound at.work.records (at_tree {D = g.W.Disk} c.args.self.now s at))
 
-pub returns-in-Ok-copied_records-clause-goes_on : goal.returns-in-Ok-copied_records-clause-goes_on
-returns-in-Ok-copied_records-clause-goes_on g c =
+pub returns-in_ok-all-in-None-clause-goes_on : goal.returns-in_ok-all-in-None-clause-goes_on
+returns-in_ok-all-in-None-clause-goes_on g c =
     let old = c.args.self.now in
     let b = c.copied_records.new.book in
     goes_both {D = g.W.Disk} old.book b c.place.new.self.book (goes_of {D = g.W.Disk} old.book b c.copied_records.ensures.still.later) c.place.ensures.goes_on
 
-pub returns-in-Ok-copied_records-clause-sound : goal.returns-in-Ok-copied_records-clause-sound
-returns-in-Ok-copied_records-clause-sound g c =
+pub returns-in_ok-all-in-None-clause-sound : goal.returns-in_ok-all-in-None-clause-sound
+returns-in_ok-all-in-None-clause-sound g c =
     if_err _ _ c.place.result (λ err p s at.
     let old = c.args.self.now in
     let name = c.args.name.now in
@@ -75,15 +78,15 @@ returns-in-Ok-copied_records-clause-sound g c =
     let apart = subst (λ (n : List ℕ). All (λ (f : Entry). f.name ≢ n) old.catalog) (sym made.name) others in
     let unused = made.unused s.work now.work.numbers
     (subst (λ (es : List Entry). IsCatalogOf s.work now.work.numbers es) (sym fresh) now.work.catalog) now.work.spelled.numbering in
-    let listed = c.in-Ok-copied_records.ensures.list now.work.records
+    let listed = c.in_ok-all-in-None.ensures.list now.work.records
     (tree_before {D = g.W.Disk} old.book b still now.work.records (at_tree {D = g.W.Disk} mid s now)) in
     let plan = copy_plan {D = g.W.Disk} mid s now name c.in-Some.number found.layer found.got found.numbered entry kind
     (ap is_name made.name ∙ made.named) few apart made.number.0 made.number.1 unused
-    c.in-Ok-copied_records.all c.records.result.now c.records.ensures listed in
+    c.in_ok-all-in-None.all c.records.result.now c.records.ensures listed in
     p s now found.layer plan) c.place.ensures.sound
 
-pub returns-in-Ok-copied_records-clause-answer : goal.returns-in-Ok-copied_records-clause-answer
-returns-in-Ok-copied_records-clause-answer g c =
+pub returns-in_ok-all-in-None-clause-answer : goal.returns-in_ok-all-in-None-clause-answer
+returns-in_ok-all-in-None-clause-answer g c =
     if_ok _ _ c.place.result (λ reply p s at.
     let old = c.args.self.now in
     let name = c.args.name.now in
@@ -103,11 +106,11 @@ returns-in-Ok-copied_records-clause-answer g c =
     let apart = subst (λ (n : List ℕ). All (λ (f : Entry). f.name ≢ n) old.catalog) (sym made.name) others in
     let unused = made.unused s.work now.work.numbers
     (subst (λ (es : List Entry). IsCatalogOf s.work now.work.numbers es) (sym fresh) now.work.catalog) now.work.spelled.numbering in
-    let listed = c.in-Ok-copied_records.ensures.list now.work.records
+    let listed = c.in_ok-all-in-None.ensures.list now.work.records
     (tree_before {D = g.W.Disk} old.book b still now.work.records (at_tree {D = g.W.Disk} mid s now)) in
     let plan = copy_plan {D = g.W.Disk} mid s now name c.in-Some.number found.layer found.got found.numbered entry kind
     (ap is_name made.name ∙ made.named) few apart made.number.0 made.number.1 unused
-    c.in-Ok-copied_records.all c.records.result.now c.records.ensures listed in
+    c.in_ok-all-in-None.all c.records.result.now c.records.ensures listed in
     let passes = c.in-None.ensures.passes refl s now.work.numbers
     (subst (λ (es : List Entry). IsCatalogOf s.work now.work.numbers es) (sym c.entries-2.ensures.entries) now.work.catalog) in
     let by =

@@ -2,6 +2,7 @@ use Rattle.std.proofs.Common.{◌≡◌, List, ℕ, true, nat_eq, Some, refl, sy
 use Rattle.std.specs.Cmp.Lexicographic.{pointwise}
 use Rattle.std.specs.FinMap as finmap
 use Rattle.std.proofs.lemmas.Slice.Eq.{bytes_eq-Decides}
+use Rattle.std.proofs.lemmas.Result.{err_from_is_err_and}
 use Rattle.quilt_types.specs.Layers.{Lines}
 use Rattle.quilt_node.specs.declared.head.Head.{Head}
 use Rattle.quilt_words.specs.declared.command.Command.TheVariants as commands
@@ -30,24 +31,27 @@ returns-in-Err-clause-answer g c = λ s at.
 pub returns-in-Err-clause-keeps : goal.returns-in-Err-clause-keeps
 returns-in-Err-clause-keeps g c = keeps_here {D = g.W.Disk} c.args.self.now c.args.self.now.warm
 
-pub returns-in-Err-read_segments-clause-sound : goal.returns-in-Err-read_segments-clause-sound
-returns-in-Err-read_segments-clause-sound g c = λ s at.
+pub returns-in_err-a-in-Ok-clause-sound : goal.returns-in_err-a-in-Ok-clause-sound
+returns-in_err-a-in-Ok-clause-sound g c =
+    let p = err_from_is_err_and c.from_residual.result c.from_residual.ensures.1 in
+    rw (p.1, p.2) (λ s at.
     let found = found_lines {D = g.W.Disk} c.args.self.now s at c.args.l.now c.in-Ok.first c.entries.result.now c.entries.ensures.entries
     c.in-Ok.ensures.first in
-    c.in-Err-read_segments.ensures.sound found.segs found.cover found.least found.holds
+    c.in_err-a-in-Ok.ensures.sound found.segs found.cover found.least found.holds)
 
 -- both lists are the one that was read
+
 pub crossed-requires-clause-first_ends : goal.crossed-requires-clause-first_ends
 crossed-requires-clause-first_ends g c κs within =
     let same = c.head-level.ensures.work ∙ c.read_segments.ensures.still.later.2.1 in
-    ends_at c.in-Ok-read_segments.a c.items.result.now c.args.self.now.book.work.level c.head-level.result.level c.items.ensures
-    (ap (λ (h : Head). h.level) same) c.in-Ok-read_segments.ensures.inside
+    ends_at c.in_ok-a-in-Ok.a c.items.result.now c.args.self.now.book.work.level c.head-level.result.level c.items.ensures
+    (ap (λ (h : Head). h.level) same) c.in_ok-a-in-Ok.ensures.inside
 
 pub crossed-requires-clause-second_ends : goal.crossed-requires-clause-second_ends
 crossed-requires-clause-second_ends g c κs within =
     let same = c.head-level.ensures.work ∙ c.read_segments.ensures.still.later.2.1 in
-    ends_at c.in-Ok-read_segments.a c.items-then-eq.result.now c.args.self.now.book.work.level c.head-level.result.level c.items-then-eq.ensures
-    (ap (λ (h : Head). h.level) same) c.in-Ok-read_segments.ensures.inside
+    ends_at c.in_ok-a-in-Ok.a c.items-then-eq.result.now c.args.self.now.book.work.level c.head-level.result.level c.items-then-eq.ensures
+    (ap (λ (h : Head). h.level) same) c.in_ok-a-in-Ok.ensures.inside
 
 pub returns-then-eq-clause-answer : goal.returns-then-eq-clause-answer
 returns-then-eq-clause-answer g c =
@@ -59,7 +63,7 @@ returns-then-eq-clause-answer g c =
     let one = found_lines {D = g.W.Disk} old s at l c.in-Ok.first c.entries.result.now c.entries.ensures.entries c.in-Ok.ensures.first in
     let same : pointwise nat_eq l m ≡ true = sym (c.if-eq.ensures {u = tt}) in
     let got = subst (λ (x : List ℕ). finmap.get s.work x ≡ Some (Lines t one.segs one.cover)) ((bytes_eq-Decides l m).0 same) one.is.got in
-    let listed = c.in-Ok-read_segments.ensures.segments one.segs one.cover one.holds in
+    let listed = c.in_ok-a-in-Ok.ensures.segments one.segs one.cover one.holds in
     let last = c.read_segments.new.book in
     asked_on {D = g.W.Disk} s (commands.Crossings l m) (crossings_asks s l m) old at last old.warm given c.read_segments.ensures.still
     (g.met.W.Disk.is_consistent last.world)
@@ -69,9 +73,9 @@ returns-then-eq-clause-answer g c =
 
 pub crossed_with-requires-clause-ends : goal.crossed_with-requires-clause-ends
 crossed_with-requires-clause-ends g c κs within =
-    let a = c.in-Ok-read_segments.a in
+    let a = c.in_ok-a-in-Ok.a in
     ends_at a a c.args.self.now.book.work.level c.read_segments.new.book.work.level refl
-    (ap (λ (h : Head). h.level) c.read_segments.ensures.still.later.2.1) c.in-Ok-read_segments.ensures.inside
+    (ap (λ (h : Head). h.level) c.read_segments.ensures.still.later.2.1) c.in_ok-a-in-Ok.ensures.inside
 
 pub returns-else-eq-clause-answer : goal.returns-else-eq-clause-answer
 returns-else-eq-clause-answer g c =
@@ -84,7 +88,7 @@ returns-else-eq-clause-answer g c =
     let there = mid_at {D = g.W.Disk} old s at book c.read_segments.ensures.still (g.met.W.Disk.is_consistent book.world) in
     let one = found_lines {D = g.W.Disk} old s at l c.in-Ok.first c.entries.result.now c.entries.ensures.entries c.in-Ok.ensures.first in
     let two = found_lines {D = g.W.Disk} mid s there m c.in-Ok.second c.entries.result.now c.entries.ensures.entries c.in-Ok.ensures.second in
-    let first = sym (c.in-Ok-read_segments.ensures.segments one.segs one.cover one.holds) in
+    let first = sym (c.in_ok-a-in-Ok.ensures.segments one.segs one.cover one.holds) in
     let last = c.crossed_with.new.book in
     let done = crossings_done s l m c.in-Ok.first.threshold c.in-Ok.second.threshold one.segs two.segs one.cover two.cover one.is.got two.is.got in
     let then = asked_on {D = g.W.Disk} s (commands.Crossings l m) (crossings_asks s l m) mid there last old.warm given c.crossed_with.ensures.still

@@ -1,4 +1,5 @@
 use Rattle.std.proofs.Common.{ℕ, ◌+◌, ◌*◌, length, refl, ◌∙◌, ap}
+use Rattle.std.proofs.lemmas.Result.{err_from_is_err_and}
 use Rattle.quilt_words.specs.declared.command.Command.{Command}
 use Rattle.quilt_blocks.specs.Cutting.{leaves_by_code}
 use Rattle.quilt_blocks.specs.Raster.{Raster}
@@ -15,12 +16,14 @@ use Rattle.quilt_map.proofs.states.Moving.{with_book}
 use Rattle.quilt_map.proofs.plans.PaintPlans.{as_region, region_there}
 use Rattle.quilt_map.proofs.session.Session.make_derived.Goals as goal
 
-pub returns-in-Err-clause-sound : goal.returns-in-Err-clause-sound
-returns-in-Err-clause-sound g c = λ s at name grid is fits.
+pub returns-in_err-list-clause-sound : goal.returns-in_err-list-clause-sound
+returns-in_err-list-clause-sound g c =
+    let p = err_from_is_err_and c.from_residual.result c.from_residual.ensures.1 in
+    rw (p.1, p.2) (λ s at name grid is fits.
     let old = c.args.self.now in
-    c.in-Err.ensures.sound grid
+    c.in_err-list.ensures.sound grid
     (has_number {D = g.W.Disk} old s at name c.args.number (as_region {D = g.W.Disk} old s at name c.args.number grid is))
-    (region_there {D = g.W.Disk} old s at name c.args.number grid is)
+    (region_there {D = g.W.Disk} old s at name c.args.number grid is))
 
 pub returns-clause-made : goal.returns-clause-made
 returns-clause-made g c =
@@ -29,14 +32,14 @@ returns-clause-made g c =
     let book = c.read_derived.new.book in
     let command = c.args.command.now in
     let there = mid_at {D = g.W.Disk} old s at book c.read_derived.ensures.still (g.met.W.Disk.is_consistent book.world) in
-    let same = derived_of {D = g.W.Disk} old s at command name c.args.number grid is c.in-Ok.list.grid c.in-Ok.ensures.list in
+    let same = derived_of {D = g.W.Disk} old s at command name c.args.number grid is c.in_ok-list.list.grid c.in_ok-list.ensures.list in
     let h = derived command s.last.level grid in
-    let made = derived_as command c.in-Ok-derived_list.made c.in-Ok.list s.last.level grid c.in-Ok-derived_list.ensures
-    (c.in-Ok.ensures.level ∙ level_is {D = g.W.Disk} old s at) same in
+    let made = derived_as command c.in-Ok.made c.in_ok-list.list s.last.level grid c.in-Ok.ensures
+    (c.in_ok-list.ensures.level ∙ level_is {D = g.W.Disk} old s at) same in
     let fit =
-    made_fits s.last.format s.last.level c.in-Ok-derived_list.made h made (derived_grid {D = g.W.Disk} old s at command name c.args.number grid is fits) in
-    made_answered {D = g.W.Disk} old (with_book {D = g.W.Disk} old book) c.make_region.new.self s c.args.into.now c.in-Ok-derived_list.made h reply refl made
-    (p s there (made_level c.in-Ok-derived_list.made s.last.level h made) fit)) c.make_region.ensures.made
+    made_fits s.last.format s.last.level c.in-Ok.made h made (derived_grid {D = g.W.Disk} old s at command name c.args.number grid is fits) in
+    made_answered {D = g.W.Disk} old (with_book {D = g.W.Disk} old book) c.make_region.new.self s c.args.into.now c.in-Ok.made h reply refl made
+    (p s there (made_level c.in-Ok.made s.last.level h made) fit)) c.make_region.ensures.made
 
 pub returns-clause-sound : goal.returns-clause-sound
 returns-clause-sound g c =
@@ -45,13 +48,13 @@ returns-clause-sound g c =
     let book = c.read_derived.new.book in
     let command = c.args.command.now in
     let there = mid_at {D = g.W.Disk} old s at book c.read_derived.ensures.still (g.met.W.Disk.is_consistent book.world) in
-    let same = derived_of {D = g.W.Disk} old s at command name c.args.number grid is c.in-Ok.list.grid c.in-Ok.ensures.list in
+    let same = derived_of {D = g.W.Disk} old s at command name c.args.number grid is c.in_ok-list.list.grid c.in_ok-list.ensures.list in
     let h = derived command s.last.level grid in
-    let made = derived_as command c.in-Ok-derived_list.made c.in-Ok.list s.last.level grid c.in-Ok-derived_list.ensures
-    (c.in-Ok.ensures.level ∙ level_is {D = g.W.Disk} old s at) same in
+    let made = derived_as command c.in-Ok.made c.in_ok-list.list s.last.level grid c.in-Ok.ensures
+    (c.in_ok-list.ensures.level ∙ level_is {D = g.W.Disk} old s at) same in
     let fit =
-    made_fits s.last.format s.last.level c.in-Ok-derived_list.made h made (derived_grid {D = g.W.Disk} old s at command name c.args.number grid is fits) in
-    p s there (made_level c.in-Ok-derived_list.made s.last.level h made) fit) c.make_region.ensures.sound
+    made_fits s.last.format s.last.level c.in-Ok.made h made (derived_grid {D = g.W.Disk} old s at command name c.args.number grid is fits) in
+    p s there (made_level c.in-Ok.made s.last.level h made) fit) c.make_region.ensures.sound
 
 pub returns-clause-goes_on : goal.returns-clause-goes_on
 returns-clause-goes_on g c =
@@ -67,9 +70,9 @@ returns-clause-reads g c =
     let book = c.read_derived.new.book in
     let command = c.args.command.now in
     let n = s.last.level in
-    let list = c.in-Ok-derived_list.made in
-    let same = derived_of {D = g.W.Disk} old s at command name c.args.number grid is c.in-Ok.list.grid c.in-Ok.ensures.list in
-    let made = derived_as command list c.in-Ok.list n grid c.in-Ok-derived_list.ensures (c.in-Ok.ensures.level ∙ level_is {D = g.W.Disk} old s at) same in
+    let list = c.in-Ok.made in
+    let same = derived_of {D = g.W.Disk} old s at command name c.args.number grid is c.in_ok-list.list.grid c.in_ok-list.ensures.list in
+    let made = derived_as command list c.in_ok-list.list n grid c.in-Ok.ensures (c.in_ok-list.ensures.level ∙ level_is {D = g.W.Disk} old s at) same in
     let count = ap (λ (l : Raster). length (leaves_by_code l.level l.grid)) made
     ∙ ap (λ (x : Command). length (leaves_by_code n (derived x n grid))) cuts in
     costs_as (show_pages old.book.work.level grid side w + (6 + 6 * length (leaves_by_code list.level list.grid))) (cut_pages n grid side w)
@@ -78,4 +81,4 @@ returns-clause-reads g c =
     ∙ ap (λ (m : ℕ). show_pages n grid side w + (6 + 6 * m)) count)
     (both_costs (show_pages old.book.work.level grid side w) (6 + 6 * length (leaves_by_code list.level list.grid)) (reads_in {D = g.W.Disk} old.book)
     (reads_in {D = g.W.Disk} book) (reads_in {D = g.W.Disk} c.make_region.new.self.book)
-    (c.in-Ok.ensures.reads grid side a b w cuts over (region_there {D = g.W.Disk} old s at name c.args.number grid is)) p)) c.make_region.ensures.reads
+    (c.in_ok-list.ensures.reads grid side a b w cuts over (region_there {D = g.W.Disk} old s at name c.args.number grid is)) p)) c.make_region.ensures.reads

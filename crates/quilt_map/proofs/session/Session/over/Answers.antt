@@ -1,4 +1,5 @@
 use Rattle.std.proofs.Common.{refl, sym, ap, subst, ◌∙◌}
+use Rattle.std.proofs.lemmas.Result.{err_from_is_err_and}
 use Rattle.quilt_blocks.specs.Raster.{Raster}
 use Rattle.quilt_words.specs.declared.command.Command.TheVariants as commands
 use Rattle.quilt_replies.specs.Answers as answers
@@ -26,16 +27,18 @@ returns-in-Err-clause-answer g c = λ s at.
 pub returns-in-Err-clause-keeps : goal.returns-in-Err-clause-keeps
 returns-in-Err-clause-keeps g c = keeps_here {D = g.W.Disk} c.args.self.now c.args.self.now.warm
 
-pub returns-in-Err-read_region-clause-sound : goal.returns-in-Err-read_region-clause-sound
-returns-in-Err-read_region-clause-sound g c = λ s at.
+pub returns-in_err-list-in-Ok-clause-sound : goal.returns-in_err-list-in-Ok-clause-sound
+returns-in_err-list-in-Ok-clause-sound g c =
+    let p = err_from_is_err_and c.from_residual.result c.from_residual.ensures.1 in
+    rw (p.1, p.2) (λ s at.
     let old = c.args.self.now in
     let a = c.args.a.now in
     let region = c.in-Ok.ensures.region s.work at.work.numbers (catalog_as {D = g.W.Disk} old s at c.entries.result.now c.entries.ensures.entries) in
-    c.in-Err-read_region.ensures.sound region.grid (has_number {D = g.W.Disk} old s at a c.in-Ok.number region)
-    (has_region {D = g.W.Disk} old s at a c.in-Ok.number region)
+    c.in_err-list-in-Ok.ensures.sound region.grid (has_number {D = g.W.Disk} old s at a c.in-Ok.number region)
+    (has_region {D = g.W.Disk} old s at a c.in-Ok.number region))
 
-pub returns-in-Ok-read_region-clause-answer : goal.returns-in-Ok-read_region-clause-answer
-returns-in-Ok-read_region-clause-answer g c =
+pub returns-in_ok-list-in-Ok-clause-answer : goal.returns-in_ok-list-in-Ok-clause-answer
+returns-in_ok-list-in-Ok-clause-answer g c =
     if_ok _ _ c.select_over.result (λ given tells s at.
     let old = c.args.self.now in
     let l = c.args.l.now in
@@ -45,7 +48,7 @@ returns-in-Ok-read_region-clause-answer g c =
     let there = mid_at {D = g.W.Disk} old s at book c.read_region.ensures.still (g.met.W.Disk.is_consistent book.world) in
     let region = c.in-Ok.ensures.region s.work at.work.numbers (catalog_as {D = g.W.Disk} old s at c.entries.result.now c.entries.ensures.entries) in
     let found = found_lines {D = g.W.Disk} mid s there l c.in-Ok.layer c.entries.result.now c.entries.ensures.entries c.in-Ok.ensures.lines in
-    let raster = raster_is {D = g.W.Disk} old s at a c.in-Ok.number region c.in-Ok-read_region.list c.in-Ok-read_region.ensures.list in
+    let raster = raster_is {D = g.W.Disk} old s at a c.in-Ok.number region c.in_ok-list-in-Ok.list c.in_ok-list-in-Ok.ensures.list in
     let same = ap (λ (x : Raster). selected_over x.level x.grid found.segs) raster in
     let last = c.select_over.new.book in
     let done = over_done s l a c.in-Ok.layer.threshold found.segs found.cover region.grid found.is.got region.got in
@@ -54,8 +57,8 @@ returns-in-Ok-read_region-clause-answer g c =
     (subst (λ (r : answers.Reply). Tells given r) (same ∙ sym done) (tells found.segs found.cover found.holds)) in
     record { tells = then.tells; at = then.at; count = then.count }) c.select_over.ensures.reply
 
-pub returns-in-Ok-read_region-clause-sound : goal.returns-in-Ok-read_region-clause-sound
-returns-in-Ok-read_region-clause-sound g c =
+pub returns-in_ok-list-in-Ok-clause-sound : goal.returns-in_ok-list-in-Ok-clause-sound
+returns-in_ok-list-in-Ok-clause-sound g c =
     if_err _ _ c.select_over.result (λ e p s at.
     let old = c.args.self.now in
     let book = c.read_region.new.book in
@@ -64,8 +67,8 @@ returns-in-Ok-read_region-clause-sound g c =
     let found = found_lines {D = g.W.Disk} mid s there c.args.l.now c.in-Ok.layer c.entries.result.now c.entries.ensures.entries c.in-Ok.ensures.lines in
     p found.segs found.cover found.least found.holds) c.select_over.ensures.sound
 
-pub returns-in-Ok-read_region-clause-keeps : goal.returns-in-Ok-read_region-clause-keeps
-returns-in-Ok-read_region-clause-keeps g c = record {
+pub returns-in_ok-list-in-Ok-clause-keeps : goal.returns-in_ok-list-in-Ok-clause-keeps
+returns-in_ok-list-in-Ok-clause-keeps g c = record {
   book = still_both {D = g.W.Disk} c.args.self.now.book c.read_region.new.book c.select_over.new.book c.read_region.ensures.still c.select_over.ensures.still;
   catalog = refl;
   last = refl;

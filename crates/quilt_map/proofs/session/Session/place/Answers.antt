@@ -1,4 +1,5 @@
 use Rattle.std.proofs.Common.{◌≡◌, Some, List, refl, sym, ◌∙◌, ap, subst}
+use Rattle.std.proofs.lemmas.Result.{err_from_is_err_and}
 use Rattle.quilt_record.specs.declared.entry.Entry.{Entry}
 use Rattle.quilt_record.specs.Catalogs.{with_entry}
 use Rattle.quilt_spell.specs.Catalogued.{IsCatalogOf, kind_of}
@@ -8,27 +9,29 @@ use Rattle.quilt_map.proofs.states.Catalogs.{catalog_comes}
 use Rattle.quilt_map.proofs.answers.Placing.{full_answer, placed_answer}
 use Rattle.quilt_map.proofs.session.Session.place.Goals as goal
 
-pub returns-in-Err-clause-sound : goal.returns-in-Err-clause-sound
-returns-in-Err-clause-sound g c = λ s at layer plan. c.in-Err.ensures.sound s at c.args.entry.name c.args.entry.number (Some layer) plan
+pub returns-in_err-change-clause-sound : goal.returns-in_err-change-clause-sound
+returns-in_err-change-clause-sound g c =
+    let p = err_from_is_err_and c.from_residual.result c.from_residual.ensures.1 in
+    rw (p.1, p.2) (λ s at layer plan. c.in_err-change.ensures.sound s at c.args.entry.name c.args.entry.number (Some layer) plan)
 
-pub returns-in-Ok-true-clause-placed : goal.returns-in-Ok-true-clause-placed
-returns-in-Ok-true-clause-placed g c = λ s at layer kind plan.
+pub returns-clause-placed : goal.returns-clause-placed
+returns-clause-placed g c = λ s at layer kind plan.
     let old = c.args.self.now in
     let e = c.args.entry in
     let is : e ≡ record { number = e.number; name = e.name; kind = kind_of layer } = λ i. record { number = e.number; name = e.name; kind = kind i } in
     let comes = catalog_comes s.work at.work.numbers old.catalog at.work.catalog e.name layer e.number e c.requires.new is in
     let now = subst (λ (es : List Entry). IsCatalogOf (with_layer s.work e.name (Some layer)) (with_number at.work.numbers e.name e.number (Some layer)) es)
     (sym (c.insert.ensures ∙ ap (with_entry e) c.change.ensures.catalogs.0)) comes in
-    let has = c.in-Ok-true.ensures.changed s at e.name e.number (Some layer) c.insert.new.self plan now in
+    let has = c.in_ok-change.ensures.changed s at e.name e.number (Some layer) c.insert.new.self plan now in
     placed_answer {D = g.W.Disk} old c.change.new.self _ s e.name layer c.insert.new.self c.args.text
-    (subst (λ b. HasChanged {D = g.W.Disk} b old c.change.new.self s e.name (Some layer) c.insert.new.self) c.in-Ok-true.field-0-test has) refl c.requires.text
+    (subst (λ b. HasChanged {D = g.W.Disk} b old c.change.new.self s e.name (Some layer) c.insert.new.self) c.if-not-branch.false has) refl c.requires.text
 
-pub returns-in-Ok-false-clause-placed : goal.returns-in-Ok-false-clause-placed
-returns-in-Ok-false-clause-placed g c = λ s at layer kind plan.
+pub returns-then-not-branch-clause-placed : goal.returns-then-not-branch-clause-placed
+returns-then-not-branch-clause-placed g c = λ s at layer kind plan.
     let old = c.args.self.now in
     let e = c.args.entry in
     let is : e ≡ record { number = e.number; name = e.name; kind = kind_of layer } = λ i. record { number = e.number; name = e.name; kind = kind i } in
     let comes = catalog_comes s.work at.work.numbers old.catalog at.work.catalog e.name layer e.number e c.requires.new is in
-    let has = c.in-Ok-false.ensures.changed s at e.name e.number (Some layer) (with_entry e old.catalog) plan comes in
+    let has = c.in_ok-change.ensures.changed s at e.name e.number (Some layer) (with_entry e old.catalog) plan comes in
     full_answer {D = g.W.Disk} old c.change.new.self s e.name layer at
-    (subst (λ b. HasChanged {D = g.W.Disk} b old c.change.new.self s e.name (Some layer) (with_entry e old.catalog)) c.in-Ok-false.field-0-test has)
+    (subst (λ b. HasChanged {D = g.W.Disk} b old c.change.new.self s e.name (Some layer) (with_entry e old.catalog)) c.if-not-branch.true has)

@@ -1,4 +1,5 @@
 use Rattle.std.proofs.Common.{true, false, ◌∙◌, ap}
+use Rattle.std.proofs.lemmas.Result.{err_from_is_err_and}
 use Rattle.quilt_types.specs.Plane.{is_window}
 use Rattle.quilt_types.specs.declared.code.Code.TheVariants as no
 use Rattle.quilt_node.specs.declared.head.Head.{Head}
@@ -37,33 +38,35 @@ returns-then-not-has_window-clause-answer g c = λ s at.
 pub returns-then-not-has_window-clause-keeps : goal.returns-then-not-has_window-clause-keeps
 returns-then-not-has_window-clause-keeps g c = keeps_here {D = g.W.Disk} c.args.self.now c.args.self.now.warm
 
-pub returns-in-Err-read_points-clause-sound : goal.returns-in-Err-read_points-clause-sound
-returns-in-Err-read_points-clause-sound g c = λ s at.
+pub returns-in_err-list-in-Ok-clause-sound : goal.returns-in_err-list-in-Ok-clause-sound
+returns-in_err-list-in-Ok-clause-sound g c =
+    let p = err_from_is_err_and c.from_residual.result c.from_residual.ensures.1 in
+    rw (p.1, p.2) (λ s at.
     let old = c.args.self.now in
     let name = c.args.name.now in
     let found = found_points {D = g.W.Disk} old s at name c.in-Ok.layer c.entries.result.now c.entries.ensures.entries c.in-Ok.ensures.found in
-    c.in-Err-read_points.ensures.sound found.points found.least found.holds
+    c.in_err-list-in-Ok.ensures.sound found.points found.least found.holds)
 
-pub returns-in-Ok-read_points-clause-answer : goal.returns-in-Ok-read_points-clause-answer
-returns-in-Ok-read_points-clause-answer g c =
+pub returns-in_ok-list-in-Ok-clause-answer : goal.returns-in_ok-list-in-Ok-clause-answer
+returns-in_ok-list-in-Ok-clause-answer g c =
     let old = c.args.self.now in
     let name = c.args.name.now in
     told_on {D = g.W.Disk} (commands.Within name c.args.w) (λ s. within_asks s name c.args.w) old c.read_points.new.book old.warm
     c.points_text.result c.told.result c.read_points.ensures.still (g.met.W.Disk.is_consistent c.read_points.new.book.world) c.told.ensures.text (λ s at.
     let found = found_points {D = g.W.Disk} old s at name c.in-Ok.layer c.entries.result.now c.entries.ensures.entries c.in-Ok.ensures.found in
-    let all = c.in-Ok-read_points.ensures.points found.points found.holds in
+    let all = c.in_ok-list-in-Ok.ensures.points found.points found.holds in
     if_ok _ _ c.points_text.result
     (λ t h. within_body s name c.in-Ok.layer.bucket found.points found.is.got c.args.w
     (test_at (λ n. is_window n c.args.w) c.head.result.level s.last.level c.has_window.result true
     (ap (λ (h : Head). h.level) c.head.ensures.work ∙ level_is {D = g.W.Disk} old s at) c.has_window.ensures c.if-not-has_window.false)
-    c.in-Ok-read_points.list all t h) c.points_text.ensures)
+    c.in_ok-list-in-Ok.list all t h) c.points_text.ensures)
 
-pub returns-in-Ok-read_points-clause-reads : goal.returns-in-Ok-read_points-clause-reads
-returns-in-Ok-read_points-clause-reads g c =
+pub returns-in_ok-list-in-Ok-clause-reads : goal.returns-in_ok-list-in-Ok-clause-reads
+returns-in_ok-list-in-Ok-clause-reads g c =
     let old = c.args.self.now in
     let name = c.args.name.now in
     if_ok _ _ c.told.result (λ given h s at answered.
     let found = found_points {D = g.W.Disk} old s at name c.in-Ok.layer c.entries.result.now c.entries.ensures.entries c.in-Ok.ensures.found in
     within_cost s name old.book.work.level (reads_in {D = g.W.Disk} old.book) (reads_in {D = g.W.Disk} c.read_points.new.book)
     (level_is {D = g.W.Disk} old s at) c.in-Ok.layer.bucket found.points c.args.w found.is.got
-    (c.in-Ok-read_points.ensures.reads found.points found.holds)) c.told.ensures.text
+    (c.in_ok-list-in-Ok.ensures.reads found.points found.holds)) c.told.ensures.text

@@ -18,31 +18,31 @@ returns-then-number-clause-crash g c = λ s at. leaves_last {D = g.W.Disk} c.arg
 pub returns-in_default-clause-crash : goal.returns-in_default-clause-crash
 returns-in_default-clause-crash g c = λ s at. leaves_last {D = g.W.Disk} c.args.self.now s commands.Publish at
 
-pub returns-in-Err-clause-crash : goal.returns-in-Err-clause-crash
-returns-in-Err-clause-crash g c = λ s at.
+pub returns-in_err-commit-clause-crash : goal.returns-in_err-commit-clause-crash
+returns-in_err-commit-clause-crash g c = λ s at.
     let free : (s.last.number == 4294967295) ≡ false =
     not_equal s.last.number 4294967295 (λ e. c.if-number.false (c.head-number.ensures.edition.0 ∙ sym at.last.head.number ∙ e)) in
     leaves_given s commands.Publish (edition_after s) _ _ (ap (λ (o : Outcome). o.published) (publish_gives s free))
     (c.commit.ensures.crash s (edition_after s) (can_publish {D = g.W.Disk} c.args.self.now s at))
 
-pub returns-in-Err-clause-writes : goal.returns-in-Err-clause-writes
-returns-in-Err-clause-writes g c = λ s at. c.commit.ensures.writes s (edition_after s) (can_publish {D = g.W.Disk} c.args.self.now s at)
+pub returns-in_err-commit-clause-writes : goal.returns-in_err-commit-clause-writes
+returns-in_err-commit-clause-writes g c = λ s at. c.commit.ensures.writes s (edition_after s) (can_publish {D = g.W.Disk} c.args.self.now s at)
 
-pub returns-in-Ok-commit-clause-answer : goal.returns-in-Ok-commit-clause-answer
-returns-in-Ok-commit-clause-answer g c = λ s at.
+pub returns-clause-answer : goal.returns-clause-answer
+returns-clause-answer g c = λ s at.
     let free : (s.last.number == 4294967295) ≡ false =
     not_equal s.last.number 4294967295 (λ e. c.if-number.false (c.head-number.ensures.edition.0 ∙ sym at.last.head.number ∙ e)) in
     answered_given {D = g.W.Disk} s commands.Publish (edition_after s) c.args.self.now c.commit.new.self _ (publish_gives s free)
     (tells_edition s (edition_after s) c.in-Ok.text (c.head-number.result.edition + 1)
     (ap (λ k. k + 1) (c.head-number.ensures.edition.0 ∙ sym at.last.head.number)) c.in-Ok.ensures)
-    (c.in-Ok-commit.ensures.renewed s (edition_after s) (can_publish {D = g.W.Disk} c.args.self.now s at))
+    (c.in_ok-commit.ensures.renewed s (edition_after s) (can_publish {D = g.W.Disk} c.args.self.now s at))
 
-pub returns-in-Ok-commit-clause-crash : goal.returns-in-Ok-commit-clause-crash
-returns-in-Ok-commit-clause-crash g c = λ s at.
+pub returns-clause-crash : goal.returns-clause-crash
+returns-clause-crash g c = λ s at.
     let free : (s.last.number == 4294967295) ≡ false =
     not_equal s.last.number 4294967295 (λ e. c.if-number.false (c.head-number.ensures.edition.0 ∙ sym at.last.head.number ∙ e)) in
     leaves_given s commands.Publish (edition_after s) _ _ (ap (λ (o : Outcome). o.published) (publish_gives s free))
     (c.commit.ensures.crash s (edition_after s) (can_publish {D = g.W.Disk} c.args.self.now s at))
 
-pub returns-in-Ok-commit-clause-writes : goal.returns-in-Ok-commit-clause-writes
-returns-in-Ok-commit-clause-writes g c = λ s at. c.commit.ensures.writes s (edition_after s) (can_publish {D = g.W.Disk} c.args.self.now s at)
+pub returns-clause-writes : goal.returns-clause-writes
+returns-clause-writes g c = λ s at. c.commit.ensures.writes s (edition_after s) (can_publish {D = g.W.Disk} c.args.self.now s at)

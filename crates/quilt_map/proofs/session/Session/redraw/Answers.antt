@@ -1,4 +1,5 @@
 use Rattle.std.proofs.Common.{refl, sym, ◌∙◌}
+use Rattle.std.proofs.lemmas.Result.{err_from_is_err_and}
 use Rattle.quilt_types.specs.Layers.{Region}
 use Rattle.quilt_map.specs.Making.{layer_placed}
 use Rattle.quilt_map.proofs.plans.Amends.{mid_at}
@@ -25,15 +26,17 @@ returns-then-is_past_quota-clause-redrawn g c = λ s at name grid is fits.
 pub returns-in_default-clause-goes_on : goal.returns-in_default-clause-goes_on
 returns-in_default-clause-goes_on g c = goes_here {D = g.W.Disk} c.args.self.now.book
 
-pub returns-in-Err-clause-sound : goal.returns-in-Err-clause-sound
-returns-in-Err-clause-sound g c = λ s at name grid is fits.
+pub returns-in_err-edits-clause-sound : goal.returns-in_err-edits-clause-sound
+returns-in_err-edits-clause-sound g c =
+    let p = err_from_is_err_and c.from_residual.result c.from_residual.ensures.1 in
+    rw (p.1, p.2) (λ s at name grid is fits.
     let old = c.args.self.now in
-    c.in-Err.ensures.sound grid
+    c.in_err-edits.ensures.sound grid
     (has_number {D = g.W.Disk} old s at name c.args.number (as_region {D = g.W.Disk} old s at name c.args.number grid is))
-    (region_there {D = g.W.Disk} old s at name c.args.number grid is)
+    (region_there {D = g.W.Disk} old s at name c.args.number grid is))
 
-pub returns-in-Ok-plan_redraw-clause-redrawn : goal.returns-in-Ok-plan_redraw-clause-redrawn
-returns-in-Ok-plan_redraw-clause-redrawn g c =
+pub returns-clause-redrawn : goal.returns-clause-redrawn
+returns-clause-redrawn g c =
     if_ok _ _ c.amend.result (λ reply p s at name grid is fits.
     let old = c.args.self.now in
     let book = c.plan_redraw.new.book in
@@ -43,10 +46,10 @@ returns-in-Ok-plan_redraw-clause-redrawn g c =
     answered_from {D = g.W.Disk} old (with_book {D = g.W.Disk} old book) c.amend.new.self s (layer_placed s name (Region next)) reply refl
     (p s (mid_at {D = g.W.Disk} old s at book still law) name c.args.number (Region next)
     (mid_amendment {D = g.W.Disk} old s at book still law name c.args.number grid is
-    (λ n k. next) fits c.in-Ok-plan_redraw.edits c.in-Ok-plan_redraw.ensures.plan))) c.amend.ensures.amended
+    (λ n k. next) fits c.in_ok-edits.edits c.in_ok-edits.ensures.plan))) c.amend.ensures.amended
 
-pub returns-in-Ok-plan_redraw-clause-sound : goal.returns-in-Ok-plan_redraw-clause-sound
-returns-in-Ok-plan_redraw-clause-sound g c =
+pub returns-clause-sound : goal.returns-clause-sound
+returns-clause-sound g c =
     if_err _ _ c.amend.result (λ e p s at name grid is fits.
     let old = c.args.self.now in
     let book = c.plan_redraw.new.book in
@@ -55,9 +58,9 @@ returns-in-Ok-plan_redraw-clause-sound g c =
     let next = c.args.list.now.grid in
     p s (mid_at {D = g.W.Disk} old s at book still law) name c.args.number (Region next)
     (mid_amendment {D = g.W.Disk} old s at book still law name c.args.number grid is
-    (λ n k. next) fits c.in-Ok-plan_redraw.edits c.in-Ok-plan_redraw.ensures.plan)) c.amend.ensures.sound
+    (λ n k. next) fits c.in_ok-edits.edits c.in_ok-edits.ensures.plan)) c.amend.ensures.sound
 
-pub returns-in-Ok-plan_redraw-clause-goes_on : goal.returns-in-Ok-plan_redraw-clause-goes_on
-returns-in-Ok-plan_redraw-clause-goes_on g c =
+pub returns-clause-goes_on : goal.returns-clause-goes_on
+returns-clause-goes_on g c =
     goes_both {D = g.W.Disk} c.args.self.now.book c.plan_redraw.new.book c.amend.new.self.book
     (goes_of {D = g.W.Disk} c.args.self.now.book c.plan_redraw.new.book c.plan_redraw.ensures.still.later) c.amend.ensures.goes_on

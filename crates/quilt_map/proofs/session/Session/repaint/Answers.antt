@@ -1,4 +1,5 @@
 use Rattle.std.proofs.Common.{refl}
+use Rattle.std.proofs.lemmas.Result.{err_from_is_err_and}
 use Rattle.quilt_types.specs.Algebra.{painted}
 use Rattle.quilt_types.specs.Layers.{Region}
 use Rattle.quilt_map.specs.Making.{layer_placed}
@@ -15,15 +16,17 @@ use Rattle.quilt_map.proofs.session.Session.repaint.Goals as goal
 pub returns-in_default-clause-goes_on : goal.returns-in_default-clause-goes_on
 returns-in_default-clause-goes_on g c = goes_here {D = g.W.Disk} c.args.self.now.book
 
-pub returns-in-Err-clause-sound : goal.returns-in-Err-clause-sound
-returns-in-Err-clause-sound g c = λ s at name grid is low.
+pub returns-in_err-edits-clause-sound : goal.returns-in_err-edits-clause-sound
+returns-in_err-edits-clause-sound g c =
+    let p = err_from_is_err_and c.from_residual.result c.from_residual.ensures.1 in
+    rw (p.1, p.2) (λ s at name grid is low.
     let old = c.args.self.now in
-    c.in-Err.ensures.sound grid
+    c.in_err-edits.ensures.sound grid
     (has_number {D = g.W.Disk} old s at name c.args.number (as_region {D = g.W.Disk} old s at name c.args.number grid is))
-    (region_there {D = g.W.Disk} old s at name c.args.number grid is)
+    (region_there {D = g.W.Disk} old s at name c.args.number grid is))
 
-pub returns-in-Ok-plan_paint-clause-painted : goal.returns-in-Ok-plan_paint-clause-painted
-returns-in-Ok-plan_paint-clause-painted g c =
+pub returns-clause-painted : goal.returns-clause-painted
+returns-clause-painted g c =
     if_ok _ _ c.amend.result (λ reply p s at name grid is low.
     let old = c.args.self.now in
     let book = c.plan_paint.new.book in
@@ -34,10 +37,10 @@ returns-in-Ok-plan_paint-clause-painted g c =
     (p s (mid_at {D = g.W.Disk} old s at book still law) name c.args.number next
     (mid_amendment {D = g.W.Disk} old s at book still law name c.args.number grid is (λ n k. painted n k c.args.w c.args.c.0)
     (painted_grid {D = g.W.Disk} old s at name c.args.number grid is c.args.w c.args.c.0 low)
-    c.in-Ok-plan_paint.edits c.in-Ok-plan_paint.ensures.plan))) c.amend.ensures.amended
+    c.in_ok-edits.edits c.in_ok-edits.ensures.plan))) c.amend.ensures.amended
 
-pub returns-in-Ok-plan_paint-clause-sound : goal.returns-in-Ok-plan_paint-clause-sound
-returns-in-Ok-plan_paint-clause-sound g c =
+pub returns-clause-sound : goal.returns-clause-sound
+returns-clause-sound g c =
     if_err _ _ c.amend.result (λ e p s at name grid is low.
     let old = c.args.self.now in
     let book = c.plan_paint.new.book in
@@ -46,9 +49,9 @@ returns-in-Ok-plan_paint-clause-sound g c =
     p s (mid_at {D = g.W.Disk} old s at book still law) name c.args.number (Region (painted s.last.level grid c.args.w c.args.c.0))
     (mid_amendment {D = g.W.Disk} old s at book still law name c.args.number grid is (λ n k. painted n k c.args.w c.args.c.0)
     (painted_grid {D = g.W.Disk} old s at name c.args.number grid is c.args.w c.args.c.0 low)
-    c.in-Ok-plan_paint.edits c.in-Ok-plan_paint.ensures.plan)) c.amend.ensures.sound
+    c.in_ok-edits.edits c.in_ok-edits.ensures.plan)) c.amend.ensures.sound
 
-pub returns-in-Ok-plan_paint-clause-goes_on : goal.returns-in-Ok-plan_paint-clause-goes_on
-returns-in-Ok-plan_paint-clause-goes_on g c =
+pub returns-clause-goes_on : goal.returns-clause-goes_on
+returns-clause-goes_on g c =
     goes_both {D = g.W.Disk} c.args.self.now.book c.plan_paint.new.book c.amend.new.self.book
     (goes_of {D = g.W.Disk} c.args.self.now.book c.plan_paint.new.book c.plan_paint.ensures.still.later) c.amend.ensures.goes_on

@@ -1,6 +1,7 @@
 use Rattle.quilt_types.specs.declared.code.Code.TheVariants as no
 use Rattle.quilt_replies.specs.declared.reply.Reply.TheVariants as reply
 use Rattle.std.proofs.Common.{true, false, ◌∙◌, ap}
+use Rattle.std.proofs.lemmas.Result.{err_from_is_err_and}
 use Rattle.quilt_types.specs.Plane.{is_window}
 use Rattle.quilt_node.specs.declared.head.Head.{Head}
 use Rattle.quilt_words.specs.declared.command.Command.TheVariants as commands
@@ -21,27 +22,29 @@ returns-in-Err-clause-answer g c = λ s at.
 pub returns-in-Err-clause-keeps : goal.returns-in-Err-clause-keeps
 returns-in-Err-clause-keeps g c = keeps_here {D = g.W.Disk} c.args.self.now c.args.self.now.warm
 
-pub returns-in-Err-read_part-clause-sound : goal.returns-in-Err-read_part-clause-sound
-returns-in-Err-read_part-clause-sound g c = λ s at.
+pub returns-in_err-list-in-Ok-clause-sound : goal.returns-in_err-list-in-Ok-clause-sound
+returns-in_err-list-in-Ok-clause-sound g c =
+    let p = err_from_is_err_and c.from_residual.result c.from_residual.ensures.1 in
+    rw (p.1, p.2) (λ s at.
     let old = c.args.self.now in
     let name = c.args.name.now in
     let region = c.in-Ok.ensures.found s.work at.work.numbers (catalog_as {D = g.W.Disk} old s at c.entries.result.now c.entries.ensures.entries) in
-    c.in-Err-read_part.ensures.sound region.grid (has_number {D = g.W.Disk} old s at name c.in-Ok.number region)
-    (has_region {D = g.W.Disk} old s at name c.in-Ok.number region)
+    c.in_err-list-in-Ok.ensures.sound region.grid (has_number {D = g.W.Disk} old s at name c.in-Ok.number region)
+    (has_region {D = g.W.Disk} old s at name c.in-Ok.number region))
 
-pub returns-in-Ok-read_part-clause-answer : goal.returns-in-Ok-read_part-clause-answer
-returns-in-Ok-read_part-clause-answer g c =
+pub returns-in_ok-list-in-Ok-clause-answer : goal.returns-in_ok-list-in-Ok-clause-answer
+returns-in_ok-list-in-Ok-clause-answer g c =
     let old = c.args.self.now in
     let name = c.args.name.now in
     told_on {D = g.W.Disk} (commands.Show name c.args.w) (λ s. show_asks s name c.args.w) old c.read_part.new.book old.warm c.show_text.result
     c.told.result c.read_part.ensures.still (g.met.W.Disk.is_consistent c.read_part.new.book.world) c.told.ensures.text (λ s at.
     let region = c.in-Ok.ensures.found s.work at.work.numbers (catalog_as {D = g.W.Disk} old s at c.entries.result.now c.entries.ensures.entries) in
     if_ok _ _ c.show_text.result
-    (λ t h. show_body {D = g.W.Disk} old s at name c.in-Ok.number region c.args.w c.head-head.result.format c.in-Ok-read_part.list
+    (λ t h. show_body {D = g.W.Disk} old s at name c.in-Ok.number region c.args.w c.head-head.result.format c.in_ok-list-in-Ok.list
     (ap (λ (h : Head). h.format) c.head-head.ensures.work)
     (test_at (λ n. is_window n c.args.w) c.head-head.result.level s.last.level c.has_window.result true
     (ap (λ (h : Head). h.level) c.head-head.ensures.work ∙ level_is {D = g.W.Disk} old s at) c.has_window.ensures c.if-not-has_window.false)
-    c.in-Ok-read_part.ensures.level c.in-Ok-read_part.ensures.list t h) c.show_text.ensures)
+    c.in_ok-list-in-Ok.ensures.level c.in_ok-list-in-Ok.ensures.list t h) c.show_text.ensures)
 
 pub returns-then-not-has_window-clause-answer : goal.returns-then-not-has_window-clause-answer
 returns-then-not-has_window-clause-answer g c = λ s at.
@@ -55,12 +58,12 @@ returns-then-not-has_window-clause-answer g c = λ s at.
 pub returns-then-not-has_window-clause-keeps : goal.returns-then-not-has_window-clause-keeps
 returns-then-not-has_window-clause-keeps g c = keeps_here {D = g.W.Disk} c.args.self.now c.args.self.now.warm
 
-pub returns-in-Ok-read_part-clause-reads : goal.returns-in-Ok-read_part-clause-reads
-returns-in-Ok-read_part-clause-reads g c =
+pub returns-in_ok-list-in-Ok-clause-reads : goal.returns-in_ok-list-in-Ok-clause-reads
+returns-in_ok-list-in-Ok-clause-reads g c =
     let old = c.args.self.now in
     let name = c.args.name.now in
     if_ok _ _ c.told.result (λ given h s at answered side over.
     let region = c.in-Ok.ensures.found s.work at.work.numbers (catalog_as {D = g.W.Disk} old s at c.entries.result.now c.entries.ensures.entries) in
     show_cost s name old.book.work.level (reads_in {D = g.W.Disk} old.book) (reads_in {D = g.W.Disk} c.read_part.new.book)
     (level_is {D = g.W.Disk} old s at) region.grid side c.args.w region.got
-    (c.in-Ok-read_part.ensures.reads region.grid side (has_region {D = g.W.Disk} old s at name c.in-Ok.number region) over)) c.told.ensures.text
+    (c.in_ok-list-in-Ok.ensures.reads region.grid side (has_region {D = g.W.Disk} old s at name c.in-Ok.number region) over)) c.told.ensures.text

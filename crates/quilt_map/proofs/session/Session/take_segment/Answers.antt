@@ -1,3 +1,4 @@
+use Rattle.std.proofs.lemmas.Result.{err_from_is_err_and}
 use Rattle.std.specs.FinMap as finmap
 use Rattle.quilt_types.specs.declared.code.Code.TheVariants as no
 use Rattle.quilt_map.specs.LineLayers.{without_segment, segment_taken}
@@ -14,61 +15,65 @@ use Rattle.quilt_map.proofs.session.Session.take_segment.Goals as goal
 pub returns-in_default-clause-goes_on : goal.returns-in_default-clause-goes_on
 returns-in_default-clause-goes_on g c = goes_here {D = g.W.Disk} c.args.self.now.book
 
-pub returns-in-Err-clause-sound : goal.returns-in-Err-clause-sound
-returns-in-Err-clause-sound g c = λ s at name segs cover is.
+pub returns-in_err-plan_removal-clause-sound : goal.returns-in_err-plan_removal-clause-sound
+returns-in_err-plan_removal-clause-sound g c =
+    let p = err_from_is_err_and c.from_residual.result c.from_residual.ensures.1 in
+    rw (p.1, p.2) (λ s at name segs cover is.
     let there = lines_there {D = g.W.Disk} c.args.self.now s at name c.args.layer segs cover is in
-    c.in-Err.ensures.sound segs cover there.least there.holds
+    c.in_err-plan_removal.ensures.sound segs cover there.least there.holds)
 
-pub returns-in-Ok-None-clause-taken : goal.returns-in-Ok-None-clause-taken
-returns-in-Ok-None-clause-taken g c = λ s at name segs cover is.
+pub returns-in-None-clause-taken : goal.returns-in-None-clause-taken
+returns-in-None-clause-taken g c = λ s at name segs cover is.
     let old = c.args.self.now in
     let book = c.plan_removal.new.book in
     let threshold = c.args.layer.threshold in
     let there = lines_there {D = g.W.Disk} old s at name c.args.layer segs cover is in
-    let finds = del_finds c.in-Ok-None.field-0 (finmap.get segs c.args.id) (c.in-Ok-None.ensures.none segs cover there.holds) in
+    let finds = del_finds c.in_ok-plan_removal.field-0 (finmap.get segs c.args.id) (c.in_ok-plan_removal.ensures.none segs cover there.holds) in
     unplanned {D = g.W.Disk} old s at book c.plan_removal.ensures.still (g.met.W.Disk.is_consistent book.world)
     (segment_taken s name threshold segs cover c.args.id) no.Absent
-    (segment_absent s name threshold segs cover c.args.id (finds.0 c.in-Ok-None.field-0-is))
+    (segment_absent s name threshold segs cover c.args.id (finds.0 c.in-None.is))
 
-pub returns-in-Ok-None-clause-goes_on : goal.returns-in-Ok-None-clause-goes_on
-returns-in-Ok-None-clause-goes_on g c = goes_of {D = g.W.Disk} c.args.self.now.book c.plan_removal.new.book c.plan_removal.ensures.still.later
+pub returns-in-None-clause-goes_on : goal.returns-in-None-clause-goes_on
+returns-in-None-clause-goes_on g c = goes_of {D = g.W.Disk} c.args.self.now.book c.plan_removal.new.book c.plan_removal.ensures.still.later
 
-pub returns-in-Ok-Some-clause-taken : goal.returns-in-Ok-Some-clause-taken
-returns-in-Ok-Some-clause-taken g c =
+pub returns-in-Some-clause-taken : goal.returns-in-Some-clause-taken
+returns-in-Some-clause-taken g c =
     if_ok _ _ c.amend.result (λ reply p s at name segs cover is.
     let old = c.args.self.now in
     let book = c.plan_removal.new.book in
     let still = c.plan_removal.ensures.still in
     let law = g.met.W.Disk.is_consistent book.world in
     let threshold = c.args.layer.threshold in
-    let some = c.in-Ok-Some in
+    let found = c.in_ok-plan_removal in
+    let some = c.in-Some in
     let there = lines_there {D = g.W.Disk} old s at name c.args.layer segs cover is in
-    let seg = (del_finds some.field-0 (finmap.get segs c.args.id) (some.ensures.none segs cover there.holds)).1 some.edits some.field-0-is in
+    let seg = (del_finds found.field-0 (finmap.get segs c.args.id) (found.ensures.none segs cover there.holds)).1 some.edits some.is in
     planned {D = g.W.Disk} old s at book still law (segment_taken s name threshold segs cover c.args.id) name c.args.layer.number
     (without_segment s.last.level threshold segs cover c.args.id seg.0) some.edits
-    (taken_amendment {D = g.W.Disk} old s at book still law name c.args.layer segs cover is c.args.id some.field-0 some.edits some.field-0-is
-    some.ensures.order seg.0 seg.1 some.ensures.plan)
+    (taken_amendment {D = g.W.Disk} old s at book still law name c.args.layer segs cover is c.args.id found.field-0 some.edits some.is
+    found.ensures.order seg.0 seg.1 found.ensures.plan)
     (segment_there s name threshold segs cover c.args.id seg.0 seg.1
-    (taken_within {D = g.W.Disk} old s at book still law name c.args.layer segs cover is c.args.id some.field-0 some.edits some.field-0-is
-    some.ensures.order seg.0 seg.1 some.ensures.plan some.ensures.fewer))
+    (taken_within {D = g.W.Disk} old s at book still law name c.args.layer segs cover is c.args.id found.field-0 some.edits some.is
+    found.ensures.order seg.0 seg.1 found.ensures.plan found.ensures.fewer))
     c.amend.new.self reply p) c.amend.ensures.amended
 
-pub returns-in-Ok-Some-clause-sound : goal.returns-in-Ok-Some-clause-sound
-returns-in-Ok-Some-clause-sound g c =
+pub returns-in-Some-clause-sound : goal.returns-in-Some-clause-sound
+returns-in-Some-clause-sound g c =
     if_err _ _ c.amend.result (λ e p s at name segs cover is.
     let old = c.args.self.now in
     let book = c.plan_removal.new.book in
     let still = c.plan_removal.ensures.still in
     let law = g.met.W.Disk.is_consistent book.world in
-    let some = c.in-Ok-Some in
+    let found = c.in_ok-plan_removal in
+    let some = c.in-Some in
     let there = lines_there {D = g.W.Disk} old s at name c.args.layer segs cover is in
-    let seg = (del_finds some.field-0 (finmap.get segs c.args.id) (some.ensures.none segs cover there.holds)).1 some.edits some.field-0-is in
+    let seg = (del_finds found.field-0 (finmap.get segs c.args.id) (found.ensures.none segs cover there.holds)).1 some.edits some.is in
     p s (mid_at {D = g.W.Disk} old s at book still law) name c.args.layer.number
     (without_segment s.last.level c.args.layer.threshold segs cover c.args.id seg.0)
-    (taken_amendment {D = g.W.Disk} old s at book still law name c.args.layer segs cover is c.args.id some.field-0 some.edits some.field-0-is
-    some.ensures.order seg.0 seg.1 some.ensures.plan)) c.amend.ensures.sound
+    (taken_amendment {D = g.W.Disk} old s at book still law name c.args.layer segs cover is c.args.id found.field-0 some.edits some.is
+    found.ensures.order seg.0 seg.1 found.ensures.plan)) c.amend.ensures.sound
 
-pub returns-in-Ok-Some-clause-goes_on : goal.returns-in-Ok-Some-clause-goes_on
-returns-in-Ok-Some-clause-goes_on g c =
+pub returns-in-Some-clause-goes_on : goal.returns-in-Some-clause-goes_on
+returns-in-Some-clause-goes_on g c =
     goes_both {D = g.W.Disk} c.args.self.now.book c.plan_removal.new.book c.amend.new.self.book
     (goes_of {D = g.W.Disk} c.args.self.now.book c.plan_removal.new.book c.plan_removal.ensures.still.later) c.amend.ensures.goes_on

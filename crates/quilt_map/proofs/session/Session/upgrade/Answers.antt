@@ -33,8 +33,8 @@ returns-then-head-clause-crash g c = λ s at. leaves_last {D = g.W.Disk} c.args.
 pub returns-in_default-clause-crash : goal.returns-in_default-clause-crash
 returns-in_default-clause-crash g c = λ s at. leaves_last {D = g.W.Disk} c.args.self.now s commands.Upgrade at
 
-pub returns-in-Err-clause-crash : goal.returns-in-Err-clause-crash
-returns-in-Err-clause-crash g c = λ s at.
+pub returns-in_err-commit-clause-crash : goal.returns-in_err-commit-clause-crash
+returns-in_err-commit-clause-crash g c = λ s at.
     let old = c.args.self.now in
     let r = c.raise.ensures in
     let one : (s.last.format == 2) ≡ false =
@@ -46,8 +46,8 @@ returns-in-Err-clause-crash g c = λ s at.
     subst (λ (o : Option Tale). Goes (LeavesEdition s commands.Upgrade) o (g.W.Disk.told c.commit.new.self.book.world)) told
     (leaves_given s commands.Upgrade (upgraded s) _ _ (ap (λ (o : Outcome). o.published) (upgrade_gives s one room)) (c.commit.ensures.crash s (upgraded s) can))
 
-pub returns-in-Err-clause-writes : goal.returns-in-Err-clause-writes
-returns-in-Err-clause-writes g c = λ s at.
+pub returns-in_err-commit-clause-writes : goal.returns-in_err-commit-clause-writes
+returns-in_err-commit-clause-writes g c = λ s at.
     let old = c.args.self.now in
     let r = c.raise.ensures in
     let one : (s.last.format == 2) ≡ false =
@@ -59,8 +59,8 @@ returns-in-Err-clause-writes g c = λ s at.
     subst (λ (o : Option Tale). Goes (Writing (18 * old.changes + 8)) o (g.W.Disk.told c.commit.new.self.book.world)) told
     (c.commit.ensures.writes s (upgraded s) can)
 
-pub returns-in-Ok-commit-clause-crash : goal.returns-in-Ok-commit-clause-crash
-returns-in-Ok-commit-clause-crash g c = λ s at.
+pub returns-clause-crash : goal.returns-clause-crash
+returns-clause-crash g c = λ s at.
     let old = c.args.self.now in
     let r = c.raise.ensures in
     let one : (s.last.format == 2) ≡ false =
@@ -72,8 +72,8 @@ returns-in-Ok-commit-clause-crash g c = λ s at.
     subst (λ (o : Option Tale). Goes (LeavesEdition s commands.Upgrade) o (g.W.Disk.told c.commit.new.self.book.world)) told
     (leaves_given s commands.Upgrade (upgraded s) _ _ (ap (λ (o : Outcome). o.published) (upgrade_gives s one room)) (c.commit.ensures.crash s (upgraded s) can))
 
-pub returns-in-Ok-commit-clause-writes : goal.returns-in-Ok-commit-clause-writes
-returns-in-Ok-commit-clause-writes g c = λ s at.
+pub returns-clause-writes : goal.returns-clause-writes
+returns-clause-writes g c = λ s at.
     let old = c.args.self.now in
     let r = c.raise.ensures in
     let one : (s.last.format == 2) ≡ false =
@@ -85,8 +85,8 @@ returns-in-Ok-commit-clause-writes g c = λ s at.
     subst (λ (o : Option Tale). Goes (Writing (18 * old.changes + 8)) o (g.W.Disk.told c.commit.new.self.book.world)) told
     (c.commit.ensures.writes s (upgraded s) can)
 
-pub returns-in-Ok-commit-clause-answer : goal.returns-in-Ok-commit-clause-answer
-returns-in-Ok-commit-clause-answer g c = λ s at.
+pub returns-clause-answer : goal.returns-clause-answer
+returns-clause-answer g c = λ s at.
     let old = c.args.self.now in
     let r = c.raise.ensures in
     let one : (s.last.format == 2) ≡ false =
@@ -98,4 +98,4 @@ returns-in-Ok-commit-clause-answer g c = λ s at.
     answered_given {D = g.W.Disk} s commands.Upgrade (upgraded s) old c.commit.new.self _ (upgrade_gives s one room)
     (tells_edition s (upgraded s) c.in-Ok.text (c.head-head.result.edition + 1)
     (ap (λ k. k + 1) (c.head-head.ensures.edition.0 ∙ sym at.last.head.number)) c.in-Ok.ensures)
-    (c.in-Ok-commit.ensures.renewed s (upgraded s) can)
+    (c.in_ok-commit.ensures.renewed s (upgraded s) can)
