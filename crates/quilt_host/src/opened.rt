@@ -94,11 +94,10 @@ fn open_to_read<S: System>(system: &mut S, path: &str) -> Result<RawFd, Failure>
     ensures nothing { OnErr result (S.told system.new ≡ S.told system.old) }
     ensures missing { result ≡ Err Failure.Missing → IfSome (S.told system.old) (λ s. path.now ≡ s.path → s.is_there ≡ false) }
 {
-    match system.is_regular(path) {
-        Ok(true) => system.open(path, Access::ReadOnly),
-        Ok(false) => Err(Failure::Forbidden),
-        Err(failure) => Err(failure),
+    if !system.is_regular(path)? {
+        return Err(Failure::Forbidden);
     }
+    system.open(path, Access::ReadOnly)
 }
 
 /// Opens a file to read and write, or to read alone where writing is not permitted, and says whether it may be written.
@@ -108,9 +107,8 @@ fn open_any<S: System>(system: &mut S, path: &str) -> Result<(RawFd, bool), Fail
     ensures missing { result ≡ Err Failure.Missing → IfSome (S.told system.old) (λ s. path.now ≡ s.path → s.is_there ≡ false) }
 {
     match system.open(path, Access::ReadWrite) {
-        Ok(descriptor) => Ok((descriptor, true)),
         Err(Failure::Forbidden) => Ok((open_to_read(system, path)?, false)),
-        Err(failure) => Err(failure),
+        opened => Ok((opened?, true)),
     }
 }
 
@@ -207,8 +205,6 @@ pub(crate) fn make_map<S: System>(system: &mut S, path: &str, pages: u32) -> Res
         Ok(folder) if is_beyond_streams(folder) => {}
         _ => return Err(Failure::Other),
     }
-    match system.create(path) {
-        Ok(descriptor) => fill_or_remove(system, path, descriptor, pages),
-        Err(failure) => Err(failure),
-    }
+    let descriptor = system.create(path)?;
+    fill_or_remove(system, path, descriptor, pages)
 }

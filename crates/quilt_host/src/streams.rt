@@ -14,9 +14,8 @@ pub(crate) fn take<S: System>(system: &mut S, into: &mut [u8]) -> Result<usize, 
 {
     'tries: for _ in 0..u64::MAX {
         match system.take(into) {
-            Ok(count) => return Ok(count),
             Err(Failure::Interrupted) => {}
-            Err(failure) => return Err(failure),
+            taken => return taken,
         }
     }
     Err(Failure::Other)
@@ -32,9 +31,8 @@ pub(crate) fn put<S: System>(system: &mut S, bytes: &[u8]) -> Result<usize, Fail
     'tries: for _ in 0..u64::MAX {
         match system.put(bytes) {
             Ok(0) => return Err(Failure::Other),
-            Ok(n) => return Ok(n),
             Err(Failure::Interrupted) => {}
-            Err(other) => return Err(other),
+            written => return written,
         }
     }
     Err(Failure::Other)
