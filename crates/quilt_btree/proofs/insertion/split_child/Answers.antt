@@ -2,15 +2,18 @@ use Rattle.std.proofs.Common.{◌≡◌, suc, ◌≤◌, length, refl, sym, ◌�
 use Rattle.quilt_node.specs.Pages.{Inner}
 use Rattle.std.specs.List.{insert}
 use Rattle.std.proofs.lemmas.List.Edits.{length-insert}
+use Rattle.std.proofs.lemmas.Result.{err_from_is_err_and}
 use Rattle.quilt_node.specs.Edits.{with_child}
 use Rattle.quilt_btree.proofs.growth.InnerGrowth.{IsWritten, pending_taken, put_done, put_split}
 use Rattle.quilt_btree.proofs.insertion.split_child.Goals as goal
 
-pub returns-in-Err-clause-sound : goal.returns-in-Err-clause-sound
-returns-in-Err-clause-sound g c is_root b all under p room = c.in-Err.ensures.sound (pending_taken p) room
+pub returns-in_err-new-clause-sound : goal.returns-in_err-new-clause-sound
+returns-in_err-new-clause-sound g c =
+    let p = err_from_is_err_and c.from_residual.result c.from_residual.ensures.1 in
+    rw (p.1, p.2) (λ is_root b all under p room. c.in_err-new.ensures.sound (pending_taken p) room)
 
-pub returns-in-Ok-clause-put : goal.returns-in-Ok-clause-put
-returns-in-Ok-clause-put g c is_root b all under p =
+pub returns-clause-put : goal.returns-clause-put
+returns-clause-put g c is_root b all under p =
     let long = c.requires.place.1 in
     let behind : suc c.args.i ≤ length c.args.inner.now.children = let q = c.requires.place.0 in omega arith in
     let full : length (insert c.args.inner.now.children (suc c.args.i) c.args.child) ≡ 255 =
@@ -19,11 +22,11 @@ returns-in-Ok-clause-put g c is_root b all under p =
     (g.S.PageStore.size c.args.store.now)
     c.args.inner.now.height
     c.bytes.result.now c.bytes-2.result.now c.insert_split-right.result.0
-    c.requires.page.1 c.in-Ok.ensures.page.1 (g.met.S.PageStore.as_many c.args.store.now)
+    c.requires.page.1 c.in_ok-new.ensures.page.1 (g.met.S.PageStore.as_many c.args.store.now)
     (record {
       full = full;
       is_left = subst (λ (x : Inner). IsWritten c.bytes.result.now x) c.insert_split-right.ensures.left c.bytes.ensures.inner;
       is_right = subst (λ (x : Inner). IsWritten c.bytes-2.result.now x) c.insert_split-right.ensures.right c.bytes-2.ensures.inner;
       parts = c.insert_split-right.ensures.key;
     })
-    refl c.in-Ok.ensures.free c.in-Ok.ensures.taken c.in-Ok.ensures.told p
+    refl c.in_ok-new.ensures.free c.in_ok-new.ensures.taken c.in_ok-new.ensures.told p
