@@ -133,18 +133,14 @@ fn rebalance_leaves<S: PageStore>(
     }
     if first.len() + rest.len() <= MOST_RECORDS {
         first.join(&rest);
-        return match write_and_give(store, left, first.bytes(), right) {
-            Err(e) => Err(e),
-            Ok(()) => Ok(Rebalanced::Joined),
-        };
+        write_and_give(store, left, first.bytes(), right)?;
+        return Ok(Rebalanced::Joined);
     }
     share_records(&mut first, &mut rest);
     let _ = rest.len();
     let separator = rest.rec(0).key;
-    match write_both(store, left, first.bytes(), right, rest.bytes()) {
-        Err(e) => Err(e),
-        Ok(()) => Ok(Rebalanced::Redistributed { key: separator }),
-    }
+    write_both(store, left, first.bytes(), right, rest.bytes())?;
+    Ok(Rebalanced::Redistributed { key: separator })
 }
 
 /// Joins two neighbouring inner pages, or moves a child, so that none has under 127.
@@ -174,16 +170,12 @@ fn rebalance_inners<S: PageStore>(
     }
     if first.len() + rest.len() <= MOST_CHILDREN {
         first.join(key, &rest);
-        return match write_and_give(store, left, first.bytes(), right) {
-            Err(e) => Err(e),
-            Ok(()) => Ok(Rebalanced::Joined),
-        };
+        write_and_give(store, left, first.bytes(), right)?;
+        return Ok(Rebalanced::Joined);
     }
     let separator = share_children(&mut first, key, &mut rest);
-    match write_both(store, left, first.bytes(), right, rest.bytes()) {
-        Err(e) => Err(e),
-        Ok(()) => Ok(Rebalanced::Redistributed { key: separator }),
-    }
+    write_both(store, left, first.bytes(), right, rest.bytes())?;
+    Ok(Rebalanced::Redistributed { key: separator })
 }
 
 /// Joins two neighbouring pages of this height, or moves a record or a child, so that none has too few. A leaf that is

@@ -44,17 +44,15 @@ impl Tree {
         ensures left { OnlyReads S.PageStore store.old store.new result }
         ensures reads { Goes (λ old new. new ≤ old + 3) (S.reads store.old) (S.reads store.new) }
     {
-        match leaf_for(store, self, k) {
-            Err(e) => Err(e),
-            Ok(found) => match store.page(found.page) {
-                Err(e) => Err(stop_of(e)),
-                Ok(bytes) => Ok(Cursor {
-                    bytes: *bytes,
-                    place: place_from(bytes, k),
-                    count: records_in(bytes),
-                    high: found.high,
-                }),
-            },
+        let found = leaf_for(store, self, k)?;
+        match store.page(found.page) {
+            Err(e) => Err(stop_of(e)),
+            Ok(bytes) => Ok(Cursor {
+                bytes: *bytes,
+                place: place_from(bytes, k),
+                count: records_in(bytes),
+                high: found.high,
+            }),
         }
     }
 
@@ -72,18 +70,16 @@ impl Tree {
         ensures left { OnlyReads S.PageStore store.old store.new result }
         ensures reads { Goes (λ old new. new ≤ old + 3) (S.reads store.old) (S.reads store.new) }
     {
-        match leaf_for(store, self, k) {
-            Err(e) => Err(e),
-            Ok(found) => match store.page(found.page) {
-                Err(e) => Err(stop_of(e)),
-                Ok(bytes) => {
-                    c.bytes = *bytes;
-                    c.place = 0;
-                    c.count = records_in(bytes);
-                    c.high = found.high;
-                    Ok(())
-                }
-            },
+        let found = leaf_for(store, self, k)?;
+        match store.page(found.page) {
+            Err(e) => Err(stop_of(e)),
+            Ok(bytes) => {
+                c.bytes = *bytes;
+                c.place = 0;
+                c.count = records_in(bytes);
+                c.high = found.high;
+                Ok(())
+            }
         }
     }
 
@@ -111,15 +107,11 @@ impl Tree {
             None => return Ok(None),
             Some(k) => k,
         };
-        match self.enter(store, &k, c) {
-            Err(e) => Err(e),
-            Ok(()) => {
-                if c.place < c.count {
-                    Ok(Some(c.over()))
-                } else {
-                    Err(Stop::Damaged { page: 0 })
-                }
-            }
+        self.enter(store, &k, c)?;
+        if c.place < c.count {
+            Ok(Some(c.over()))
+        } else {
+            Err(Stop::Damaged { page: 0 })
         }
     }
 
@@ -148,10 +140,9 @@ impl Tree {
             return Ok(Some(c.back()));
         }
         let first = rec_in(&c.bytes, 0);
-        match lower_under(store, self.root, self.height, &first.key) {
-            Err(e) => Err(e),
-            Ok(None) => Ok(None),
-            Ok(Some(r)) => match self.seek(store, &r.key) {
+        match lower_under(store, self.root, self.height, &first.key)? {
+            None => Ok(None),
+            Some(r) => match self.seek(store, &r.key) {
                 Err(e) => Err(e),
                 Ok(found) => {
                     *c = found;

@@ -53,10 +53,7 @@ impl Tree {
         if self.height == 0 {
             return Ok(None);
         }
-        match self.put_finger(store, finger, k) {
-            Err(e) => return Err(e),
-            Ok(()) => {}
-        }
+        self.put_finger(store, finger, k)?;
         match floor_at_finger(finger, k) {
             Some(r) => Ok(Some(r)),
             None => self.floor(store, k),
@@ -79,18 +76,16 @@ impl Tree {
         ensures left { OnlyReads S.PageStore store.old store.new result }
         ensures reads { Goes (λ old new. new ≤ old + 3) (S.reads store.old) (S.reads store.new) }
     {
-        match leaf_for(store, self, k) {
-            Err(e) => Err(e),
-            Ok(found) => match store.page(found.page) {
-                Err(e) => Err(stop_of(e)),
-                Ok(bytes) => {
-                    *finger = Some(Finger {
-                        bytes: *bytes,
-                        high: found.high,
-                    });
-                    Ok(())
-                }
-            },
+        let found = leaf_for(store, self, k)?;
+        match store.page(found.page) {
+            Err(e) => Err(stop_of(e)),
+            Ok(bytes) => {
+                *finger = Some(Finger {
+                    bytes: *bytes,
+                    high: found.high,
+                });
+                Ok(())
+            }
         }
     }
 }

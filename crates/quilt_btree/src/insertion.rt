@@ -76,19 +76,15 @@ pub fn put_record<S: PageStore>(
 {
     if leaf.len() < MOST_RECORDS {
         leaf.insert(i, r);
-        return match write_page(store, page, leaf.bytes()) {
-            Err(e) => Err(e),
-            Ok(()) => Ok(Inserted::Done),
-        };
+        write_page(store, page, leaf.bytes())?;
+        return Ok(Inserted::Done);
     }
     let right = leaf.insert_split(i, r);
-    match write_split(store, page, leaf.bytes(), right.bytes()) {
-        Err(e) => Err(e),
-        Ok(new) => Ok(Inserted::Split {
-            key: right.rec(0).key,
-            right: new,
-        }),
-    }
+    let new = write_split(store, page, leaf.bytes(), right.bytes())?;
+    Ok(Inserted::Split {
+        key: right.rec(0).key,
+        right: new,
+    })
 }
 
 /// Whether the keys before place `i` are below `k`.
@@ -143,13 +139,11 @@ fn split_child<S: PageStore>(
     ensures left { EditsWithin S.PageStore 2 0 store.old store.new result }
 {
     let (separator, right) = inner.insert_split(i, key, child);
-    match write_split(store, page, inner.bytes(), right.bytes()) {
-        Err(e) => Err(e),
-        Ok(new) => Ok(Inserted::Split {
-            key: separator,
-            right: new,
-        }),
-    }
+    let new = write_split(store, page, inner.bytes(), right.bytes())?;
+    Ok(Inserted::Split {
+        key: separator,
+        right: new,
+    })
 }
 
 /// Puts key `i` and child `i + 1` into an inner page, and writes it to its page. One at height 3, where the root stands, is not
@@ -182,10 +176,8 @@ pub fn put_child<S: PageStore>(
     }
     if inner.len() < MOST_CHILDREN {
         inner.insert(i, key, child);
-        return match write_page(store, page, inner.bytes()) {
-            Err(e) => Err(e),
-            Ok(()) => Ok(Inserted::Done),
-        };
+        write_page(store, page, inner.bytes())?;
+        return Ok(Inserted::Done);
     }
     if inner.height() == 3 {
         return Err(Stop::Damaged { page: 0 });
@@ -218,15 +210,11 @@ pub fn insert_under<S: PageStore>(
         return insert_leaf(store, page, r);
     }
     let mut bytes = [0; 4096];
-    let path = match read_path(store, page, &r.key, &mut bytes) {
-        Err(e) => return Err(e),
-        Ok(path) => path,
-    };
-    match insert_under(store, path.child, height - 1, r) {
-        Err(e) => Err(e),
-        Ok(Inserted::There) => Ok(Inserted::There),
-        Ok(Inserted::Done) => Ok(Inserted::Done),
-        Ok(Inserted::Split { key, right }) => match inner_high(&bytes, store.pages(), height) {
+    let path = read_path(store, page, &r.key, &mut bytes)?;
+    match insert_under(store, path.child, height - 1, r)? {
+        Inserted::There => Ok(Inserted::There),
+        Inserted::Done => Ok(Inserted::Done),
+        Inserted::Split { key, right } => match inner_high(&bytes, store.pages(), height) {
             None => Err(Stop::Damaged {
                 page: inner_at_fault(&bytes, store.pages(), page),
             }),

@@ -85,8 +85,6 @@ pub fn edit_under<S: PageStore>(
     if height == 1 {
         return edit_leaf(store, page, is_root, high, run);
     }
-    match step_at(store, page, run[0].key(), high) {
-        Err(e) => Err(e),
-        Ok(step) => edit_under(store, step.child, height - 1, false, &step.high, run),
-    }
+    let step = step_at(store, page, run[0].key(), high)?;
+    edit_under(store, step.child, height - 1, false, &step.high, run)
 }

@@ -80,18 +80,12 @@ pub fn lower_under<S: PageStore>(
     if height == 1 {
         return lower_at(store, page, k);
     }
-    match fork_at(store, page, k) {
-        Err(e) => Err(e),
-        Ok(fork) => match lower_under(store, fork.child, height - 1, k) {
-            Err(e) => Err(e),
-            Ok(Some(r)) => Ok(Some(r)),
-            Ok(None) => match fork.prior {
-                None => Ok(None),
-                Some(prior) => match last_under(store, prior, height - 1) {
-                    Err(e) => Err(e),
-                    Ok(r) => Ok(Some(r)),
-                },
-            },
+    let fork = fork_at(store, page, k)?;
+    match lower_under(store, fork.child, height - 1, k)? {
+        Some(r) => Ok(Some(r)),
+        None => match fork.prior {
+            None => Ok(None),
+            Some(prior) => Ok(Some(last_under(store, prior, height - 1)?)),
         },
     }
 }

@@ -53,14 +53,12 @@ fn remove_in_leaf<S: PageStore>(store: &mut S, page: u32, k: &Key) -> Result<Rem
         Ok(i) => {
             leaf.remove(i);
             let left = leaf.len();
-            match write_page(store, page, leaf.bytes()) {
-                Err(e) => Err(e),
-                Ok(()) => Ok(if left < LEAST_RECORDS {
-                    Removed::Underfull
-                } else {
-                    Removed::Done
-                }),
-            }
+            write_page(store, page, leaf.bytes())?;
+            Ok(if left < LEAST_RECORDS {
+                Removed::Underfull
+            } else {
+                Removed::Done
+            })
         }
     }
 }
@@ -112,14 +110,12 @@ fn drop_child<S: PageStore>(
     }
     inner.remove(j);
     let left = inner.len();
-    match write_page(store, page, inner.bytes()) {
-        Err(e) => Err(e),
-        Ok(()) => Ok(if left < LEAST_CHILDREN {
-            Removed::Underfull
-        } else {
-            Removed::Done
-        }),
-    }
+    write_page(store, page, inner.bytes())?;
+    Ok(if left < LEAST_CHILDREN {
+        Removed::Underfull
+    } else {
+        Removed::Done
+    })
 }
 
 /// Writes an inner page with another key `j`.
@@ -175,13 +171,12 @@ fn rebalance_child<S: PageStore>(
     let right = inner.child(j + 1);
     let key = inner.key(j);
     let spare = other_of(left, right, inner.child(i));
-    match rebalance_pages(store, height - 1, left, &key, right, spare) {
-        Err(e) => Err(e),
-        Ok(Rebalanced::Joined) => drop_child(store, page, inner, j),
-        Ok(Rebalanced::Redistributed { key }) => match renew_key(store, page, inner, j, &key) {
-            Err(e) => Err(e),
-            Ok(()) => Ok(Removed::Done),
-        },
+    match rebalance_pages(store, height - 1, left, &key, right, spare)? {
+        Rebalanced::Joined => drop_child(store, page, inner, j),
+        Rebalanced::Redistributed { key } => {
+            renew_key(store, page, inner, j, &key)?;
+            Ok(Removed::Done)
+        }
     }
 }
 
@@ -210,22 +205,18 @@ pub fn remove_under<S: PageStore>(
         return remove_in_leaf(store, page, k);
     }
     let mut bytes = [0; 4096];
-    let path = match read_path(store, page, k, &mut bytes) {
-        Err(e) => return Err(e),
-        Ok(path) => path,
-    };
+    let path = read_path(store, page, k, &mut bytes)?;
     let child = path.child;
-    match remove_under(store, child, height - 1, k) {
-        Err(e) => Err(e),
-        Ok(Removed::Missing) => Ok(Removed::Missing),
-        Ok(Removed::Done) => Ok(Removed::Done),
-        Ok(Removed::Underfull) => match inner_high(&bytes, store.pages(), height) {
+    match remove_under(store, child, height - 1, k)? {
+        Removed::Missing => Ok(Removed::Missing),
+        Removed::Done => Ok(Removed::Done),
+        Removed::Underfull => match inner_high(&bytes, store.pages(), height) {
             None => Err(Stop::Damaged {
                 page: inner_at_fault(&bytes, store.pages(), page),
             }),
             Some(mut inner) => rebalance_child(store, page, height, &mut inner, path.place),
         },
-        Ok(Removed::Emptied) => Err(Stop::Damaged { page: 0 }),
-        Ok(Removed::Only { .. }) => Err(Stop::Damaged { page: 0 }),
+        Removed::Emptied => Err(Stop::Damaged { page: 0 }),
+        Removed::Only { .. } => Err(Stop::Damaged { page: 0 }),
     }
 }

@@ -170,12 +170,10 @@ pub fn read_path<S: PageStore>(
     ensures left { OnlyReads S.PageStore store.old store.new result }
     ensures reads { Goes (λ old new. new ≤ old + 1) (S.reads store.old) (S.reads store.new) }
 {
-    match read_into(store, page, bytes) {
-        Err(e) => Err(e),
-        Ok(()) => match path_in(bytes, store.pages(), k) {
-            None => Err(Stop::Damaged { page }),
-            Some(path) => Ok(path),
-        },
+    read_into(store, page, bytes)?;
+    match path_in(bytes, store.pages(), k) {
+        None => Err(Stop::Damaged { page }),
+        Some(path) => Ok(path),
     }
 }
 
@@ -195,10 +193,8 @@ pub fn leaf_page<S: PageStore>(store: &mut S, page: u32, height: u8, k: &Key) ->
     if height == 1 {
         return Ok(page);
     }
-    match fork_at(store, page, k) {
-        Err(e) => Err(e),
-        Ok(fork) => leaf_page(store, fork.child, height - 1, k),
-    }
+    let fork = fork_at(store, page, k)?;
+    leaf_page(store, fork.child, height - 1, k)
 }
 
 /// The last record of the subtree at a page.
@@ -219,10 +215,8 @@ pub fn last_under<S: PageStore>(store: &mut S, page: u32, height: u8) -> Result<
     if height == 1 {
         return last_at(store, page);
     }
-    match last_child_at(store, page) {
-        Err(e) => Err(e),
-        Ok(child) => last_under(store, child, height - 1),
-    }
+    let child = last_child_at(store, page)?;
+    last_under(store, child, height - 1)
 }
 
 /// The record of the subtree at a page with the greatest key that is at most `k`.
@@ -248,18 +242,12 @@ pub fn floor_under<S: PageStore>(
     if height == 1 {
         return floor_at(store, page, k);
     }
-    match fork_at(store, page, k) {
-        Err(e) => Err(e),
-        Ok(fork) => match floor_under(store, fork.child, height - 1, k) {
-            Err(e) => Err(e),
-            Ok(Some(r)) => Ok(Some(r)),
-            Ok(None) => match fork.prior {
-                None => Ok(None),
-                Some(prior) => match last_under(store, prior, height - 1) {
-                    Err(e) => Err(e),
-                    Ok(r) => Ok(Some(r)),
-                },
-            },
+    let fork = fork_at(store, page, k)?;
+    match floor_under(store, fork.child, height - 1, k)? {
+        Some(r) => Ok(Some(r)),
+        None => match fork.prior {
+            None => Ok(None),
+            Some(prior) => Ok(Some(last_under(store, prior, height - 1)?)),
         },
     }
 }

@@ -30,13 +30,9 @@ pub fn write_split<S: PageStore>(
         return Err(Stop::Damaged { page: 0 });
     }
     let new = store.take_page();
-    if let Err(e) = write_page(store, page, left) {
-        return Err(e);
-    }
-    match write_page(store, new, right) {
-        Err(e) => Err(e),
-        Ok(()) => Ok(new),
-    }
+    write_page(store, page, left)?;
+    write_page(store, new, right)?;
+    Ok(new)
 }
 
 /// Writes a new page of the tree to a free page, which is the answer.
@@ -53,8 +49,6 @@ pub fn write_new<S: PageStore>(store: &mut S, bytes: &[u8; 4096]) -> Result<u32,
         return Err(Stop::Damaged { page: 0 });
     }
     let new = store.take_page();
-    match write_page(store, new, bytes) {
-        Err(e) => Err(e),
-        Ok(()) => Ok(new),
-    }
+    write_page(store, new, bytes)?;
+    Ok(new)
 }

@@ -77,15 +77,13 @@ impl Tree {
         if self.height == 0 {
             return Ok(None);
         }
-        match self.spot_for(store, spot, k) {
-            Err(e) => Err(e),
-            Ok(found) => match store.page(found.page) {
-                Err(e) => Err(stop_of(e)),
-                Ok(bytes) => {
-                    *spot = Some(found.widened(bytes));
-                    Ok(value_in(bytes, k))
-                }
-            },
+        let found = self.spot_for(store, spot, k)?;
+        match store.page(found.page) {
+            Err(e) => Err(stop_of(e)),
+            Ok(bytes) => {
+                *spot = Some(found.widened(bytes));
+                Ok(value_in(bytes, k))
+            }
         }
     }
 
@@ -111,11 +109,7 @@ impl Tree {
         if self.height == 0 {
             return Ok(None);
         }
-        let here = match self.floor_here(store, spot, k) {
-            Err(e) => return Err(e),
-            Ok(here) => here,
-        };
-        match here {
+        match self.floor_here(store, spot, k)? {
             Some(r) => Ok(Some(r)),
             None => self.floor(store, k),
         }
@@ -139,15 +133,13 @@ impl Tree {
         ensures left { OnlyReads S.PageStore store.old store.new result }
         ensures reads { Goes (λ old new. new ≤ old + 3) (S.reads store.old) (S.reads store.new) }
     {
-        match self.spot_for(store, spot, k) {
-            Err(e) => Err(e),
-            Ok(found) => match store.page(found.page) {
-                Err(e) => Err(stop_of(e)),
-                Ok(bytes) => {
-                    *spot = Some(found.widened(bytes));
-                    Ok(floor_in(bytes, k))
-                }
-            },
+        let found = self.spot_for(store, spot, k)?;
+        match store.page(found.page) {
+            Err(e) => Err(stop_of(e)),
+            Ok(bytes) => {
+                *spot = Some(found.widened(bytes));
+                Ok(floor_in(bytes, k))
+            }
         }
     }
 
@@ -179,24 +171,18 @@ impl Tree {
         if self.height == 0 {
             return Ok(records);
         }
-        let found = match self.spot_for(store, spot, low) {
-            Err(e) => return Err(e),
-            Ok(found) => found,
-        };
-        let wide = match add_in(store, &found, &mut records, low, high, most) {
-            Err(e) => return Err(e),
-            Ok(wide) => wide,
-        };
+        let found = self.spot_for(store, spot, low)?;
+        let wide = add_in(store, &found, &mut records, low, high, most)?;
         *spot = Some(wide);
         if records.len() == most as usize {
             return Ok(records);
         }
         match key_up_to(found.high, high) {
             None => Ok(records),
-            Some(next) => match self.add_rest(store, &mut records, &next, high, most) {
-                Err(e) => Err(e),
-                Ok(()) => Ok(records),
-            },
+            Some(next) => {
+                self.add_rest(store, &mut records, &next, high, most)?;
+                Ok(records)
+            }
         }
     }
 
@@ -223,14 +209,12 @@ impl Tree {
             Some(here) => return Ok(here),
             None => {}
         }
-        match leaf_at(store, self.root, self.height, k, &None) {
-            Err(e) => Err(e),
-            Ok(found) => Ok(Spot {
-                page: found.page,
-                low: *k,
-                high: found.high,
-            }),
-        }
+        let found = leaf_at(store, self.root, self.height, k, &None)?;
+        Ok(Spot {
+            page: found.page,
+            low: *k,
+            high: found.high,
+        })
     }
 }
 

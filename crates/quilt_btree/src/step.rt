@@ -86,10 +86,8 @@ pub fn leaf_at<S: PageStore>(
     if height == 1 {
         return Ok(Found { page, high: *high });
     }
-    match step_at(store, page, k, high) {
-        Err(e) => Err(e),
-        Ok(step) => leaf_at(store, step.child, height - 1, k, &step.high),
-    }
+    let step = step_at(store, page, k, high)?;
+    leaf_at(store, step.child, height - 1, k, &step.high)
 }
 
 /// The leaf to which a key leads in a tree. The pages above it are looked at where they lie; the leaf itself is not.

@@ -72,10 +72,7 @@ impl Tree {
         if self.height == 0 {
             return self.apply_first(store, run);
         }
-        let n = match edit_under(store, self.root, self.height, true, &None, run) {
-            Err(e) => return Err(e),
-            Ok(n) => n,
-        };
+        let n = edit_under(store, self.root, self.height, true, &None, run)?;
         if n == 0 {
             return self.apply_first(store, run);
         }
@@ -103,10 +100,8 @@ impl Tree {
         ensures bad { IfErr result (λ e. e ≢ Damaged 0 → NamesBad (S.told store.old) self.old.height self.old.root e) }
         ensures left { EditsFirst S.PageStore 1 3 run.now store.old store.new result }
     {
-        match self.apply_one(store, &run[0]) {
-            Err(e) => Err(e),
-            Ok(()) => Ok(1),
-        }
+        self.apply_one(store, &run[0])?;
+        Ok(1)
     }
 
     /// Makes one edit, and splits or rebalances pages for it. A record in the place of another comes here only over a tree
@@ -125,44 +120,38 @@ impl Tree {
         ensures left { EditsWithinOnOk S.PageStore (cost_of edit.now - 1) (looks_of edit.now - 3) store.old store.new result }
     {
         match edit {
-            Edit::Remove { key } => match self.remove(store, key) {
-                Err(e) => Err(e),
-                Ok(is_out) => {
-                    if is_out {
-                        Ok(())
-                    } else {
-                        Err(Stop::Damaged { page: 0 })
-                    }
+            Edit::Remove { key } => {
+                let is_out = self.remove(store, key)?;
+                if is_out {
+                    Ok(())
+                } else {
+                    Err(Stop::Damaged { page: 0 })
                 }
-            },
-            Edit::Put { record } => match self.insert(store, record) {
-                Err(e) => Err(e),
-                Ok(is_new) => {
-                    if is_new {
-                        Ok(())
-                    } else {
-                        Err(Stop::Damaged { page: 0 })
-                    }
+            }
+            Edit::Put { record } => {
+                let is_new = self.insert(store, record)?;
+                if is_new {
+                    Ok(())
+                } else {
+                    Err(Stop::Damaged { page: 0 })
                 }
-            },
-            Edit::Replace { record } => match self.remove(store, &record.key) {
-                Err(e) => Err(e),
-                Ok(is_out) => {
-                    if !is_out {
-                        return Err(Stop::Damaged { page: 0 });
-                    }
-                    match self.insert(store, record) {
-                        Err(e) => Err(stop_behind(e, 1)),
-                        Ok(is_new) => {
-                            if is_new {
-                                Ok(())
-                            } else {
-                                Err(Stop::Damaged { page: 0 })
-                            }
+            }
+            Edit::Replace { record } => {
+                let is_out = self.remove(store, &record.key)?;
+                if !is_out {
+                    return Err(Stop::Damaged { page: 0 });
+                }
+                match self.insert(store, record) {
+                    Err(e) => Err(stop_behind(e, 1)),
+                    Ok(is_new) => {
+                        if is_new {
+                            Ok(())
+                        } else {
+                            Err(Stop::Damaged { page: 0 })
                         }
                     }
                 }
-            },
+            }
         }
     }
 }

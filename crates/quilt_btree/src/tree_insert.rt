@@ -43,41 +43,32 @@ impl Tree {
     {
         if self.height == 0 {
             let leaf = LeafPage::one(r);
-            return match write_new(store, leaf.bytes()) {
-                Err(e) => Err(e),
-                Ok(root) => {
-                    *self = Tree {
-                        root,
-                        height: 1,
-                        records: 1,
-                    };
-                    Ok(true)
-                }
+            let root = write_new(store, leaf.bytes())?;
+            *self = Tree {
+                root,
+                height: 1,
+                records: 1,
             };
+            return Ok(true);
         }
-        match insert_under(store, self.root, self.height, r) {
-            Err(e) => Err(e),
-            Ok(Inserted::There) => Ok(false),
-            Ok(Inserted::Done) => {
+        match insert_under(store, self.root, self.height, r)? {
+            Inserted::There => Ok(false),
+            Inserted::Done => {
                 self.records += 1;
                 Ok(true)
             }
-            Ok(Inserted::Split { key, right }) => {
+            Inserted::Split { key, right } => {
                 if self.height == 3 {
                     return Err(Stop::Damaged { page: 0 });
                 }
                 let page = InnerPage::pair(self.height + 1, self.root, &key, right);
-                match write_new(store, page.bytes()) {
-                    Err(e) => Err(e),
-                    Ok(root) => {
-                        *self = Tree {
-                            root,
-                            height: self.height + 1,
-                            records: self.records + 1,
-                        };
-                        Ok(true)
-                    }
-                }
+                let root = write_new(store, page.bytes())?;
+                *self = Tree {
+                    root,
+                    height: self.height + 1,
+                    records: self.records + 1,
+                };
+                Ok(true)
             }
         }
     }

@@ -42,19 +42,18 @@ impl Tree {
         if self.height == 0 {
             return Ok(false);
         }
-        match remove_under(store, self.root, self.height, k) {
-            Err(e) => Err(e),
-            Ok(Removed::Missing) => Ok(false),
-            Ok(Removed::Done) => self.shrink(self.root, self.height),
-            Ok(Removed::Underfull) => self.shrink(self.root, self.height),
-            Ok(Removed::Emptied) => match give_back(store, self.root) {
-                Err(e) => Err(e),
-                Ok(()) => self.shrink(0, 0),
-            },
-            Ok(Removed::Only { child }) => match give_back(store, self.root) {
-                Err(e) => Err(e),
-                Ok(()) => self.shrink(child, self.height - 1),
-            },
+        match remove_under(store, self.root, self.height, k)? {
+            Removed::Missing => Ok(false),
+            Removed::Done => self.shrink(self.root, self.height),
+            Removed::Underfull => self.shrink(self.root, self.height),
+            Removed::Emptied => {
+                give_back(store, self.root)?;
+                self.shrink(0, 0)
+            }
+            Removed::Only { child } => {
+                give_back(store, self.root)?;
+                self.shrink(child, self.height - 1)
+            }
         }
     }
 

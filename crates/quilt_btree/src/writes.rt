@@ -48,13 +48,9 @@ pub fn write_and_give<S: PageStore>(
     if store.is_free(right) {
         return Err(Stop::Damaged { page: 0 });
     }
-    match write_page(store, left, bytes) {
-        Err(e) => Err(e),
-        Ok(()) => {
-            store.give_page(right);
-            Ok(())
-        }
-    }
+    write_page(store, left, bytes)?;
+    store.give_page(right);
+    Ok(())
 }
 
 /// Writes two pages.
@@ -73,10 +69,8 @@ pub fn write_both<S: PageStore>(
     ensures names { IfErr result (NamesPage 1) }
     ensures left { EditsWithin S.PageStore 2 0 store.old store.new result }
 {
-    match write_page(store, left, bytes) {
-        Err(e) => Err(e),
-        Ok(()) => write_page(store, right, others),
-    }
+    write_page(store, left, bytes)?;
+    write_page(store, right, others)
 }
 
 /// Gives a page of the tree back. Where the page is free, page 0 is said to be damaged.

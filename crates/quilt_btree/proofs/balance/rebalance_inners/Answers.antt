@@ -27,8 +27,8 @@ returns-then-not-inners_ascend-clause-sound g c = λ b rs used m page e.
     c.in_ok-first.first c.in_ok-rest.rest c.inners_ascend.result c.requires.height c.in_ok-first.ensures.inner
     (λ pages t. c.in_ok-rest.ensures.inner pages (c.in_ok-first.ensures.looks.left.told ∙ t)) c.inners_ascend.ensures c.if-not-inners_ascend.true m
 
-pub returns-in-Ok-clause-rebalanced : goal.returns-in-Ok-clause-rebalanced
-returns-in-Ok-clause-rebalanced g c = λ b rs used m.
+pub returns-then-len-le-MOST_CHILDREN-clause-rebalanced : goal.returns-then-len-le-MOST_CHILDREN-clause-rebalanced
+returns-then-len-le-MOST_CHILDREN-clause-rebalanced g c = λ b rs used m.
     inners_joined (g.S.PageStore.told c.args.store.now) (g.S.PageStore.told c.read_inner-2.new.store) (g.S.PageStore.told c.write_and_give.new.store)
     (g.S.PageStore.free c.args.store.now) (g.S.PageStore.free c.write_and_give.new.store) (g.S.PageStore.size c.args.store.now) c.args.height
     c.args.left c.args.key.now c.args.right b rs used c.in_ok-first.first c.in_ok-rest.rest c.bytes.result.now
@@ -44,29 +44,33 @@ returns-in-Ok-clause-rebalanced g c = λ b rs used m.
       all_is = c.join.ensures;
       written = c.bytes.ensures.inner;
       is_mid = c.in_ok-rest.ensures.looks.left.told ∙ c.in_ok-first.ensures.looks.left.told;
-      tells = c.in-Ok.ensures.told;
+      tells = c.in_ok-write_and_give.ensures.told;
       is_free = c.in_ok-rest.ensures.looks.left.free ∙ c.in_ok-first.ensures.looks.left.free;
-      frees = c.in-Ok.ensures.free;
+      frees = c.in_ok-write_and_give.ensures.free;
     }) m
 
-pub returns-in-Err-clause-sound : goal.returns-in-Err-clause-sound
-returns-in-Err-clause-sound g c = λ b rs used m.
+pub returns-in_err-write_and_give-clause-sound : goal.returns-in_err-write_and_give-clause-sound
+returns-in_err-write_and_give-clause-sound g c =
+    let p = err_from_is_err_and c.from_residual-in_err-write_and_give.result c.from_residual-in_err-write_and_give.ensures.1 in
+    rw (p.1, p.2) (λ b rs used m.
     let t = inners_taken (g.S.PageStore.told c.args.store.now) (g.S.PageStore.free c.args.store.now) c.args.height c.args.left c.args.key.now
     c.args.right b rs used c.in_ok-first.first c.in_ok-rest.rest (g.S.PageStore.free c.read_inner-2.new.store) c.requires.height
     c.in_ok-first.ensures.inner (λ pages t. c.in_ok-rest.ensures.inner pages (c.in_ok-first.ensures.looks.left.told ∙ t))
     (c.in_ok-rest.ensures.looks.left.free ∙ c.in_ok-first.ensures.looks.left.free) m in
-    c.in-Err.ensures.sound t.0 t.1
+    c.in_err-write_and_give.ensures.sound t.0 t.1)
 
-pub returns-in-Err-write_both-clause-sound : goal.returns-in-Err-write_both-clause-sound
-returns-in-Err-write_both-clause-sound g c = λ b rs used m.
+pub returns-in_err-write_both-clause-sound : goal.returns-in_err-write_both-clause-sound
+returns-in_err-write_both-clause-sound g c =
+    let p = err_from_is_err_and c.from_residual-in_err-write_both.result c.from_residual-in_err-write_both.ensures.1 in
+    rw (p.1, p.2) (λ b rs used m.
     let t = inners_taken (g.S.PageStore.told c.args.store.now) (g.S.PageStore.free c.args.store.now) c.args.height c.args.left c.args.key.now
     c.args.right b rs used c.in_ok-first.first c.in_ok-rest.rest (g.S.PageStore.free c.read_inner-2.new.store) c.requires.height
     c.in_ok-first.ensures.inner (λ pages t. c.in_ok-rest.ensures.inner pages (c.in_ok-first.ensures.looks.left.told ∙ t))
     (c.in_ok-rest.ensures.looks.left.free ∙ c.in_ok-first.ensures.looks.left.free) m in
-    c.in-Err-write_both.ensures.sound t.0 t.1
+    c.in_err-write_both.ensures.sound t.0 t.1)
 
-pub returns-in-Ok-write_both-clause-rebalanced : goal.returns-in-Ok-write_both-clause-rebalanced
-returns-in-Ok-write_both-clause-rebalanced g c = λ b rs used m.
+pub returns-clause-rebalanced : goal.returns-clause-rebalanced
+returns-clause-rebalanced g c = λ b rs used m.
     inners_separated (g.S.PageStore.told c.args.store.now) (g.S.PageStore.told c.read_inner-2.new.store) (g.S.PageStore.told c.write_both.new.store)
     (g.S.PageStore.free c.args.store.now) (g.S.PageStore.free c.write_both.new.store) (g.S.PageStore.size c.args.store.now) c.args.height c.args.left
     c.args.key.now c.args.right b rs used c.in_ok-first.first c.in_ok-rest.rest c.bytes-2.result.now c.share_children-separator.new.left
@@ -88,6 +92,6 @@ returns-in-Ok-write_both-clause-rebalanced g c = λ b rs used m.
       written = c.bytes-2.ensures.inner;
       written_too = c.bytes-3.ensures.inner;
       is_mid = c.in_ok-rest.ensures.looks.left.told ∙ c.in_ok-first.ensures.looks.left.told;
-      tells = c.in-Ok-write_both.ensures.told;
-      frees = c.in-Ok-write_both.ensures.free ∙ c.in_ok-rest.ensures.looks.left.free ∙ c.in_ok-first.ensures.looks.left.free;
+      tells = c.in_ok-write_both.ensures.told;
+      frees = c.in_ok-write_both.ensures.free ∙ c.in_ok-rest.ensures.looks.left.free ∙ c.in_ok-first.ensures.looks.left.free;
     }) m

@@ -23,8 +23,8 @@ returns-then-not-leaves_ascend-clause-sound g c = λ height b rs used one m page
     not_leaves (g.S.PageStore.told c.args.store.now) (g.S.PageStore.free c.args.store.now) one c.in_ok-first.ensures.leaf
     (λ pages t. c.in_ok-rest.ensures.leaf pages (c.in_ok-first.ensures.left.told ∙ t)) c.leaves_ascend.ensures c.if-not-leaves_ascend.true m
 
-pub returns-in-Ok-clause-rebalanced : goal.returns-in-Ok-clause-rebalanced
-returns-in-Ok-clause-rebalanced g c = λ height b rs used one m.
+pub returns-then-len-le-MOST_RECORDS-clause-rebalanced : goal.returns-then-len-le-MOST_RECORDS-clause-rebalanced
+returns-then-len-le-MOST_RECORDS-clause-rebalanced g c = λ height b rs used one m.
     leaves_joined (g.S.PageStore.told c.args.store.now) (g.S.PageStore.told c.read_leaf-2.new.store) (g.S.PageStore.told c.write_and_give.new.store)
     (g.S.PageStore.free c.args.store.now) (g.S.PageStore.free c.write_and_give.new.store) (g.S.PageStore.size c.args.store.now) c.args.left
     c.args.key.now c.args.right height b rs used c.in_ok-first.first c.in_ok-rest.rest c.bytes.result.now (g.S.PageStore.free c.read_leaf-2.new.store)
@@ -36,25 +36,29 @@ returns-in-Ok-clause-rebalanced g c = λ height b rs used one m.
       all_is = c.join.ensures;
       written = c.bytes.ensures.leaf;
       is_mid = c.in_ok-rest.ensures.left.told ∙ c.in_ok-first.ensures.left.told;
-      tells = c.in-Ok.ensures.told;
+      tells = c.in_ok-write_and_give.ensures.told;
       is_free = c.in_ok-rest.ensures.left.free ∙ c.in_ok-first.ensures.left.free;
-      frees = c.in-Ok.ensures.free;
+      frees = c.in_ok-write_and_give.ensures.free;
     }) m
 
-pub returns-in-Err-clause-sound : goal.returns-in-Err-clause-sound
-returns-in-Err-clause-sound g c = λ height b rs used one m.
+pub returns-in_err-write_and_give-clause-sound : goal.returns-in_err-write_and_give-clause-sound
+returns-in_err-write_and_give-clause-sound g c =
+    let p = err_from_is_err_and c.from_residual-in_err-write_and_give.result c.from_residual-in_err-write_and_give.ensures.1 in
+    rw (p.1, p.2) (λ height b rs used one m.
     let t = leaves_taken (g.S.PageStore.told c.args.store.now) (g.S.PageStore.free c.args.store.now) one
     (c.in_ok-rest.ensures.left.free ∙ c.in_ok-first.ensures.left.free) m in
-    c.in-Err.ensures.sound t.0 t.1
+    c.in_err-write_and_give.ensures.sound t.0 t.1)
 
-pub returns-in-Err-write_both-clause-sound : goal.returns-in-Err-write_both-clause-sound
-returns-in-Err-write_both-clause-sound g c = λ height b rs used one m.
+pub returns-in_err-write_both-clause-sound : goal.returns-in_err-write_both-clause-sound
+returns-in_err-write_both-clause-sound g c =
+    let p = err_from_is_err_and c.from_residual-in_err-write_both.result c.from_residual-in_err-write_both.ensures.1 in
+    rw (p.1, p.2) (λ height b rs used one m.
     let t = leaves_taken (g.S.PageStore.told c.args.store.now) (g.S.PageStore.free c.args.store.now) one
     (c.in_ok-rest.ensures.left.free ∙ c.in_ok-first.ensures.left.free) m in
-    c.in-Err-write_both.ensures.sound t.0 t.1
+    c.in_err-write_both.ensures.sound t.0 t.1)
 
-pub returns-in-Ok-write_both-clause-rebalanced : goal.returns-in-Ok-write_both-clause-rebalanced
-returns-in-Ok-write_both-clause-rebalanced g c = λ height b rs used one m.
+pub returns-clause-rebalanced : goal.returns-clause-rebalanced
+returns-clause-rebalanced g c = λ height b rs used one m.
     leaves_separated (g.S.PageStore.told c.args.store.now) (g.S.PageStore.told c.read_leaf-2.new.store) (g.S.PageStore.told c.write_both.new.store)
     (g.S.PageStore.free c.args.store.now) (g.S.PageStore.free c.write_both.new.store) (g.S.PageStore.size c.args.store.now) c.args.left c.args.key.now
     c.args.right height b rs used c.in_ok-first.first c.in_ok-rest.rest c.bytes-2.result.now c.share_records.new.left c.share_records.new.right
@@ -70,8 +74,8 @@ returns-in-Ok-write_both-clause-rebalanced g c = λ height b rs used one m.
       written = c.bytes-2.ensures.leaf;
       written_too = c.bytes-3.ensures.leaf;
       is_mid = c.in_ok-rest.ensures.left.told ∙ c.in_ok-first.ensures.left.told;
-      tells = c.in-Ok-write_both.ensures.told;
-      frees = c.in-Ok-write_both.ensures.free ∙ c.in_ok-rest.ensures.left.free ∙ c.in_ok-first.ensures.left.free;
+      tells = c.in_ok-write_both.ensures.told;
+      frees = c.in_ok-write_both.ensures.free ∙ c.in_ok-rest.ensures.left.free ∙ c.in_ok-first.ensures.left.free;
     }) m
 
 pub returns-in_err-first-clause-names : goal.returns-in_err-first-clause-names
@@ -98,16 +102,22 @@ returns-in_err-rest-clause-bad g c =
     rw (p.1, p.2)
     (λ height one. names_spare (g.S.PageStore.told c.args.store.now) (g.S.PageStore.told c.read_leaf.new.store) height c.args.right _ c.in_ok-first.ensures.left.told c.named_of-2.result c.args.spare c.requires.right.0 c.named_of-2.ensures.named c.in_err-rest.ensures.names c.in_err-rest.ensures.bad one)
 
-pub returns-in-Err-clause-names : goal.returns-in-Err-clause-names
-returns-in-Err-clause-names g c =
-    names_more 1 (g.S.PageStore.size c.args.store.now) _ (let lt = c.requires.left.1 in omega arith) c.in-Err.ensures.names
+pub returns-in_err-write_and_give-clause-names : goal.returns-in_err-write_and_give-clause-names
+returns-in_err-write_and_give-clause-names g c =
+    let p = err_from_is_err_and c.from_residual-in_err-write_and_give.result c.from_residual-in_err-write_and_give.ensures.1 in
+    rw (p.1, p.2) (names_more 1 (g.S.PageStore.size c.args.store.now) _ (let lt = c.requires.left.1 in omega arith) c.in_err-write_and_give.ensures.names)
 
-pub returns-in-Err-clause-bad : goal.returns-in-Err-clause-bad
-returns-in-Err-clause-bad g c height one = no_spare (g.S.PageStore.told c.args.store.now) height c.args.spare _ c.in-Err.ensures.names
+pub returns-in_err-write_and_give-clause-bad : goal.returns-in_err-write_and_give-clause-bad
+returns-in_err-write_and_give-clause-bad g c =
+    let p = err_from_is_err_and c.from_residual-in_err-write_and_give.result c.from_residual-in_err-write_and_give.ensures.1 in
+    rw (p.1, p.2) (λ height one. no_spare (g.S.PageStore.told c.args.store.now) height c.args.spare _ c.in_err-write_and_give.ensures.names)
 
-pub returns-in-Err-write_both-clause-names : goal.returns-in-Err-write_both-clause-names
-returns-in-Err-write_both-clause-names g c =
-    names_more 1 (g.S.PageStore.size c.args.store.now) _ (let lt = c.requires.left.1 in omega arith) c.in-Err-write_both.ensures.names
+pub returns-in_err-write_both-clause-names : goal.returns-in_err-write_both-clause-names
+returns-in_err-write_both-clause-names g c =
+    let p = err_from_is_err_and c.from_residual-in_err-write_both.result c.from_residual-in_err-write_both.ensures.1 in
+    rw (p.1, p.2) (names_more 1 (g.S.PageStore.size c.args.store.now) _ (let lt = c.requires.left.1 in omega arith) c.in_err-write_both.ensures.names)
 
-pub returns-in-Err-write_both-clause-bad : goal.returns-in-Err-write_both-clause-bad
-returns-in-Err-write_both-clause-bad g c height one = no_spare (g.S.PageStore.told c.args.store.now) height c.args.spare _ c.in-Err-write_both.ensures.names
+pub returns-in_err-write_both-clause-bad : goal.returns-in_err-write_both-clause-bad
+returns-in_err-write_both-clause-bad g c =
+    let p = err_from_is_err_and c.from_residual-in_err-write_both.result c.from_residual-in_err-write_both.ensures.1 in
+    rw (p.1, p.2) (λ height one. no_spare (g.S.PageStore.told c.args.store.now) height c.args.spare _ c.in_err-write_both.ensures.names)

@@ -1,17 +1,20 @@
 use Rattle.std.proofs.Common.{◌≡◌, refl, sym, ◌∙◌, subst, arith}
 use Rattle.quilt_node.specs.Pages.{Inner}
 use Rattle.std.proofs.lemmas.Result.{IfErr-weaker}
+use Rattle.std.proofs.lemmas.Result.{err_from_is_err_and}
 use Rattle.quilt_btree.proofs.growth.InnerGrowth.{IsWritten, pending_taken, put_done}
 use Rattle.quilt_btree.proofs.insertion.put_child.Goals as goal
 
-pub returns-in-Err-clause-sound : goal.returns-in-Err-clause-sound
-returns-in-Err-clause-sound g c is_root b all under p room low = c.in-Err.ensures.sound (pending_taken p)
+pub returns-in_err-write_page-clause-sound : goal.returns-in_err-write_page-clause-sound
+returns-in_err-write_page-clause-sound g c =
+    let p = err_from_is_err_and c.from_residual.result c.from_residual.ensures.1 in
+    rw (p.1, p.2) (λ is_root b all under p room low. c.in_err-write_page.ensures.sound (pending_taken p))
 
-pub returns-in-Ok-clause-put : goal.returns-in-Ok-clause-put
-returns-in-Ok-clause-put g c is_root b all under p =
+pub returns-then-len-lt-MOST_CHILDREN-clause-put : goal.returns-then-len-lt-MOST_CHILDREN-clause-put
+returns-then-len-lt-MOST_CHILDREN-clause-put g c is_root b all under p =
     put_done {size = g.S.PageStore.size c.args.store.now} {bytes = c.bytes.result.now}
-    (record { inside = c.requires.page.1; many = g.met.S.PageStore.as_many c.args.store.now; wrote = c.in-Ok.ensures.told })
-    (subst (λ (x : Inner). IsWritten c.bytes.result.now x) c.insert.ensures c.bytes.ensures.inner) refl c.in-Ok.ensures.free p
+    (record { inside = c.requires.page.1; many = g.met.S.PageStore.as_many c.args.store.now; wrote = c.in_ok-write_page.ensures.told })
+    (subst (λ (x : Inner). IsWritten c.bytes.result.now x) c.insert.ensures c.bytes.ensures.inner) refl c.in_ok-write_page.ensures.free p
 
 pub returns-then-height-eq3-clause-sound : goal.returns-then-height-eq3-clause-sound
 returns-then-height-eq3-clause-sound g c is_root b all under p room low =

@@ -9,8 +9,8 @@ use Rattle.quilt_btree.proofs.insertion.put_record.Goals as goal
 pub insert-requires-clause-order : goal.insert-requires-clause-order
 insert-requires-clause-order g c = gap_ascends c.args.r.now c.args.leaf.now c.args.i c.len.ensures.is.ascends c.requires.place
 
-pub returns-in-Ok-clause-put : goal.returns-in-Ok-clause-put
-returns-in-Ok-clause-put g c is_root b rs used same can =
+pub returns-then-len-lt-MOST_RECORDS-clause-put : goal.returns-then-len-lt-MOST_RECORDS-clause-put
+returns-then-len-lt-MOST_RECORDS-clause-put g c is_root b rs used same can =
     leaf_done (g.S.PageStore.told c.args.store.now) (g.S.PageStore.told c.write_page.new.store) (g.S.PageStore.free c.args.store.now)
     (g.S.PageStore.free c.write_page.new.store) (g.S.PageStore.size c.args.store.now) c.args.page c.args.i c.args.r.now is_root b rs used
     c.bytes.result.now
@@ -20,13 +20,13 @@ returns-in-Ok-clause-put g c is_root b rs used same can =
       gap = subst (λ (l : List Record). IsGap c.args.r.now.key l c.args.i) same c.requires.place;
     })
     (c.bytes.ensures.leaf ∙ ap Some (c.insert.ensures ∙ ap (λ (l : List Record). insert l c.args.i c.args.r.now) same))
-    c.in-Ok.ensures.told c.in-Ok.ensures.free can
+    c.in_ok-write_page.ensures.told c.in_ok-write_page.ensures.free can
 
 pub insert_split-right-requires-clause-order : goal.insert_split-right-requires-clause-order
 insert_split-right-requires-clause-order g c = gap_ascends c.args.r.now c.args.leaf.now c.args.i c.len.ensures.is.ascends c.requires.place
 
-pub returns-in-Ok-write_split-clause-put : goal.returns-in-Ok-write_split-clause-put
-returns-in-Ok-write_split-clause-put g c is_root b rs used same can =
+pub returns-clause-put : goal.returns-clause-put
+returns-clause-put g c is_root b rs used same can =
     let e = c.len.ensures.length in
     let r = c.len.ensures.range in
     let f = c.if-len-lt-MOST_RECORDS.false in
@@ -45,4 +45,4 @@ returns-in-Ok-write_split-clause-put g c is_root b rs used same can =
           (c.insert_split-right.ensures.right ∙ ap (λ (l : List Record). drop 72 (insert l c.args.i c.args.r.now)) same) c.rec.ensures;
       is_key = refl;
     })
-    c.in-Ok-write_split.ensures.page.1 c.in-Ok-write_split.ensures.free c.in-Ok-write_split.ensures.taken c.in-Ok-write_split.ensures.told can
+    c.in_ok-new.ensures.page.1 c.in_ok-new.ensures.free c.in_ok-new.ensures.taken c.in_ok-new.ensures.told can

@@ -2,14 +2,17 @@ use Rattle.std.proofs.Common.{◌≡◌, suc, ◌≤◌, length, refl, subst, ar
 use Rattle.quilt_node.specs.Pages.{Inner}
 use Rattle.std.specs.List.{insert}
 use Rattle.std.proofs.lemmas.List.Edits.{length-insert}
+use Rattle.std.proofs.lemmas.Result.{err_from_is_err_and}
 use Rattle.quilt_btree.proofs.growth.InnerGrowth.{IsWritten, pending_taken, put_split}
 use Rattle.quilt_btree.proofs.insertion.split_child.Goals as goal
 
-pub returns-in-Err-clause-sound : goal.returns-in-Err-clause-sound
-returns-in-Err-clause-sound g c is_root b all under p room = c.in-Err.ensures.sound (pending_taken p) room
+pub returns-in_err-new-clause-sound : goal.returns-in_err-new-clause-sound
+returns-in_err-new-clause-sound g c =
+    let p = err_from_is_err_and c.from_residual.result c.from_residual.ensures.1 in
+    rw (p.1, p.2) (λ is_root b all under p room. c.in_err-new.ensures.sound (pending_taken p) room)
 
-pub returns-in-Ok-clause-put : goal.returns-in-Ok-clause-put
-returns-in-Ok-clause-put g c is_root b all under p =
+pub returns-clause-put : goal.returns-clause-put
+returns-clause-put g c is_root b all under p =
     let long = c.requires.place.1 in
     let behind : suc c.args.i ≤ length c.args.inner.now.children = let q = c.requires.place.0 in omega arith in
     let full : length (insert c.args.inner.now.children (suc c.args.i) c.args.child) ≡ 255 =
@@ -17,11 +20,11 @@ returns-in-Ok-clause-put g c is_root b all under p =
     put_split {size = g.S.PageStore.size c.args.store.now} {left = c.bytes.result.now} {right = c.bytes-2.result.now}
     (record {
       inside = c.requires.page.1;
-      inside_new = c.in-Ok.ensures.page.1;
+      inside_new = c.in_ok-new.ensures.page.1;
       many = g.met.S.PageStore.as_many c.args.store.now;
-      was_free = c.in-Ok.ensures.free;
-      taken = c.in-Ok.ensures.taken;
-      wrote = c.in-Ok.ensures.told;
+      was_free = c.in_ok-new.ensures.free;
+      taken = c.in_ok-new.ensures.taken;
+      wrote = c.in_ok-new.ensures.told;
     })
     (record {
       full = full;

@@ -1,4 +1,5 @@
 use Rattle.std.proofs.Common.{◌-◌, arith}
+use Rattle.std.proofs.lemmas.Result.{err_from_is_err_and}
 use Rattle.quilt_btree.proofs.stores.Leaves.{edits_behind}
 use Rattle.quilt_btree.proofs.batches.Below.{fails_leaf, step_edited, step_fails, least_first}
 use Rattle.quilt_btree.proofs.growth.Below.{edit_spells}
@@ -6,44 +7,47 @@ use Rattle.quilt_btree.proofs.ways.Damage.{named_leaf, named_below}
 use Rattle.quilt_btree.proofs.ways.Looked.{read_of}
 use Rattle.quilt_btree.proofs.leaf_edits.+edit_under.Goals as goal
 
-pub returns-in-Err-clause-fails : goal.returns-in-Err-clause-fails
-returns-in-Err-clause-fails g t c b rs used top can page is =
-    absurd (c.in-Err.ensures.sound c.args.height rs c.requires.height c.if-height-eq1.false (edit_spells (g.S.PageStore.told c.args.store.now)
-    (g.S.PageStore.free c.args.store.now) c.args.page c.args.height c.args.is_root b rs used can) page is)
+pub returns-in_err-step-clause-fails : goal.returns-in_err-step-clause-fails
+returns-in_err-step-clause-fails g t c =
+    let p = err_from_is_err_and c.from_residual.result c.from_residual.ensures.1 in
+    rw (p.1, p.2) (λ b rs used top can page is. absurd (c.in_err-step.ensures.sound c.args.height rs c.requires.height c.if-height-eq1.false (edit_spells (g.S.PageStore.told c.args.store.now)
+    (g.S.PageStore.free c.args.store.now) c.args.page c.args.height c.args.is_root b rs used can) page is))
 
-pub returns-in-Err-clause-bad : goal.returns-in-Err-clause-bad
-returns-in-Err-clause-bad g t c = λ ne. c.in-Err.ensures.bad c.args.height c.requires.height c.if-height-eq1.false
+pub returns-in_err-step-clause-bad : goal.returns-in_err-step-clause-bad
+returns-in_err-step-clause-bad g t c =
+    let p = err_from_is_err_and c.from_residual.result c.from_residual.ensures.1 in
+    rw (p.1, p.2) (λ ne. c.in_err-step.ensures.bad c.args.height c.requires.height c.if-height-eq1.false)
 
-pub returns-in-Ok-clause-edited : goal.returns-in-Ok-clause-edited
-returns-in-Ok-clause-edited g t c =
+pub returns-clause-edited : goal.returns-clause-edited
+returns-clause-edited g t c =
     step_edited (g.S.PageStore.told c.args.store.now) (g.S.PageStore.told c.step_at.new.store) (g.S.PageStore.free c.args.store.now)
     (g.S.PageStore.free c.step_at.new.store) (g.S.PageStore.size c.args.store.now) (g.S.PageStore.size c.step_at.new.store) c.args.page c.args.height
-    (g.S.PageStore.size c.args.store.now) c.in-Ok.ensures.shows.bytes c.in-Ok.step.child c.key.result.now c.args.high.now c.in-Ok.step.high
+    (g.S.PageStore.size c.args.store.now) c.in_ok-step.ensures.shows.bytes c.in_ok-step.step.child c.key.result.now c.args.high.now c.in_ok-step.step.high
     c.args.run.now c.args.is_root c.edit_under.result (g.S.PageStore.told c.edit_under.new.store) (g.S.PageStore.free c.edit_under.new.store)
     (read_of _ _ _ _ _ _ (record {
       some = c.requires.height;
       above = c.if-height-eq1.false;
-      told = c.in-Ok.ensures.looks.left.told;
+      told = c.in_ok-step.ensures.looks.left.told;
       many = g.met.S.PageStore.as_many c.args.store.now;
-    }) c.in-Ok.ensures.shows.are)
-    (record { same_pages = c.in-Ok.ensures.looks.left.told; same_free = c.in-Ok.ensures.looks.left.free; same_size = c.in-Ok.ensures.looks.left.size })
-    c.in-Ok.ensures.shows.step (least_first c.args.run.now c.key.result.now c.key.ensures c.requires.order c.requires.some)
+    }) c.in_ok-step.ensures.shows.are)
+    (record { same_pages = c.in_ok-step.ensures.looks.left.told; same_free = c.in_ok-step.ensures.looks.left.free; same_size = c.in_ok-step.ensures.looks.left.size })
+    c.in_ok-step.ensures.shows.step (least_first c.args.run.now c.key.result.now c.key.ensures c.requires.order c.requires.some)
     c.edit_under.ensures.edited
 
-pub returns-in-Ok-clause-fails : goal.returns-in-Ok-clause-fails
-returns-in-Ok-clause-fails g t c =
+pub returns-clause-fails : goal.returns-clause-fails
+returns-clause-fails g t c =
     step_fails (g.S.PageStore.told c.args.store.now) (g.S.PageStore.told c.step_at.new.store) (g.S.PageStore.free c.args.store.now)
     (g.S.PageStore.free c.step_at.new.store) (g.S.PageStore.size c.args.store.now) (g.S.PageStore.size c.step_at.new.store) c.args.page c.args.height
-    (g.S.PageStore.size c.args.store.now) c.in-Ok.ensures.shows.bytes c.in-Ok.step.child c.key.result.now c.args.high.now c.in-Ok.step.high
+    (g.S.PageStore.size c.args.store.now) c.in_ok-step.ensures.shows.bytes c.in_ok-step.step.child c.key.result.now c.args.high.now c.in_ok-step.step.high
     c.args.run.now c.args.is_root c.edit_under.result
     (read_of _ _ _ _ _ _ (record {
       some = c.requires.height;
       above = c.if-height-eq1.false;
-      told = c.in-Ok.ensures.looks.left.told;
+      told = c.in_ok-step.ensures.looks.left.told;
       many = g.met.S.PageStore.as_many c.args.store.now;
-    }) c.in-Ok.ensures.shows.are)
-    (record { same_pages = c.in-Ok.ensures.looks.left.told; same_free = c.in-Ok.ensures.looks.left.free; same_size = c.in-Ok.ensures.looks.left.size })
-    c.in-Ok.ensures.shows.step (least_first c.args.run.now c.key.result.now c.key.ensures c.requires.order c.requires.some) c.edit_under.ensures.fails
+    }) c.in_ok-step.ensures.shows.are)
+    (record { same_pages = c.in_ok-step.ensures.looks.left.told; same_free = c.in_ok-step.ensures.looks.left.free; same_size = c.in_ok-step.ensures.looks.left.size })
+    c.in_ok-step.ensures.shows.step (least_first c.args.run.now c.key.result.now c.key.ensures c.requires.order c.requires.some) c.edit_under.ensures.fails
 
 pub returns-then-height-eq1-clause-fails : goal.returns-then-height-eq1-clause-fails
 returns-then-height-eq1-clause-fails g t c =
@@ -55,20 +59,20 @@ pub returns-then-height-eq1-clause-bad : goal.returns-then-height-eq1-clause-bad
 returns-then-height-eq1-clause-bad g t c =
     named_leaf c.edit_leaf.result (g.S.PageStore.told c.args.store.now) c.args.height c.args.page c.if-height-eq1.true c.edit_leaf.ensures.bad
 
-pub returns-in-Ok-clause-bad : goal.returns-in-Ok-clause-bad
-returns-in-Ok-clause-bad g t c =
+pub returns-clause-bad : goal.returns-clause-bad
+returns-clause-bad g t c =
     named_below (g.S.PageStore.told c.args.store.now) (g.S.PageStore.told c.step_at.new.store) c.args.page c.args.height
-    (g.S.PageStore.size c.args.store.now) c.in-Ok.ensures.shows.bytes c.edit_under.result c.in-Ok.step.child
+    (g.S.PageStore.size c.args.store.now) c.in_ok-step.ensures.shows.bytes c.edit_under.result c.in_ok-step.step.child
     (read_of _ _ _ _ _ _ (record {
       some = c.requires.height;
       above = c.if-height-eq1.false;
-      told = c.in-Ok.ensures.looks.left.told;
+      told = c.in_ok-step.ensures.looks.left.told;
       many = g.met.S.PageStore.as_many c.args.store.now;
-    }) c.in-Ok.ensures.shows.are)
-    c.in-Ok.ensures.shows.stands c.edit_under.ensures.bad
+    }) c.in_ok-step.ensures.shows.are)
+    c.in_ok-step.ensures.shows.stands c.edit_under.ensures.bad
 
-pub returns-in-Ok-clause-left : goal.returns-in-Ok-clause-left
-returns-in-Ok-clause-left g t c =
+pub returns-clause-left : goal.returns-clause-left
+returns-clause-left g t c =
     edits_behind _ g.met.S.PageStore.goes_on 1 1 (c.args.height - 1) c.args.height (let some = c.requires.height in omega arith)
-    c.in-Ok.ensures.looks.left
-    c.in-Ok.ensures.looks.reads c.edit_under.ensures.left
+    c.in_ok-step.ensures.looks.left
+    c.in_ok-step.ensures.looks.reads c.edit_under.ensures.left

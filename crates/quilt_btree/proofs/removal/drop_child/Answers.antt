@@ -9,7 +9,7 @@ returns-then-left-lt-LEAST_CHILDREN-clause-dropped g c =
       let h = c.if-left-lt-LEAST_CHILDREN.true in omega arith,
       dropped_written (g.S.PageStore.told c.args.store.now) (g.S.PageStore.told c.write_page.new.store) (g.S.PageStore.size c.args.store.now)
           c.args.page c.args.j c.args.inner.now c.bytes.result.now
-          (g.met.S.PageStore.as_many c.args.store.now) c.in-Ok.ensures.told c.requires.children c.remove.ensures c.bytes.ensures.inner,
+          (g.met.S.PageStore.as_many c.args.store.now) c.in_ok-write_page.ensures.told c.requires.children c.remove.ensures c.bytes.ensures.inner,
     )
 
 pub returns-else-left-lt-LEAST_CHILDREN-clause-dropped : goal.returns-else-left-lt-LEAST_CHILDREN-clause-dropped
@@ -19,5 +19,5 @@ returns-else-left-lt-LEAST_CHILDREN-clause-dropped g c =
       let h = c.if-left-lt-LEAST_CHILDREN.false in omega arith,
       dropped_written (g.S.PageStore.told c.args.store.now) (g.S.PageStore.told c.write_page.new.store) (g.S.PageStore.size c.args.store.now)
           c.args.page c.args.j c.args.inner.now c.bytes.result.now
-          (g.met.S.PageStore.as_many c.args.store.now) c.in-Ok.ensures.told c.requires.children c.remove.ensures c.bytes.ensures.inner,
+          (g.met.S.PageStore.as_many c.args.store.now) c.in_ok-write_page.ensures.told c.requires.children c.remove.ensures c.bytes.ensures.inner,
     )

@@ -37,8 +37,8 @@ returns-then-left-lt-LEAST_RECORDS-clause-removed g c = λ height is_root b rs u
       all_is = c.remove.ensures;
       written = c.bytes.ensures.leaf;
       is_mid = c.in_ok-leaf.ensures.left.told;
-      tells = c.in-Ok-write_page.ensures.told;
-      frees = c.in-Ok-write_page.ensures.free ∙ c.in_ok-leaf.ensures.left.free;
+      tells = c.in_ok-write_page-in-Ok-2.ensures.told;
+      frees = c.in_ok-write_page-in-Ok-2.ensures.free ∙ c.in_ok-leaf.ensures.left.free;
     }) can
 
 pub returns-else-left-lt-LEAST_RECORDS-clause-removed : goal.returns-else-left-lt-LEAST_RECORDS-clause-removed
@@ -54,8 +54,8 @@ returns-else-left-lt-LEAST_RECORDS-clause-removed g c = λ height is_root b rs u
       all_is = c.remove.ensures;
       written = c.bytes.ensures.leaf;
       is_mid = c.in_ok-leaf.ensures.left.told;
-      tells = c.in-Ok-write_page.ensures.told;
-      frees = c.in-Ok-write_page.ensures.free ∙ c.in_ok-leaf.ensures.left.free;
+      tells = c.in_ok-write_page-in-Ok-2.ensures.told;
+      frees = c.in_ok-write_page-in-Ok-2.ensures.free ∙ c.in_ok-leaf.ensures.left.free;
     })
     (let n = c.len-left.ensures.length in let h = c.if-left-lt-LEAST_RECORDS.false in omega arith) can
 
@@ -90,13 +90,15 @@ returns-in_err-leaf-clause-bad g c =
     let p = err_from_is_err_and c.from_residual.result c.from_residual.ensures.1 in
     rw (p.1, p.2) (λ ne. c.in_err-leaf.ensures.bad refl)
 
-pub returns-in-Err-write_page-clause-names : goal.returns-in-Err-write_page-clause-names
-returns-in-Err-write_page-clause-names g c =
-    names_more 1 (g.S.PageStore.size c.args.store.now) c.in-Err-write_page.e (let q = c.requires.1 in omega arith) c.in-Err-write_page.ensures.names
+pub returns-in_err-write_page-in-Ok-2-clause-names : goal.returns-in_err-write_page-in-Ok-2-clause-names
+returns-in_err-write_page-in-Ok-2-clause-names g c =
+    let p = err_from_is_err_and c.from_residual-in_err-write_page-in-Ok-2.result c.from_residual-in_err-write_page-in-Ok-2.ensures.1 in
+    rw (p.1, p.2) (names_more 1 (g.S.PageStore.size c.args.store.now) _ (let q = c.requires.1 in omega arith) c.in_err-write_page-in-Ok-2.ensures.names)
 
-pub returns-in-Err-write_page-clause-bad : goal.returns-in-Err-write_page-clause-bad
-returns-in-Err-write_page-clause-bad g c =
-    zero_names (g.S.PageStore.told c.args.store.now) 1 c.args.page c.in-Err-write_page.e c.in-Err-write_page.ensures.names
+pub returns-in_err-write_page-in-Ok-2-clause-bad : goal.returns-in_err-write_page-in-Ok-2-clause-bad
+returns-in_err-write_page-in-Ok-2-clause-bad g c =
+    let p = err_from_is_err_and c.from_residual-in_err-write_page-in-Ok-2.result c.from_residual-in_err-write_page-in-Ok-2.ensures.1 in
+    rw (p.1, p.2) (zero_names (g.S.PageStore.told c.args.store.now) 1 c.args.page _ c.in_err-write_page-in-Ok-2.ensures.names)
 
 pub returns-in-Err-clause-others : goal.returns-in-Err-clause-others
 returns-in-Err-clause-others g c = same_others c.args.page _ _ c.in_ok-leaf.ensures.left.told
@@ -106,8 +108,8 @@ returns-in-Ok-clause-others g c = same_others c.args.page _ _ c.in_ok-leaf.ensur
 
 pub returns-then-left-lt-LEAST_RECORDS-clause-others : goal.returns-then-left-lt-LEAST_RECORDS-clause-others
 returns-then-left-lt-LEAST_RECORDS-clause-others g c =
-    wrote_others c.args.page c.bytes.result.now _ _ _ c.in_ok-leaf.ensures.left.told c.in-Ok-write_page.ensures.told
+    wrote_others c.args.page c.bytes.result.now _ _ _ c.in_ok-leaf.ensures.left.told c.in_ok-write_page-in-Ok-2.ensures.told
 
 pub returns-else-left-lt-LEAST_RECORDS-clause-others : goal.returns-else-left-lt-LEAST_RECORDS-clause-others
 returns-else-left-lt-LEAST_RECORDS-clause-others g c =
-    wrote_others c.args.page c.bytes.result.now _ _ _ c.in_ok-leaf.ensures.left.told c.in-Ok-write_page.ensures.told
+    wrote_others c.args.page c.bytes.result.now _ _ _ c.in_ok-leaf.ensures.left.told c.in_ok-write_page-in-Ok-2.ensures.told

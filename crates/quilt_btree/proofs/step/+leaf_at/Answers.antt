@@ -1,3 +1,4 @@
+use Rattle.std.proofs.lemmas.Result.{err_from_is_err_and}
 use Rattle.quilt_store.proofs.Reading.{only_reads_then}
 use Rattle.quilt_btree.proofs.ways.Looked.{read_of}
 use Rattle.quilt_btree.proofs.ways.Steps.{step_arrives, step_sound, step_above, here_arrives}
@@ -12,81 +13,85 @@ pub returns-then-height-eq1-clause-spoilt : goal.returns-then-height-eq1-clause-
 returns-then-height-eq1-clause-spoilt g t c = λ bytes are.
     bad_leaf (g.S.PageStore.told c.args.store.now) c.args.page c.args.height bytes c.if-height-eq1.true are
 
-pub returns-in-Err-clause-sound : goal.returns-in-Err-clause-sound
-returns-in-Err-clause-sound g t c = λ rs s. c.in-Err.ensures.sound c.args.height rs c.requires.height c.if-height-eq1.false s
+pub returns-in_err-step-clause-sound : goal.returns-in_err-step-clause-sound
+returns-in_err-step-clause-sound g t c =
+    let p = err_from_is_err_and c.from_residual.result c.from_residual.ensures.1 in
+    rw (p.1, p.2) (λ rs s. c.in_err-step.ensures.sound c.args.height rs c.requires.height c.if-height-eq1.false s)
 
-pub returns-in-Err-clause-bad : goal.returns-in-Err-clause-bad
-returns-in-Err-clause-bad g t c = c.in-Err.ensures.bad c.args.height c.requires.height c.if-height-eq1.false
+pub returns-in_err-step-clause-bad : goal.returns-in_err-step-clause-bad
+returns-in_err-step-clause-bad g t c =
+    let p = err_from_is_err_and c.from_residual.result c.from_residual.ensures.1 in
+    rw (p.1, p.2) (c.in_err-step.ensures.bad c.args.height c.requires.height c.if-height-eq1.false)
 
-pub returns-in-Ok-clause-arrives : goal.returns-in-Ok-clause-arrives
-returns-in-Ok-clause-arrives g t c = step_arrives (record {
+pub returns-clause-arrives : goal.returns-clause-arrives
+returns-clause-arrives g t c = step_arrives (record {
   old = g.S.PageStore.told c.args.store.now;
   new = g.S.PageStore.told c.step_at.new.store;
   page = c.args.page;
   height = c.args.height;
   size = g.S.PageStore.size c.args.store.now;
-  bytes = c.in-Ok.ensures.shows.bytes;
+  bytes = c.in_ok-step.ensures.shows.bytes;
   key = c.args.k.now;
-  child = c.in-Ok.step.child;
+  child = c.in_ok-step.step.child;
   start = c.args.high.now;
-  next = c.in-Ok.step.high;
+  next = c.in_ok-step.step.high;
   is_read = read_of _ _ _ _ _ _ (record {
     some = c.requires.height;
     above = c.if-height-eq1.false;
-    told = c.in-Ok.ensures.looks.left.told;
+    told = c.in_ok-step.ensures.looks.left.told;
     many = g.met.S.PageStore.as_many c.args.store.now;
-  }) c.in-Ok.ensures.shows.are;
-  steps = c.in-Ok.ensures.shows.step;
+  }) c.in_ok-step.ensures.shows.are;
+  steps = c.in_ok-step.ensures.shows.step;
 }) c.leaf_at.result c.leaf_at.ensures.arrives
 
-pub returns-in-Ok-clause-sound : goal.returns-in-Ok-clause-sound
-returns-in-Ok-clause-sound g t c = step_sound (record {
+pub returns-clause-sound : goal.returns-clause-sound
+returns-clause-sound g t c = step_sound (record {
   old = g.S.PageStore.told c.args.store.now;
   new = g.S.PageStore.told c.step_at.new.store;
   page = c.args.page;
   height = c.args.height;
   size = g.S.PageStore.size c.args.store.now;
-  bytes = c.in-Ok.ensures.shows.bytes;
+  bytes = c.in_ok-step.ensures.shows.bytes;
   key = c.args.k.now;
-  child = c.in-Ok.step.child;
+  child = c.in_ok-step.step.child;
   start = c.args.high.now;
-  next = c.in-Ok.step.high;
+  next = c.in_ok-step.step.high;
   is_read = read_of _ _ _ _ _ _ (record {
     some = c.requires.height;
     above = c.if-height-eq1.false;
-    told = c.in-Ok.ensures.looks.left.told;
+    told = c.in_ok-step.ensures.looks.left.told;
     many = g.met.S.PageStore.as_many c.args.store.now;
-  }) c.in-Ok.ensures.shows.are;
-  steps = c.in-Ok.ensures.shows.step;
+  }) c.in_ok-step.ensures.shows.are;
+  steps = c.in_ok-step.ensures.shows.step;
 }) c.leaf_at.result c.leaf_at.ensures.sound
 
-pub returns-in-Ok-clause-range : goal.returns-in-Ok-clause-range
-returns-in-Ok-clause-range g t c = record {
-  range = rw c.in-Ok.ensures.looks.left.size at c.leaf_at.ensures.range.range;
-  above = step_above c.leaf_at.result c.args.k.now c.args.high.now c.in-Ok.step.high c.in-Ok.ensures.above c.leaf_at.ensures.range.above;
+pub returns-clause-range : goal.returns-clause-range
+returns-clause-range g t c = record {
+  range = rw c.in_ok-step.ensures.looks.left.size at c.leaf_at.ensures.range.range;
+  above = step_above c.leaf_at.result c.args.k.now c.args.high.now c.in_ok-step.step.high c.in_ok-step.ensures.above c.leaf_at.ensures.range.above;
 }
 
-pub returns-in-Ok-clause-spoilt : goal.returns-in-Ok-clause-spoilt
-returns-in-Ok-clause-spoilt g t c =
+pub returns-clause-spoilt : goal.returns-clause-spoilt
+returns-clause-spoilt g t c =
     spoilt_below (g.S.PageStore.told c.args.store.now) (g.S.PageStore.told c.step_at.new.store) c.args.page c.args.height
-    (g.S.PageStore.size c.args.store.now) c.in-Ok.ensures.shows.bytes c.leaf_at.result c.in-Ok.step.child
+    (g.S.PageStore.size c.args.store.now) c.in_ok-step.ensures.shows.bytes c.leaf_at.result c.in_ok-step.step.child
     (read_of _ _ _ _ _ _ (record {
       some = c.requires.height;
       above = c.if-height-eq1.false;
-      told = c.in-Ok.ensures.looks.left.told;
+      told = c.in_ok-step.ensures.looks.left.told;
       many = g.met.S.PageStore.as_many c.args.store.now;
-    }) c.in-Ok.ensures.shows.are) c.in-Ok.ensures.shows.stands c.leaf_at.ensures.spoilt
+    }) c.in_ok-step.ensures.shows.are) c.in_ok-step.ensures.shows.stands c.leaf_at.ensures.spoilt
 
-pub returns-in-Ok-clause-bad : goal.returns-in-Ok-clause-bad
-returns-in-Ok-clause-bad g t c =
+pub returns-clause-bad : goal.returns-clause-bad
+returns-clause-bad g t c =
     names_below (g.S.PageStore.told c.args.store.now) (g.S.PageStore.told c.step_at.new.store) c.args.page c.args.height
-    (g.S.PageStore.size c.args.store.now) c.in-Ok.ensures.shows.bytes c.leaf_at.result c.in-Ok.step.child
+    (g.S.PageStore.size c.args.store.now) c.in_ok-step.ensures.shows.bytes c.leaf_at.result c.in_ok-step.step.child
     (read_of _ _ _ _ _ _ (record {
       some = c.requires.height;
       above = c.if-height-eq1.false;
-      told = c.in-Ok.ensures.looks.left.told;
+      told = c.in_ok-step.ensures.looks.left.told;
       many = g.met.S.PageStore.as_many c.args.store.now;
-    }) c.in-Ok.ensures.shows.are) c.in-Ok.ensures.shows.stands c.leaf_at.ensures.bad
+    }) c.in_ok-step.ensures.shows.are) c.in_ok-step.ensures.shows.stands c.leaf_at.ensures.bad
 
-pub returns-in-Ok-clause-left : goal.returns-in-Ok-clause-left
-returns-in-Ok-clause-left g t c = only_reads_then _ g.met.S.PageStore.goes_on _ _ _ c.in-Ok.ensures.looks.left c.leaf_at.ensures.left
+pub returns-clause-left : goal.returns-clause-left
+returns-clause-left g t c = only_reads_then _ g.met.S.PageStore.goes_on _ _ _ c.in_ok-step.ensures.looks.left c.leaf_at.ensures.left

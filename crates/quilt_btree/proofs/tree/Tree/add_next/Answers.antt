@@ -1,4 +1,5 @@
 use Rattle.std.proofs.Common.{rules, sym, ◌∙◌, ◌≢◌, arith}
+use Rattle.std.proofs.lemmas.Result.{err_from_is_err_and}
 use Rattle.quilt_btree.specs.Looks.{IsSpoilt}
 use Rattle.quilt_btree.proofs.ranges.Spans.{added_most, added_within, above_bound}
 use Rattle.quilt_node.specs.Nodes.{page_records}
@@ -8,26 +9,27 @@ use Rattle.quilt_btree.proofs.ways.Damage.{fault_named}
 use Rattle.quilt_btree.proofs.ways.Steps.{told_before}
 use Rattle.quilt_btree.proofs.tree.Tree.add_next.Goals as goal
 
-pub returns-in-Err-clause-sound : goal.returns-in-Err-clause-sound
-returns-in-Err-clause-sound g c =
-    let ne : c.args.self.now.height ≢ 0 = let h = c.requires.height in omega arith in
-    λ low rs is b. c.in-Err.ensures.sound rs (tree_spells (g.S.PageStore.told c.args.store.now) c.args.self.now rs ne is).0
+pub returns-in_err-found-clause-sound : goal.returns-in_err-found-clause-sound
+returns-in_err-found-clause-sound g c =
+    let p = err_from_is_err_and c.from_residual.result c.from_residual.ensures.1 in
+    rw (p.1, p.2) (let ne : c.args.self.now.height ≢ 0 = let h = c.requires.height in omega arith in
+    λ low rs is b. c.in_err-found.ensures.sound rs (tree_spells (g.S.PageStore.told c.args.store.now) c.args.self.now rs ne is).0)
 
 pub returns-then-now-most-clause-goes_on : goal.returns-then-now-most-clause-goes_on
 returns-then-now-most-clause-goes_on g c = record {
   ends =
       λ none low rs is b.
       rest_fills (g.S.PageStore.told c.args.store.now) c.args.self.now low c.args.from.now c.args.high.now c.args.most
-      (page_records c.in-Ok-add_at.ensures.adds.bytes) c.args.records.now.items c.add_at.new.records.items rs c.in-Ok.found.high (record {
+      (page_records c.in_ok-now.ensures.adds.bytes) c.args.records.now.items c.add_at.new.records.items rs c.in_ok-found.found.high (record {
         some = let h = c.requires.height in omega arith;
-        leads = (c.in-Ok.ensures.arrives c.in-Ok-add_at.ensures.adds.bytes (told_before _ _ _ _ (sym c.in-Ok.ensures.left.told) c.in-Ok-add_at.ensures.adds.are)).leads;
-        cut = (c.in-Ok.ensures.arrives c.in-Ok-add_at.ensures.adds.bytes (told_before _ _ _ _ (sym c.in-Ok.ensures.left.told) c.in-Ok-add_at.ensures.adds.are)).cut;
-        seen = c.in-Ok-add_at.ensures.adds.some;
-        added = c.in-Ok-add_at.ensures.adds.added;
-        same = λ rs s. c.in-Ok-add_at.ensures.adds.same
-            (page_records c.in-Ok-add_at.ensures.adds.bytes) ((c.in-Ok.ensures.arrives c.in-Ok-add_at.ensures.adds.bytes (told_before _ _ _ _ (sym c.in-Ok.ensures.left.told) c.in-Ok-add_at.ensures.adds.are)).leaf rs s);
+        leads = (c.in_ok-found.ensures.arrives c.in_ok-now.ensures.adds.bytes (told_before _ _ _ _ (sym c.in_ok-found.ensures.left.told) c.in_ok-now.ensures.adds.are)).leads;
+        cut = (c.in_ok-found.ensures.arrives c.in_ok-now.ensures.adds.bytes (told_before _ _ _ _ (sym c.in_ok-found.ensures.left.told) c.in_ok-now.ensures.adds.are)).cut;
+        seen = c.in_ok-now.ensures.adds.some;
+        added = c.in_ok-now.ensures.adds.added;
+        same = λ rs s. c.in_ok-now.ensures.adds.same
+            (page_records c.in_ok-now.ensures.adds.bytes) ((c.in_ok-found.ensures.arrives c.in_ok-now.ensures.adds.bytes (told_before _ _ _ _ (sym c.in_ok-found.ensures.left.told) c.in_ok-now.ensures.adds.are)).leaf rs s);
       }) is b
-      (let e = c.in-Ok-add_at.ensures.number in let t = c.if-now-most.true in omega arith);
+      (let e = c.in_ok-now.ensures.number in let t = c.if-now-most.true in omega arith);
   goes_on =
       tt;
   adds =
@@ -36,21 +38,21 @@ returns-then-now-most-clause-goes_on g c = record {
       tt;
 }
 
-pub returns-in-Ok-fault_at-clause-sound : goal.returns-in-Ok-fault_at-clause-sound
-returns-in-Ok-fault_at-clause-sound g c = λ low rs is b page e. rest_adds (g.S.PageStore.told c.args.store.now) c.args.self.now c.args.from.now
+pub returns-in_ok-page-in-Some-clause-sound : goal.returns-in_ok-page-in-Some-clause-sound
+returns-in_ok-page-in-Some-clause-sound g c = λ low rs is b page e. rest_adds (g.S.PageStore.told c.args.store.now) c.args.self.now c.args.from.now
     c.args.high.now (record {
       some = let h = c.requires.height in omega arith;
-      leads = (c.in-Ok.ensures.arrives c.in-Ok-add_at.ensures.adds.bytes (told_before _ _ _ _ (sym c.in-Ok.ensures.left.told) c.in-Ok-add_at.ensures.adds.are)).leads;
-      cut = (c.in-Ok.ensures.arrives c.in-Ok-add_at.ensures.adds.bytes (told_before _ _ _ _ (sym c.in-Ok.ensures.left.told) c.in-Ok-add_at.ensures.adds.are)).cut;
-      seen = c.in-Ok-add_at.ensures.adds.some;
-      added = c.in-Ok-add_at.ensures.adds.added;
-      same = λ rs s. c.in-Ok-add_at.ensures.adds.same
-          (page_records c.in-Ok-add_at.ensures.adds.bytes) ((c.in-Ok.ensures.arrives c.in-Ok-add_at.ensures.adds.bytes (told_before _ _ _ _ (sym c.in-Ok.ensures.left.told) c.in-Ok-add_at.ensures.adds.are)).leaf rs s);
+      leads = (c.in_ok-found.ensures.arrives c.in_ok-now.ensures.adds.bytes (told_before _ _ _ _ (sym c.in_ok-found.ensures.left.told) c.in_ok-now.ensures.adds.are)).leads;
+      cut = (c.in_ok-found.ensures.arrives c.in_ok-now.ensures.adds.bytes (told_before _ _ _ _ (sym c.in_ok-found.ensures.left.told) c.in_ok-now.ensures.adds.are)).cut;
+      seen = c.in_ok-now.ensures.adds.some;
+      added = c.in_ok-now.ensures.adds.added;
+      same = λ rs s. c.in_ok-now.ensures.adds.same
+          (page_records c.in_ok-now.ensures.adds.bytes) ((c.in_ok-found.ensures.arrives c.in_ok-now.ensures.adds.bytes (told_before _ _ _ _ (sym c.in_ok-found.ensures.left.told) c.in_ok-now.ensures.adds.are)).leaf rs s);
     }) is b c.in-Some.ensures
-    ((c.in-Ok.ensures.arrives c.in-Ok-add_at.ensures.adds.bytes (told_before _ _ _ _ (sym c.in-Ok.ensures.left.told) c.in-Ok-add_at.ensures.adds.are)).least rs (tree_spells (g.S.PageStore.told c.args.store.now) c.args.self.now rs (let h = c.requires.height in omega arith) is).0)
+    ((c.in_ok-found.ensures.arrives c.in_ok-now.ensures.adds.bytes (told_before _ _ _ _ (sym c.in_ok-found.ensures.left.told) c.in_ok-now.ensures.adds.are)).least rs (tree_spells (g.S.PageStore.told c.args.store.now) c.args.self.now rs (let h = c.requires.height in omega arith) is).0)
     (let r = c.requires.room in omega (arith, c.args.records.now.ok.0))
-    (λ same. c.if-now-most.false (let e = c.in-Ok-add_at.ensures.number in omega arith))
-    (let e = c.in-Ok-add_at.ensures.number in let f = c.len-had.ensures in let t = c.if-now-had.true in omega (arith, c.args.records.now.ok.0))
+    (λ same. c.if-now-most.false (let e = c.in_ok-now.ensures.number in omega arith))
+    (let e = c.in_ok-now.ensures.number in let f = c.len-had.ensures in let t = c.if-now-had.true in omega (arith, c.args.records.now.ok.0))
 
 pub returns-in_default-clause-goes_on : goal.returns-in_default-clause-goes_on
 returns-in_default-clause-goes_on g c = record {
@@ -60,22 +62,22 @@ returns-in_default-clause-goes_on g c = record {
       rw c.in-Some.is (λ low rs is b.
       rest_next low (record {
         some = let h = c.requires.height in omega arith;
-        leads = (c.in-Ok.ensures.arrives c.in-Ok-add_at.ensures.adds.bytes (told_before _ _ _ _ (sym c.in-Ok.ensures.left.told) c.in-Ok-add_at.ensures.adds.are)).leads;
-        cut = (c.in-Ok.ensures.arrives c.in-Ok-add_at.ensures.adds.bytes (told_before _ _ _ _ (sym c.in-Ok.ensures.left.told) c.in-Ok-add_at.ensures.adds.are)).cut;
-        seen = c.in-Ok-add_at.ensures.adds.some;
-        added = c.in-Ok-add_at.ensures.adds.added;
-        same = λ rs s. c.in-Ok-add_at.ensures.adds.same
-            (page_records c.in-Ok-add_at.ensures.adds.bytes) ((c.in-Ok.ensures.arrives c.in-Ok-add_at.ensures.adds.bytes (told_before _ _ _ _ (sym c.in-Ok.ensures.left.told) c.in-Ok-add_at.ensures.adds.are)).leaf rs s);
+        leads = (c.in_ok-found.ensures.arrives c.in_ok-now.ensures.adds.bytes (told_before _ _ _ _ (sym c.in_ok-found.ensures.left.told) c.in_ok-now.ensures.adds.are)).leads;
+        cut = (c.in_ok-found.ensures.arrives c.in_ok-now.ensures.adds.bytes (told_before _ _ _ _ (sym c.in_ok-found.ensures.left.told) c.in_ok-now.ensures.adds.are)).cut;
+        seen = c.in_ok-now.ensures.adds.some;
+        added = c.in_ok-now.ensures.adds.added;
+        same = λ rs s. c.in_ok-now.ensures.adds.same
+            (page_records c.in_ok-now.ensures.adds.bytes) ((c.in_ok-found.ensures.arrives c.in_ok-now.ensures.adds.bytes (told_before _ _ _ _ (sym c.in_ok-found.ensures.left.told) c.in_ok-now.ensures.adds.are)).leaf rs s);
       }) is b c.in-Some.ensures.0);
   adds =
-      let m = added_most c.args.most c.args.records.now.items _ _ c.in-Ok-add_at.ensures.adds.added
+      let m = added_most c.args.most c.args.records.now.items _ _ c.in_ok-now.ensures.adds.added
       (let r = c.requires.room in omega (arith, c.args.records.now.ok.0)) in
-      let e = c.in-Ok-add_at.ensures.number in
+      let e = c.in_ok-now.ensures.number in
       let f = c.len-had.ensures in
       let t = c.if-now-had.false in
       rw c.in-Some.is (omega (arith, m.1, c.args.records.now.ok.0, c.add_at.new.records.ok.0));
   further =
-      rw c.in-Some.is (above_bound c.args.from.now c.in-Some.field-0 c.in-Ok.found.high c.in-Ok.ensures.range.above c.in-Some.ensures.0);
+      rw c.in-Some.is (above_bound c.args.from.now c.in-Some.field-0 c.in_ok-found.found.high c.in_ok-found.ensures.range.above c.in-Some.ensures.0);
 }
 
 pub returns-in_default-2-clause-goes_on : goal.returns-in_default-2-clause-goes_on
@@ -83,16 +85,16 @@ returns-in_default-2-clause-goes_on g c = record {
   ends =
       λ none low rs is b.
       rest_ends (g.S.PageStore.told c.args.store.now) c.args.self.now low c.args.from.now c.args.high.now c.args.most
-      (page_records c.in-Ok-add_at.ensures.adds.bytes) c.args.records.now.items c.add_at.new.records.items rs c.in-Ok.found.high (record {
+      (page_records c.in_ok-now.ensures.adds.bytes) c.args.records.now.items c.add_at.new.records.items rs c.in_ok-found.found.high (record {
         some = let h = c.requires.height in omega arith;
-        leads = (c.in-Ok.ensures.arrives c.in-Ok-add_at.ensures.adds.bytes (told_before _ _ _ _ (sym c.in-Ok.ensures.left.told) c.in-Ok-add_at.ensures.adds.are)).leads;
-        cut = (c.in-Ok.ensures.arrives c.in-Ok-add_at.ensures.adds.bytes (told_before _ _ _ _ (sym c.in-Ok.ensures.left.told) c.in-Ok-add_at.ensures.adds.are)).cut;
-        seen = c.in-Ok-add_at.ensures.adds.some;
-        added = c.in-Ok-add_at.ensures.adds.added;
-        same = λ rs s. c.in-Ok-add_at.ensures.adds.same
-            (page_records c.in-Ok-add_at.ensures.adds.bytes) ((c.in-Ok.ensures.arrives c.in-Ok-add_at.ensures.adds.bytes (told_before _ _ _ _ (sym c.in-Ok.ensures.left.told) c.in-Ok-add_at.ensures.adds.are)).leaf rs s);
+        leads = (c.in_ok-found.ensures.arrives c.in_ok-now.ensures.adds.bytes (told_before _ _ _ _ (sym c.in_ok-found.ensures.left.told) c.in_ok-now.ensures.adds.are)).leads;
+        cut = (c.in_ok-found.ensures.arrives c.in_ok-now.ensures.adds.bytes (told_before _ _ _ _ (sym c.in_ok-found.ensures.left.told) c.in_ok-now.ensures.adds.are)).cut;
+        seen = c.in_ok-now.ensures.adds.some;
+        added = c.in_ok-now.ensures.adds.added;
+        same = λ rs s. c.in_ok-now.ensures.adds.same
+            (page_records c.in_ok-now.ensures.adds.bytes) ((c.in_ok-found.ensures.arrives c.in_ok-now.ensures.adds.bytes (told_before _ _ _ _ (sym c.in_ok-found.ensures.left.told) c.in_ok-now.ensures.adds.are)).leaf rs s);
       }) is b
-      (none_over c.key_up_to.result c.in-Ok.found.high c.args.high.now c.key_up_to.ensures none);
+      (none_over c.key_up_to.result c.in_ok-found.found.high c.args.high.now c.key_up_to.ensures none);
   goes_on =
       search rules;
   adds =
@@ -107,8 +109,8 @@ returns-then-now-most-clause-grows g c = record {
       search rules;
   within =
       λ low le old.
-      added_within low c.args.from.now c.args.high.now le c.args.most c.in-Ok-add_at.ensures.adds.some c.args.records.now.items
-      c.add_at.new.records.items (c.in-Ok-add_at.ensures.adds.added) old;
+      added_within low c.args.from.now c.args.high.now le c.args.most c.in_ok-now.ensures.adds.some c.args.records.now.items
+      c.add_at.new.records.items (c.in_ok-now.ensures.adds.added) old;
   more =
       search rules;
 }
@@ -116,15 +118,15 @@ returns-then-now-most-clause-grows g c = record {
 pub returns-in_default-clause-grows : goal.returns-in_default-clause-grows
 returns-in_default-clause-grows g c = record {
   room =
-      let m = added_most c.args.most c.args.records.now.items _ _ c.in-Ok-add_at.ensures.adds.added
+      let m = added_most c.args.most c.args.records.now.items _ _ c.in_ok-now.ensures.adds.added
       (let r = c.requires.room in omega (arith, c.args.records.now.ok.0)) in
       omega (arith, m.0, c.add_at.new.records.ok.0);
   within =
       λ low le old.
-      added_within low c.args.from.now c.args.high.now le c.args.most c.in-Ok-add_at.ensures.adds.some c.args.records.now.items
-      c.add_at.new.records.items (c.in-Ok-add_at.ensures.adds.added) old;
+      added_within low c.args.from.now c.args.high.now le c.args.most c.in_ok-now.ensures.adds.some c.args.records.now.items
+      c.add_at.new.records.items (c.in_ok-now.ensures.adds.added) old;
   more =
-      let m = added_most c.args.most c.args.records.now.items _ _ c.in-Ok-add_at.ensures.adds.added
+      let m = added_most c.args.most c.args.records.now.items _ _ c.in_ok-now.ensures.adds.added
       (let r = c.requires.room in omega (arith, c.args.records.now.ok.0)) in
       omega (arith, m.1, c.args.records.now.ok.0, c.add_at.new.records.ok.0);
 }
@@ -132,24 +134,26 @@ returns-in_default-clause-grows g c = record {
 pub returns-in_default-2-clause-grows : goal.returns-in_default-2-clause-grows
 returns-in_default-2-clause-grows g c = record {
   room =
-      let m = added_most c.args.most c.args.records.now.items _ _ c.in-Ok-add_at.ensures.adds.added
+      let m = added_most c.args.most c.args.records.now.items _ _ c.in_ok-now.ensures.adds.added
       (let r = c.requires.room in omega (arith, c.args.records.now.ok.0)) in
       omega (arith, m.0, c.add_at.new.records.ok.0);
   within =
       λ low le old.
-      added_within low c.args.from.now c.args.high.now le c.args.most c.in-Ok-add_at.ensures.adds.some c.args.records.now.items
-      c.add_at.new.records.items (c.in-Ok-add_at.ensures.adds.added) old;
+      added_within low c.args.from.now c.args.high.now le c.args.most c.in_ok-now.ensures.adds.some c.args.records.now.items
+      c.add_at.new.records.items (c.in_ok-now.ensures.adds.added) old;
   more =
-      let m = added_most c.args.most c.args.records.now.items _ _ c.in-Ok-add_at.ensures.adds.added
+      let m = added_most c.args.most c.args.records.now.items _ _ c.in_ok-now.ensures.adds.added
       (let r = c.requires.room in omega (arith, c.args.records.now.ok.0)) in
       omega (arith, m.1, c.args.records.now.ok.0, c.add_at.new.records.ok.0);
 }
 
-pub returns-in-Err-clause-bad : goal.returns-in-Err-clause-bad
-returns-in-Err-clause-bad g c = λ ne. c.in-Err.ensures.bad
+pub returns-in_err-found-clause-bad : goal.returns-in_err-found-clause-bad
+returns-in_err-found-clause-bad g c =
+    let p = err_from_is_err_and c.from_residual.result c.from_residual.ensures.1 in
+    rw (p.1, p.2) (λ ne. c.in_err-found.ensures.bad)
 
-pub returns-in-Ok-fault_at-clause-bad : goal.returns-in-Ok-fault_at-clause-bad
-returns-in-Ok-fault_at-clause-bad g c = fault_named (g.S.PageStore.told c.args.store.now) c.args.self.now.height c.args.self.now.root c.in-Ok.found.page
-    c.in-Ok-fault_at.page (IsSpoilt (g.S.PageStore.told c.add_at.new.store) c.in-Ok.found.page) c.in-Ok-fault_at.ensures.fault
-    (λ (s : IsSpoilt (g.S.PageStore.told c.add_at.new.store) c.in-Ok.found.page). c.in-Ok.ensures.spoilt s.bytes
-    (told_before _ _ _ _ (sym (c.in-Ok-add_at.ensures.looks.left.told ∙ c.in-Ok.ensures.left.told)) s.are) s.is_none)
+pub returns-in_ok-page-in-Some-clause-bad : goal.returns-in_ok-page-in-Some-clause-bad
+returns-in_ok-page-in-Some-clause-bad g c = fault_named (g.S.PageStore.told c.args.store.now) c.args.self.now.height c.args.self.now.root c.in_ok-found.found.page
+    c.in_ok-page-in-Some.page (IsSpoilt (g.S.PageStore.told c.add_at.new.store) c.in_ok-found.found.page) c.in_ok-page-in-Some.ensures.fault
+    (λ (s : IsSpoilt (g.S.PageStore.told c.add_at.new.store) c.in_ok-found.found.page). c.in_ok-found.ensures.spoilt s.bytes
+    (told_before _ _ _ _ (sym (c.in_ok-now.ensures.looks.left.told ∙ c.in_ok-found.ensures.left.told)) s.are) s.is_none)

@@ -1,5 +1,6 @@
 use Rattle.std.proofs.Common.{◌≡◌, Bool, false, not, sym, ◌∙◌, ap, subst}
 use Rattle.std.specs.Prelude.{if◌then◌else◌}
+use Rattle.std.proofs.lemmas.Result.{err_from_is_err_and}
 use Rattle.quilt_record.specs.Lists.{put, without}
 use Rattle.quilt_btree.specs.Batches.{is_due, edited}
 use Rattle.quilt_btree.specs.Edits.{IsWhole}
@@ -7,23 +8,27 @@ use Rattle.quilt_btree.proofs.ways.Damage.{stops_behind, run_zero}
 use Rattle.quilt_btree.proofs.batches.Whole.{gone, true_false}
 use Rattle.quilt_btree.proofs.tree.Tree.apply_one.Goals as goal
 
-pub returns-in-Err-clause-fails : goal.returns-in-Err-clause-fails
-returns-in-Err-clause-fails g c rs w page is = absurd (c.in-Err.ensures.sound rs w page is)
+pub returns-in_err-is_out-in-Remove-clause-fails : goal.returns-in_err-is_out-in-Remove-clause-fails
+returns-in_err-is_out-in-Remove-clause-fails g c =
+    let p = err_from_is_err_and c.from_residual.result c.from_residual.ensures.1 in
+    rw (p.1, p.2) (λ rs w page is. absurd (c.in_err-is_out-in-Remove.ensures.sound rs w page is))
 
 pub returns-then-is_out-clause-edited : goal.returns-then-is_out-clause-edited
 returns-then-is_out-clause-edited g c rs w =
-    let h = c.in-Ok.ensures.removes.removed rs w in (
+    let h = c.in_ok-is_out-in-Remove.ensures.removes.removed rs w in (
       ap (λ e. is_due e rs) c.in-Remove.is ∙ sym h.0 ∙ c.if-is_out.true,
       subst (λ e. IsWhole (g.S.PageStore.told c.remove.new.store) (g.S.PageStore.free c.remove.new.store) (g.S.PageStore.size c.args.store.now)
           c.remove.new.self (edited e rs)) (sym c.in-Remove.is) h.1,
     )
 
-pub returns-in-Err-insert-clause-fails : goal.returns-in-Err-insert-clause-fails
-returns-in-Err-insert-clause-fails g c rs w page is = absurd (c.in-Err-insert.ensures.sound rs w page is)
+pub returns-in_err-is_new-in-Put-clause-fails : goal.returns-in_err-is_new-in-Put-clause-fails
+returns-in_err-is_new-in-Put-clause-fails g c =
+    let p = err_from_is_err_and c.from_residual-in_err-is_new-in-Put.result c.from_residual-in_err-is_new-in-Put.ensures.1 in
+    rw (p.1, p.2) (λ rs w page is. absurd (c.in_err-is_new-in-Put.ensures.sound rs w page is))
 
 pub returns-then-is_new-clause-edited : goal.returns-then-is_new-clause-edited
 returns-then-is_new-clause-edited g c rs w =
-    let h = c.in-Ok-insert.ensures.inserts.inserted rs w in (
+    let h = c.in_ok-is_new-in-Put.ensures.inserts.inserted rs w in (
       ap (λ e. is_due e rs) c.in-Put.is ∙ sym h.0 ∙ c.if-is_new.true,
       subst (λ e. IsWhole (g.S.PageStore.told c.insert.new.store) (g.S.PageStore.free c.insert.new.store) (g.S.PageStore.size c.args.store.now)
           c.insert.new.self (edited e rs)) (sym c.in-Put.is)
@@ -31,41 +36,43 @@ returns-then-is_new-clause-edited g c rs w =
           (g.S.PageStore.size c.args.store.now) c.insert.new.self (if b then put c.in-Put.record rs else rs)) c.if-is_new.true h.1),
     )
 
-pub returns-in-Err-remove-clause-fails : goal.returns-in-Err-remove-clause-fails
-returns-in-Err-remove-clause-fails g c rs w page is = absurd (c.in-Err-remove.ensures.sound rs w page is)
+pub returns-in_err-is_out-in-Replace-clause-fails : goal.returns-in_err-is_out-in-Replace-clause-fails
+returns-in_err-is_out-in-Replace-clause-fails g c =
+    let p = err_from_is_err_and c.from_residual-in_err-is_out-in-Replace.result c.from_residual-in_err-is_out-in-Replace.ensures.1 in
+    rw (p.1, p.2) (λ rs w page is. absurd (c.in_err-is_out-in-Replace.ensures.sound rs w page is))
 
-pub returns-in-Err-insert-2-clause-fails : goal.returns-in-Err-insert-2-clause-fails
-returns-in-Err-insert-2-clause-fails g c rs w =
-    let h = c.in-Ok-remove.ensures.removes.removed rs w in
+pub returns-in-Err-clause-fails : goal.returns-in-Err-clause-fails
+returns-in-Err-clause-fails g c rs w =
+    let h = c.in_ok-is_out-in-Replace.ensures.removes.removed rs w in
     let mid = subst (λ n. IsWhole (g.S.PageStore.told c.remove-in-Replace.new.store) (g.S.PageStore.free c.remove-in-Replace.new.store) n
-    c.remove-in-Replace.new.self (without c.in-Replace.record.key rs)) (sym c.in-Ok-remove.ensures.left.size) h.1 in
-    run_zero (is_due c.args.edit.now rs ≡ false) c.in-Err-insert-2.e c.stop_behind.result 1
-    (stops_behind c.in-Err-insert-2.e c.stop_behind.result 1 c.stop_behind.ensures)
-    (λ page is. absurd (c.in-Err-insert-2.ensures.sound (without c.in-Replace.record.key rs) mid page is))
+    c.remove-in-Replace.new.self (without c.in-Replace.record.key rs)) (sym c.in_ok-is_out-in-Replace.ensures.left.size) h.1 in
+    run_zero (is_due c.args.edit.now rs ≡ false) c.in-Err.e c.stop_behind.result 1
+    (stops_behind c.in-Err.e c.stop_behind.result 1 c.stop_behind.ensures)
+    (λ page is. absurd (c.in-Err.ensures.sound (without c.in-Replace.record.key rs) mid page is))
 
 pub returns-then-is_new-2-clause-edited : goal.returns-then-is_new-2-clause-edited
 returns-then-is_new-2-clause-edited g c rs w =
     let k = c.in-Replace.record.key in
-    let h = c.in-Ok-remove.ensures.removes.removed rs w in
+    let h = c.in_ok-is_out-in-Replace.ensures.removes.removed rs w in
     let mid = subst (λ n. IsWhole (g.S.PageStore.told c.remove-in-Replace.new.store) (g.S.PageStore.free c.remove-in-Replace.new.store) n
-    c.remove-in-Replace.new.self (without k rs)) (sym c.in-Ok-remove.ensures.left.size) h.1 in
-    let i = c.in-Ok-insert-2.ensures.inserts.inserted (without k rs) mid in
-    let back = subst (λ n. IsWhole (g.S.PageStore.told c.insert-in-Ok-remove.new.store) (g.S.PageStore.free c.insert-in-Ok-remove.new.store) n
-    c.insert-in-Ok-remove.new.self (if c.in-Ok-insert-2.is_new then put c.in-Replace.record (without k rs) else without k rs))
-    c.in-Ok-remove.ensures.left.size i.1 in (
+    c.remove-in-Replace.new.self (without k rs)) (sym c.in_ok-is_out-in-Replace.ensures.left.size) h.1 in
+    let i = c.in-Ok.ensures.inserts.inserted (without k rs) mid in
+    let back = subst (λ n. IsWhole (g.S.PageStore.told c.insert-in-Replace.new.store) (g.S.PageStore.free c.insert-in-Replace.new.store) n
+    c.insert-in-Replace.new.self (if c.in-Ok.is_new then put c.in-Replace.record (without k rs) else without k rs))
+    c.in_ok-is_out-in-Replace.ensures.left.size i.1 in (
       ap (λ e. is_due e rs) c.in-Replace.is ∙ sym h.0 ∙ c.if-not-is_out.false,
-      subst (λ e. IsWhole (g.S.PageStore.told c.insert-in-Ok-remove.new.store) (g.S.PageStore.free c.insert-in-Ok-remove.new.store)
-          (g.S.PageStore.size c.args.store.now) c.insert-in-Ok-remove.new.self (edited e rs)) (sym c.in-Replace.is)
-          (subst (λ (b : Bool). IsWhole (g.S.PageStore.told c.insert-in-Ok-remove.new.store) (g.S.PageStore.free c.insert-in-Ok-remove.new.store)
-          (g.S.PageStore.size c.args.store.now) c.insert-in-Ok-remove.new.self (if b then put c.in-Replace.record (without k rs) else without k rs))
+      subst (λ e. IsWhole (g.S.PageStore.told c.insert-in-Replace.new.store) (g.S.PageStore.free c.insert-in-Replace.new.store)
+          (g.S.PageStore.size c.args.store.now) c.insert-in-Replace.new.self (edited e rs)) (sym c.in-Replace.is)
+          (subst (λ (b : Bool). IsWhole (g.S.PageStore.told c.insert-in-Replace.new.store) (g.S.PageStore.free c.insert-in-Replace.new.store)
+          (g.S.PageStore.size c.args.store.now) c.insert-in-Replace.new.self (if b then put c.in-Replace.record (without k rs) else without k rs))
           c.if-is_new-2.true back),
     )
 
 pub returns-else-is_new-2-clause-fails : goal.returns-else-is_new-2-clause-fails
 returns-else-is_new-2-clause-fails g c rs w page is =
     let k = c.in-Replace.record.key in
-    let h = c.in-Ok-remove.ensures.removes.removed rs w in
+    let h = c.in_ok-is_out-in-Replace.ensures.removes.removed rs w in
     let mid = subst (λ n. IsWhole (g.S.PageStore.told c.remove-in-Replace.new.store) (g.S.PageStore.free c.remove-in-Replace.new.store) n
-    c.remove-in-Replace.new.self (without k rs)) (sym c.in-Ok-remove.ensures.left.size) h.1 in
-    let i = c.in-Ok-insert-2.ensures.inserts.inserted (without k rs) mid in
-    absurd (true_false c.in-Ok-insert-2.is_new (i.0 ∙ ap not (gone k rs)) c.if-is_new-2.false)
+    c.remove-in-Replace.new.self (without k rs)) (sym c.in_ok-is_out-in-Replace.ensures.left.size) h.1 in
+    let i = c.in-Ok.ensures.inserts.inserted (without k rs) mid in
+    absurd (true_false c.in-Ok.is_new (i.0 ∙ ap not (gone k rs)) c.if-is_new-2.false)

@@ -11,4 +11,4 @@ returns-then-self-eq0-clause-floor g c = λ rs is. no_floor (g.S.PageStore.told 
 pub returns-in-None-clause-sound : goal.returns-in-None-clause-sound
 returns-in-None-clause-sound g c =
     subst (λ (o : Option (List (List ℕ))). IfErr c.floor.result (λ e. (rs : List Record) → IsTree o c.args.self.now rs → IsNotDamage e))
-    c.in-Ok.ensures.left.told c.floor.ensures.sound
+    c.in_ok-r.ensures.left.told c.floor.ensures.sound

@@ -1,4 +1,5 @@
 use Rattle.std.proofs.Common.{◌≡◌, true, false, ◌-◌, ◌≤◌, refl, arith}
+use Rattle.std.proofs.lemmas.Result.{err_from_is_err_and}
 use Rattle.quilt_btree.proofs.ways.Damage.{zero_names, zero_named, names_more}
 use Rattle.quilt_btree.proofs.growth.Finding.{finds_root, finds_empty, shrunk_answer}
 use Rattle.quilt_btree.proofs.growth.KeptPages.{out_none, sound_out, out_missing, out_done, out_underfull}
@@ -21,21 +22,22 @@ returns-then-self-eq0-clause-removes g c = record {
       w;
 }
 
-pub returns-in-Err-clause-sound : goal.returns-in-Err-clause-sound
-returns-in-Err-clause-sound g c =
-    λ rs w. sound_root (g.S.PageStore.told c.args.store.now) (g.S.PageStore.free c.args.store.now) (g.S.PageStore.size c.args.store.now)
-    c.args.self.now c.in-Err.e rs
+pub returns-in_err-remove_under-clause-sound : goal.returns-in_err-remove_under-clause-sound
+returns-in_err-remove_under-clause-sound g c =
+    let p = err_from_is_err_and c.from_residual.result c.from_residual.ensures.1 in
+    rw (p.1, p.2) (λ rs w. sound_root (g.S.PageStore.told c.args.store.now) (g.S.PageStore.free c.args.store.now) (g.S.PageStore.size c.args.store.now)
+    c.args.self.now _ rs
     (record {
       rooted = c.requires.rooted;
       least = (g.met.S.PageStore.in_range c.args.store.now).0;
       inside = g.met.S.PageStore.free_pages_are c.args.store.now;
       above = c.if-self-eq0.false;
-    }) c.in-Err.ensures.sound w
+    }) c.in_err-remove_under.ensures.sound w)
 
-pub returns-in-Ok-Missing-clause-removes : goal.returns-in-Ok-Missing-clause-removes
-returns-in-Ok-Missing-clause-removes g c = record {
+pub returns-in-Missing-clause-removes : goal.returns-in-Missing-clause-removes
+returns-in-Missing-clause-removes g c = record {
   removed =
-      let found = rw c.in-Ok-Missing.field-0-is at c.in-Ok-Missing.ensures in
+      let found = rw c.in-Missing.is at c.in_ok-remove_under.ensures in
       λ rs w. whole_missing c.args.k.now (g.S.PageStore.told c.args.store.now) (g.S.PageStore.told c.remove_under.new.store)
       (g.S.PageStore.free c.args.store.now) (g.S.PageStore.free c.remove_under.new.store) (g.S.PageStore.size c.args.store.now) c.args.self.now rs
       (record {
@@ -47,18 +49,18 @@ returns-in-Ok-Missing-clause-removes g c = record {
   answer =
       λ rs is.
       finds_root (g.S.PageStore.told c.args.store.now) c.args.k.now false c.args.self.now rs c.if-self-eq0.false
-      (rw c.in-Ok-Missing.field-0-is at c.in-Ok-Missing.ensures.finds) is;
+      (rw c.in-Missing.is at c.in_ok-remove_under.ensures.finds) is;
   changes =
-      let found = rw c.in-Ok-Missing.field-0-is at c.in-Ok-Missing.ensures in
+      let found = rw c.in-Missing.is at c.in_ok-remove_under.ensures in
       λ rs w. out_missing c.args.k.now (g.S.PageStore.told c.args.store.now) (g.S.PageStore.told c.remove_under.new.store)
       (g.S.PageStore.free c.args.store.now) (g.S.PageStore.free c.remove_under.new.store) c.args.self.now rs c.if-self-eq0.false found.removed
       (found.remains.same refl).told (found.remains.same refl).free w;
 }
 
-pub returns-in-Ok-Done-clause-removes : goal.returns-in-Ok-Done-clause-removes
-returns-in-Ok-Done-clause-removes g c = record {
+pub returns-in-Done-clause-removes : goal.returns-in-Done-clause-removes
+returns-in-Done-clause-removes g c = record {
   removed =
-      let found = rw c.in-Ok-Done.field-0-is at c.in-Ok-Done.ensures in
+      let found = rw c.in-Done.is at c.in_ok-remove_under.ensures in
       shrunk c.args.k.now (g.S.PageStore.told c.args.store.now) (g.S.PageStore.free c.args.store.now) (g.S.PageStore.size c.args.store.now)
       c.args.self.now c.shrink.result (g.S.PageStore.told c.remove_under.new.store) (g.S.PageStore.free c.remove_under.new.store) c.shrink.new.self
       (record { root = c.args.self.now.root; height = c.args.self.now.height; records = c.args.self.now.records - 1 }) c.shrink.ensures.tree
@@ -72,19 +74,19 @@ returns-in-Ok-Done-clause-removes g c = record {
       }) found.removed w);
   answer =
       shrunk_answer c.shrink.result (g.S.PageStore.told c.args.store.now) c.args.self.now c.args.k.now c.shrink.ensures.answer
-      (λ rs is. finds_root (g.S.PageStore.told c.args.store.now) c.args.k.now true c.args.self.now rs c.if-self-eq0.false (rw c.in-Ok-Done.field-0-is at c.in-Ok-Done.ensures.finds) is);
+      (λ rs is. finds_root (g.S.PageStore.told c.args.store.now) c.args.k.now true c.args.self.now rs c.if-self-eq0.false (rw c.in-Done.is at c.in_ok-remove_under.ensures.finds) is);
   changes =
       out_shrunk (g.S.PageStore.told c.args.store.now) (g.S.PageStore.free c.args.store.now) c.args.self.now c.shrink.result c.args.k.now
       (g.S.PageStore.told c.remove_under.new.store) (g.S.PageStore.free c.remove_under.new.store) c.shrink.new.self
       (record { root = c.args.self.now.root; height = c.args.self.now.height; records = c.args.self.now.records - 1 }) c.shrink.ensures.tree
       (λ rs w. out_done c.args.k.now (g.S.PageStore.told c.args.store.now) (g.S.PageStore.told c.remove_under.new.store)
       (g.S.PageStore.free c.args.store.now) (g.S.PageStore.free c.remove_under.new.store) c.args.self.now rs c.if-self-eq0.false
-      (rw c.in-Ok-Done.field-0-is at c.in-Ok-Done.ensures.removed) w);
+      (rw c.in-Done.is at c.in_ok-remove_under.ensures.removed) w);
 }
 
-pub returns-in-Ok-Done-clause-sound : goal.returns-in-Ok-Done-clause-sound
-returns-in-Ok-Done-clause-sound g c =
-    let found = rw c.in-Ok-Done.field-0-is at c.in-Ok-Done.ensures in
+pub returns-in-Done-clause-sound : goal.returns-in-Done-clause-sound
+returns-in-Done-clause-sound g c =
+    let found = rw c.in-Done.is at c.in_ok-remove_under.ensures in
     shrunk_sound (g.S.PageStore.told c.args.store.now) (g.S.PageStore.free c.args.store.now) (g.S.PageStore.size c.args.store.now) c.args.self.now
     c.shrink.result (c.args.self.now.height ≡ 0 → (c.args.self.now.root ≡ 0) × (c.args.self.now.records ≡ 1)) (1 ≤ c.args.self.now.height
     → 2 ≤ c.args.self.now.records) c.shrink.ensures.sound
@@ -100,15 +102,15 @@ returns-in-Ok-Done-clause-sound g c =
           }) found.removed w,
     ))
 
-pub returns-in-Ok-Underfull-clause-removes : goal.returns-in-Ok-Underfull-clause-removes
-returns-in-Ok-Underfull-clause-removes g c = record {
+pub returns-in-Underfull-clause-removes : goal.returns-in-Underfull-clause-removes
+returns-in-Underfull-clause-removes g c = record {
   removed =
-      let found = rw c.in-Ok-Underfull.field-0-is at c.in-Ok-Underfull.ensures in
+      let found = rw c.in-Underfull.is at c.in_ok-remove_under.ensures in
       shrunk c.args.k.now (g.S.PageStore.told c.args.store.now) (g.S.PageStore.free c.args.store.now) (g.S.PageStore.size c.args.store.now)
-      c.args.self.now c.shrink-in-Ok-Underfull.result (g.S.PageStore.told c.remove_under.new.store) (g.S.PageStore.free c.remove_under.new.store)
-      c.shrink-in-Ok-Underfull.new.self
+      c.args.self.now c.shrink-in-Underfull.result (g.S.PageStore.told c.remove_under.new.store) (g.S.PageStore.free c.remove_under.new.store)
+      c.shrink-in-Underfull.new.self
       (record { root = c.args.self.now.root; height = c.args.self.now.height; records = c.args.self.now.records - 1 })
-      c.shrink-in-Ok-Underfull.ensures.tree c.shrink-in-Ok-Underfull.ensures.answer
+      c.shrink-in-Underfull.ensures.tree c.shrink-in-Underfull.ensures.answer
       (λ rs w. whole_underfull c.args.k.now (g.S.PageStore.told c.args.store.now) (g.S.PageStore.told c.remove_under.new.store)
       (g.S.PageStore.free c.args.store.now) (g.S.PageStore.free c.remove_under.new.store) (g.S.PageStore.size c.args.store.now) c.args.self.now rs
       (record {
@@ -118,25 +120,25 @@ returns-in-Ok-Underfull-clause-removes g c = record {
         above = c.if-self-eq0.false;
       }) found.removed w);
   answer =
-      shrunk_answer c.shrink-in-Ok-Underfull.result (g.S.PageStore.told c.args.store.now) c.args.self.now c.args.k.now
-      c.shrink-in-Ok-Underfull.ensures.answer
-      (λ rs is. finds_root (g.S.PageStore.told c.args.store.now) c.args.k.now true c.args.self.now rs c.if-self-eq0.false (rw c.in-Ok-Underfull.field-0-is at c.in-Ok-Underfull.ensures.finds) is);
+      shrunk_answer c.shrink-in-Underfull.result (g.S.PageStore.told c.args.store.now) c.args.self.now c.args.k.now
+      c.shrink-in-Underfull.ensures.answer
+      (λ rs is. finds_root (g.S.PageStore.told c.args.store.now) c.args.k.now true c.args.self.now rs c.if-self-eq0.false (rw c.in-Underfull.is at c.in_ok-remove_under.ensures.finds) is);
   changes =
-      out_shrunk (g.S.PageStore.told c.args.store.now) (g.S.PageStore.free c.args.store.now) c.args.self.now c.shrink-in-Ok-Underfull.result
-      c.args.k.now (g.S.PageStore.told c.remove_under.new.store) (g.S.PageStore.free c.remove_under.new.store) c.shrink-in-Ok-Underfull.new.self
+      out_shrunk (g.S.PageStore.told c.args.store.now) (g.S.PageStore.free c.args.store.now) c.args.self.now c.shrink-in-Underfull.result
+      c.args.k.now (g.S.PageStore.told c.remove_under.new.store) (g.S.PageStore.free c.remove_under.new.store) c.shrink-in-Underfull.new.self
       (record { root = c.args.self.now.root; height = c.args.self.now.height; records = c.args.self.now.records - 1 })
-      c.shrink-in-Ok-Underfull.ensures.tree
+      c.shrink-in-Underfull.ensures.tree
       (λ rs w. out_underfull c.args.k.now (g.S.PageStore.told c.args.store.now) (g.S.PageStore.told c.remove_under.new.store)
       (g.S.PageStore.free c.args.store.now) (g.S.PageStore.free c.remove_under.new.store) c.args.self.now rs c.if-self-eq0.false
-      (rw c.in-Ok-Underfull.field-0-is at c.in-Ok-Underfull.ensures.removed) w);
+      (rw c.in-Underfull.is at c.in_ok-remove_under.ensures.removed) w);
 }
 
-pub returns-in-Ok-Underfull-clause-sound : goal.returns-in-Ok-Underfull-clause-sound
-returns-in-Ok-Underfull-clause-sound g c =
-    let found = rw c.in-Ok-Underfull.field-0-is at c.in-Ok-Underfull.ensures in
+pub returns-in-Underfull-clause-sound : goal.returns-in-Underfull-clause-sound
+returns-in-Underfull-clause-sound g c =
+    let found = rw c.in-Underfull.is at c.in_ok-remove_under.ensures in
     shrunk_sound (g.S.PageStore.told c.args.store.now) (g.S.PageStore.free c.args.store.now) (g.S.PageStore.size c.args.store.now) c.args.self.now
-    c.shrink-in-Ok-Underfull.result (c.args.self.now.height ≡ 0 → (c.args.self.now.root ≡ 0)
-    × (c.args.self.now.records ≡ 1)) (1 ≤ c.args.self.now.height → 2 ≤ c.args.self.now.records) c.shrink-in-Ok-Underfull.ensures.sound
+    c.shrink-in-Underfull.result (c.args.self.now.height ≡ 0 → (c.args.self.now.root ≡ 0)
+    × (c.args.self.now.records ≡ 1)) (1 ≤ c.args.self.now.height → 2 ≤ c.args.self.now.records) c.shrink-in-Underfull.ensures.sound
     (λ rs w. (
       λ e. absurd (c.if-self-eq0.false e),
       λ e. many_underfull c.args.k.now (g.S.PageStore.told c.args.store.now) (g.S.PageStore.told c.remove_under.new.store)
@@ -149,10 +151,11 @@ returns-in-Ok-Underfull-clause-sound g c =
           }) found.removed w,
     ))
 
-pub returns-in-Err-give_back-clause-sound : goal.returns-in-Err-give_back-clause-sound
-returns-in-Err-give_back-clause-sound g c =
-    let found = rw c.in-Ok-Emptied.field-0-is at c.in-Ok-Emptied.ensures in
-    λ rs w. c.in-Err-give_back.ensures.sound
+pub returns-in_err-give_back-in-Emptied-clause-sound : goal.returns-in_err-give_back-in-Emptied-clause-sound
+returns-in_err-give_back-in-Emptied-clause-sound g c =
+    let p = err_from_is_err_and c.from_residual-in_err-give_back-in-Emptied.result c.from_residual-in_err-give_back-in-Emptied.ensures.1 in
+    rw (p.1, p.2) (let found = rw c.in-Emptied.is at c.in_ok-remove_under.ensures in
+    λ rs w. c.in_err-give_back-in-Emptied.ensures.sound
     (one_emptied c.args.k.now (g.S.PageStore.told c.args.store.now) (g.S.PageStore.told c.remove_under.new.store)
     (g.S.PageStore.free c.args.store.now) (g.S.PageStore.free c.remove_under.new.store) (g.S.PageStore.size c.args.store.now) c.args.self.now rs
     (record {
@@ -160,16 +163,16 @@ returns-in-Err-give_back-clause-sound g c =
       least = (g.met.S.PageStore.in_range c.args.store.now).0;
       inside = g.met.S.PageStore.free_pages_are c.args.store.now;
       above = c.if-self-eq0.false;
-    }) found.removed w).0
+    }) found.removed w).0)
 
-pub returns-in-Ok-clause-removes : goal.returns-in-Ok-clause-removes
-returns-in-Ok-clause-removes g c = record {
+pub returns-in_ok-give_back-in-Emptied-clause-removes : goal.returns-in_ok-give_back-in-Emptied-clause-removes
+returns-in_ok-give_back-in-Emptied-clause-removes g c = record {
   removed =
-      let found = rw c.in-Ok-Emptied.field-0-is at c.in-Ok-Emptied.ensures in
+      let found = rw c.in-Emptied.is at c.in_ok-remove_under.ensures in
       shrunk c.args.k.now (g.S.PageStore.told c.args.store.now) (g.S.PageStore.free c.args.store.now) (g.S.PageStore.size c.args.store.now)
-      c.args.self.now c.shrink-in-Ok.result (g.S.PageStore.told c.give_back.new.store) (g.S.PageStore.free c.give_back.new.store)
-      c.shrink-in-Ok.new.self (record { root = 0; height = 0; records = c.args.self.now.records - 1 }) c.shrink-in-Ok.ensures.tree
-      c.shrink-in-Ok.ensures.answer
+      c.args.self.now c.shrink-in-Emptied.result (g.S.PageStore.told c.give_back.new.store) (g.S.PageStore.free c.give_back.new.store)
+      c.shrink-in-Emptied.new.self (record { root = 0; height = 0; records = c.args.self.now.records - 1 }) c.shrink-in-Emptied.ensures.tree
+      c.shrink-in-Emptied.ensures.answer
       (λ rs w. whole_emptied c.args.k.now (g.S.PageStore.told c.args.store.now) (g.S.PageStore.told c.remove_under.new.store)
       (g.S.PageStore.told c.give_back.new.store) (g.S.PageStore.free c.args.store.now) (g.S.PageStore.free c.remove_under.new.store)
       (g.S.PageStore.free c.give_back.new.store) (g.S.PageStore.size c.args.store.now) c.args.self.now rs
@@ -178,26 +181,26 @@ returns-in-Ok-clause-removes g c = record {
         least = (g.met.S.PageStore.in_range c.args.store.now).0;
         inside = g.met.S.PageStore.free_pages_are c.args.store.now;
         above = c.if-self-eq0.false;
-      }) found.removed c.in-Ok.ensures.told c.in-Ok.ensures.free w);
+      }) found.removed c.in_ok-give_back-in-Emptied.ensures.told c.in_ok-give_back-in-Emptied.ensures.free w);
   answer =
-      shrunk_answer c.shrink-in-Ok.result (g.S.PageStore.told c.args.store.now) c.args.self.now c.args.k.now c.shrink-in-Ok.ensures.answer
-      (λ rs is. finds_root (g.S.PageStore.told c.args.store.now) c.args.k.now true c.args.self.now rs c.if-self-eq0.false (rw c.in-Ok-Emptied.field-0-is at c.in-Ok-Emptied.ensures.finds) is);
+      shrunk_answer c.shrink-in-Emptied.result (g.S.PageStore.told c.args.store.now) c.args.self.now c.args.k.now c.shrink-in-Emptied.ensures.answer
+      (λ rs is. finds_root (g.S.PageStore.told c.args.store.now) c.args.k.now true c.args.self.now rs c.if-self-eq0.false (rw c.in-Emptied.is at c.in_ok-remove_under.ensures.finds) is);
   changes =
-      out_shrunk (g.S.PageStore.told c.args.store.now) (g.S.PageStore.free c.args.store.now) c.args.self.now c.shrink-in-Ok.result c.args.k.now
-      (g.S.PageStore.told c.give_back.new.store) (g.S.PageStore.free c.give_back.new.store) c.shrink-in-Ok.new.self
-      (record { root = 0; height = 0; records = c.args.self.now.records - 1 }) c.shrink-in-Ok.ensures.tree
+      out_shrunk (g.S.PageStore.told c.args.store.now) (g.S.PageStore.free c.args.store.now) c.args.self.now c.shrink-in-Emptied.result c.args.k.now
+      (g.S.PageStore.told c.give_back.new.store) (g.S.PageStore.free c.give_back.new.store) c.shrink-in-Emptied.new.self
+      (record { root = 0; height = 0; records = c.args.self.now.records - 1 }) c.shrink-in-Emptied.ensures.tree
       (λ rs w. out_emptied c.args.k.now (g.S.PageStore.told c.args.store.now) (g.S.PageStore.told c.remove_under.new.store)
       (g.S.PageStore.told c.give_back.new.store) (g.S.PageStore.free c.args.store.now) (g.S.PageStore.free c.remove_under.new.store)
       (g.S.PageStore.free c.give_back.new.store) c.args.self.now rs c.if-self-eq0.false
-      (rw c.in-Ok-Emptied.field-0-is at c.in-Ok-Emptied.ensures.removed) c.in-Ok.ensures.told w);
+      (rw c.in-Emptied.is at c.in_ok-remove_under.ensures.removed) c.in_ok-give_back-in-Emptied.ensures.told w);
 }
 
-pub returns-in-Ok-clause-sound : goal.returns-in-Ok-clause-sound
-returns-in-Ok-clause-sound g c =
-    let found = rw c.in-Ok-Emptied.field-0-is at c.in-Ok-Emptied.ensures in
+pub returns-in_ok-give_back-in-Emptied-clause-sound : goal.returns-in_ok-give_back-in-Emptied-clause-sound
+returns-in_ok-give_back-in-Emptied-clause-sound g c =
+    let found = rw c.in-Emptied.is at c.in_ok-remove_under.ensures in
     shrunk_sound (g.S.PageStore.told c.args.store.now) (g.S.PageStore.free c.args.store.now) (g.S.PageStore.size c.args.store.now) c.args.self.now
-    c.shrink-in-Ok.result (0 ≡ 0 → (0 ≡ 0) × (c.args.self.now.records ≡ 1)) (1 ≤ 0 → 2 ≤ c.args.self.now.records)
-    c.shrink-in-Ok.ensures.sound
+    c.shrink-in-Emptied.result (0 ≡ 0 → (0 ≡ 0) × (c.args.self.now.records ≡ 1)) (1 ≤ 0 → 2 ≤ c.args.self.now.records)
+    c.shrink-in-Emptied.ensures.sound
     (λ rs w. (
       λ e. (
         refl,
@@ -213,69 +216,70 @@ returns-in-Ok-clause-sound g c =
       λ h. absurd (omega arith),
     ))
 
-pub returns-in-Err-give_back-2-clause-sound : goal.returns-in-Err-give_back-2-clause-sound
-returns-in-Err-give_back-2-clause-sound g c =
-    let found = rw c.in-Ok-Only.field-0-is at c.in-Ok-Only.ensures in
-    λ rs w. c.in-Err-give_back-2.ensures.sound
-    (one_only (g.S.PageStore.told c.args.store.now) (g.S.PageStore.free c.args.store.now) (g.S.PageStore.size c.args.store.now) c.args.self.now c.args.k.now (g.S.PageStore.told c.remove_under.new.store) (g.S.PageStore.free c.remove_under.new.store) c.in-Ok-Only.child rs
+pub returns-in_err-give_back-in-Only-clause-sound : goal.returns-in_err-give_back-in-Only-clause-sound
+returns-in_err-give_back-in-Only-clause-sound g c =
+    let p = err_from_is_err_and c.from_residual-in_err-give_back-in-Only.result c.from_residual-in_err-give_back-in-Only.ensures.1 in
+    rw (p.1, p.2) (let found = rw c.in-Only.is at c.in_ok-remove_under.ensures in
+    λ rs w. c.in_err-give_back-in-Only.ensures.sound
+    (one_only (g.S.PageStore.told c.args.store.now) (g.S.PageStore.free c.args.store.now) (g.S.PageStore.size c.args.store.now) c.args.self.now c.args.k.now (g.S.PageStore.told c.remove_under.new.store) (g.S.PageStore.free c.remove_under.new.store) c.in-Only.child rs
     (record {
       rooted = c.requires.rooted;
       least = (g.met.S.PageStore.in_range c.args.store.now).0;
       inside = g.met.S.PageStore.free_pages_are c.args.store.now;
       above = c.if-self-eq0.false;
-    }) found.removed w).0
+    }) found.removed w).0)
 
-pub returns-in-Ok-give_back-clause-removes : goal.returns-in-Ok-give_back-clause-removes
-returns-in-Ok-give_back-clause-removes g c = record {
+pub returns-in_ok-give_back-in-Only-clause-removes : goal.returns-in_ok-give_back-in-Only-clause-removes
+returns-in_ok-give_back-in-Only-clause-removes g c = record {
   removed =
-      let found = rw c.in-Ok-Only.field-0-is at c.in-Ok-Only.ensures in
+      let found = rw c.in-Only.is at c.in_ok-remove_under.ensures in
       shrunk c.args.k.now (g.S.PageStore.told c.args.store.now) (g.S.PageStore.free c.args.store.now) (g.S.PageStore.size c.args.store.now)
-      c.args.self.now c.shrink-in-Ok-give_back.result (g.S.PageStore.told c.give_back-in-Ok-Only.new.store)
-      (g.S.PageStore.free c.give_back-in-Ok-Only.new.store) c.shrink-in-Ok-give_back.new.self
-      (record { root = c.in-Ok-Only.child; height = c.args.self.now.height - 1; records = c.args.self.now.records - 1 })
-      c.shrink-in-Ok-give_back.ensures.tree c.shrink-in-Ok-give_back.ensures.answer
+      c.args.self.now c.shrink-in-Only.result (g.S.PageStore.told c.give_back-in-Only.new.store)
+      (g.S.PageStore.free c.give_back-in-Only.new.store) c.shrink-in-Only.new.self
+      (record { root = c.in-Only.child; height = c.args.self.now.height - 1; records = c.args.self.now.records - 1 })
+      c.shrink-in-Only.ensures.tree c.shrink-in-Only.ensures.answer
       (λ rs w. whole_only c.args.k.now (g.S.PageStore.told c.args.store.now) (g.S.PageStore.told c.remove_under.new.store)
-      (g.S.PageStore.told c.give_back-in-Ok-Only.new.store) (g.S.PageStore.free c.args.store.now) (g.S.PageStore.free c.remove_under.new.store)
-      (g.S.PageStore.free c.give_back-in-Ok-Only.new.store) (g.S.PageStore.size c.args.store.now) c.in-Ok-Only.child c.args.self.now rs
+      (g.S.PageStore.told c.give_back-in-Only.new.store) (g.S.PageStore.free c.args.store.now) (g.S.PageStore.free c.remove_under.new.store)
+      (g.S.PageStore.free c.give_back-in-Only.new.store) (g.S.PageStore.size c.args.store.now) c.in-Only.child c.args.self.now rs
       (record {
         rooted = c.requires.rooted;
         least = (g.met.S.PageStore.in_range c.args.store.now).0;
         inside = g.met.S.PageStore.free_pages_are c.args.store.now;
         above =
             c.if-self-eq0.false;
-      }) found.removed c.in-Ok-give_back.ensures.told c.in-Ok-give_back.ensures.free w);
+      }) found.removed c.in_ok-give_back-in-Only.ensures.told c.in_ok-give_back-in-Only.ensures.free w);
   answer =
-      shrunk_answer c.shrink-in-Ok-give_back.result (g.S.PageStore.told c.args.store.now) c.args.self.now c.args.k.now
-      c.shrink-in-Ok-give_back.ensures.answer
-      (λ rs is. finds_root (g.S.PageStore.told c.args.store.now) c.args.k.now true c.args.self.now rs c.if-self-eq0.false (rw c.in-Ok-Only.field-0-is at c.in-Ok-Only.ensures.finds) is);
+      shrunk_answer c.shrink-in-Only.result (g.S.PageStore.told c.args.store.now) c.args.self.now c.args.k.now
+      c.shrink-in-Only.ensures.answer
+      (λ rs is. finds_root (g.S.PageStore.told c.args.store.now) c.args.k.now true c.args.self.now rs c.if-self-eq0.false (rw c.in-Only.is at c.in_ok-remove_under.ensures.finds) is);
   changes =
-      out_shrunk (g.S.PageStore.told c.args.store.now) (g.S.PageStore.free c.args.store.now) c.args.self.now c.shrink-in-Ok-give_back.result
-      c.args.k.now (g.S.PageStore.told c.give_back-in-Ok-Only.new.store) (g.S.PageStore.free c.give_back-in-Ok-Only.new.store)
-      c.shrink-in-Ok-give_back.new.self
-      (record { root = c.in-Ok-Only.child; height = c.args.self.now.height - 1; records = c.args.self.now.records - 1 })
-      c.shrink-in-Ok-give_back.ensures.tree
+      out_shrunk (g.S.PageStore.told c.args.store.now) (g.S.PageStore.free c.args.store.now) c.args.self.now c.shrink-in-Only.result
+      c.args.k.now (g.S.PageStore.told c.give_back-in-Only.new.store) (g.S.PageStore.free c.give_back-in-Only.new.store)
+      c.shrink-in-Only.new.self
+      (record { root = c.in-Only.child; height = c.args.self.now.height - 1; records = c.args.self.now.records - 1 })
+      c.shrink-in-Only.ensures.tree
       (λ rs w. out_only c.args.k.now (g.S.PageStore.told c.args.store.now) (g.S.PageStore.told c.remove_under.new.store)
-      (g.S.PageStore.told c.give_back-in-Ok-Only.new.store) (g.S.PageStore.free c.args.store.now) (g.S.PageStore.free c.remove_under.new.store)
-      (g.S.PageStore.free c.give_back-in-Ok-Only.new.store) c.in-Ok-Only.child c.args.self.now rs c.if-self-eq0.false
-      (rw c.in-Ok-Only.field-0-is at c.in-Ok-Only.ensures.removed) c.in-Ok-give_back.ensures.told c.in-Ok-give_back.ensures.free w);
+      (g.S.PageStore.told c.give_back-in-Only.new.store) (g.S.PageStore.free c.args.store.now) (g.S.PageStore.free c.remove_under.new.store)
+      (g.S.PageStore.free c.give_back-in-Only.new.store) c.in-Only.child c.args.self.now rs c.if-self-eq0.false
+      (rw c.in-Only.is at c.in_ok-remove_under.ensures.removed) c.in_ok-give_back-in-Only.ensures.told c.in_ok-give_back-in-Only.ensures.free w);
 }
 
-pub returns-in-Ok-give_back-clause-sound : goal.returns-in-Ok-give_back-clause-sound
-returns-in-Ok-give_back-clause-sound g c =
-    let found = rw c.in-Ok-Only.field-0-is at c.in-Ok-Only.ensures in
+pub returns-in_ok-give_back-in-Only-clause-sound : goal.returns-in_ok-give_back-in-Only-clause-sound
+returns-in_ok-give_back-in-Only-clause-sound g c =
+    let found = rw c.in-Only.is at c.in_ok-remove_under.ensures in
     shrunk_sound (g.S.PageStore.told c.args.store.now) (g.S.PageStore.free c.args.store.now) (g.S.PageStore.size c.args.store.now) c.args.self.now
-    c.shrink-in-Ok-give_back.result (c.args.self.now.height - 1 ≡ 0 → (c.in-Ok-Only.child ≡ 0)
-    × (c.args.self.now.records ≡ 1)) (1 ≤ c.args.self.now.height - 1 → 2 ≤ c.args.self.now.records) c.shrink-in-Ok-give_back.ensures.sound
+    c.shrink-in-Only.result (c.args.self.now.height - 1 ≡ 0 → (c.in-Only.child ≡ 0)
+    × (c.args.self.now.records ≡ 1)) (1 ≤ c.args.self.now.height - 1 → 2 ≤ c.args.self.now.records) c.shrink-in-Only.ensures.sound
     (λ rs w. (
       λ e. absurd
-          ((one_only (g.S.PageStore.told c.args.store.now) (g.S.PageStore.free c.args.store.now) (g.S.PageStore.size c.args.store.now) c.args.self.now c.args.k.now (g.S.PageStore.told c.remove_under.new.store) (g.S.PageStore.free c.remove_under.new.store) c.in-Ok-Only.child rs
+          ((one_only (g.S.PageStore.told c.args.store.now) (g.S.PageStore.free c.args.store.now) (g.S.PageStore.size c.args.store.now) c.args.self.now c.args.k.now (g.S.PageStore.told c.remove_under.new.store) (g.S.PageStore.free c.remove_under.new.store) c.in-Only.child rs
           (record {
             rooted = c.requires.rooted;
             least = (g.met.S.PageStore.in_range c.args.store.now).0;
             inside = g.met.S.PageStore.free_pages_are c.args.store.now;
             above = c.if-self-eq0.false;
           }) found.removed w).2 e),
-      λ h. (one_only (g.S.PageStore.told c.args.store.now) (g.S.PageStore.free c.args.store.now) (g.S.PageStore.size c.args.store.now) c.args.self.now c.args.k.now (g.S.PageStore.told c.remove_under.new.store) (g.S.PageStore.free c.remove_under.new.store) c.in-Ok-Only.child rs
+      λ h. (one_only (g.S.PageStore.told c.args.store.now) (g.S.PageStore.free c.args.store.now) (g.S.PageStore.size c.args.store.now) c.args.self.now c.args.k.now (g.S.PageStore.told c.remove_under.new.store) (g.S.PageStore.free c.remove_under.new.store) c.in-Only.child rs
           (record {
             rooted = c.requires.rooted;
             least = (g.met.S.PageStore.in_range c.args.store.now).0;
@@ -284,111 +288,120 @@ returns-in-Ok-give_back-clause-sound g c =
           }) found.removed w).1,
     ))
 
-pub returns-in-Err-clause-goes : goal.returns-in-Err-clause-goes
-returns-in-Err-clause-goes g c =
-    λ rs w n. sound_out (g.S.PageStore.told c.args.store.now) (g.S.PageStore.free c.args.store.now) c.args.self.now c.in-Err.e rs c.if-self-eq0.false
-    c.in-Err.ensures.sound w
+pub returns-in_err-remove_under-clause-goes : goal.returns-in_err-remove_under-clause-goes
+returns-in_err-remove_under-clause-goes g c =
+    let p = err_from_is_err_and c.from_residual.result c.from_residual.ensures.1 in
+    rw (p.1, p.2) (λ rs w n. sound_out (g.S.PageStore.told c.args.store.now) (g.S.PageStore.free c.args.store.now) c.args.self.now _ rs c.if-self-eq0.false
+    c.in_err-remove_under.ensures.sound w)
 
-pub returns-in-Ok-Done-clause-goes : goal.returns-in-Ok-Done-clause-goes
-returns-in-Ok-Done-clause-goes g c =
+pub returns-in-Done-clause-goes : goal.returns-in-Done-clause-goes
+returns-in-Done-clause-goes g c =
     out_sound c.shrink.result (g.S.PageStore.told c.args.store.now) (g.S.PageStore.free c.args.store.now) c.args.self.now (c.args.self.now.height ≡ 0
     → (c.args.self.now.root ≡ 0) × (c.args.self.now.records ≡ 1)) (1 ≤ c.args.self.now.height → 2 ≤ c.args.self.now.records) c.shrink.ensures.sound
     (λ rs w n. (
       λ e. absurd (c.if-self-eq0.false e),
       λ e. two_done c.args.k.now (g.S.PageStore.told c.args.store.now)
           (g.S.PageStore.told c.remove_under.new.store) (g.S.PageStore.free c.args.store.now) (g.S.PageStore.free c.remove_under.new.store)
-          c.args.self.now rs c.if-self-eq0.false (rw c.in-Ok-Done.field-0-is at c.in-Ok-Done.ensures.removed) n w,
+          c.args.self.now rs c.if-self-eq0.false (rw c.in-Done.is at c.in_ok-remove_under.ensures.removed) n w,
     ))
 
-pub returns-in-Ok-Underfull-clause-goes : goal.returns-in-Ok-Underfull-clause-goes
-returns-in-Ok-Underfull-clause-goes g c =
-    out_sound c.shrink-in-Ok-Underfull.result (g.S.PageStore.told c.args.store.now) (g.S.PageStore.free c.args.store.now) c.args.self.now
+pub returns-in-Underfull-clause-goes : goal.returns-in-Underfull-clause-goes
+returns-in-Underfull-clause-goes g c =
+    out_sound c.shrink-in-Underfull.result (g.S.PageStore.told c.args.store.now) (g.S.PageStore.free c.args.store.now) c.args.self.now
     (c.args.self.now.height ≡ 0 → (c.args.self.now.root ≡ 0) × (c.args.self.now.records ≡ 1)) (1 ≤ c.args.self.now.height
-    → 2 ≤ c.args.self.now.records) c.shrink-in-Ok-Underfull.ensures.sound
+    → 2 ≤ c.args.self.now.records) c.shrink-in-Underfull.ensures.sound
     (λ rs w n. (
       λ e. absurd (c.if-self-eq0.false e),
       λ e. two_underfull c.args.k.now (g.S.PageStore.told c.args.store.now)
           (g.S.PageStore.told c.remove_under.new.store) (g.S.PageStore.free c.args.store.now) (g.S.PageStore.free c.remove_under.new.store)
-          c.args.self.now rs c.if-self-eq0.false (rw c.in-Ok-Underfull.field-0-is at c.in-Ok-Underfull.ensures.removed) n w,
+          c.args.self.now rs c.if-self-eq0.false (rw c.in-Underfull.is at c.in_ok-remove_under.ensures.removed) n w,
     ))
 
-pub returns-in-Err-give_back-clause-goes : goal.returns-in-Err-give_back-clause-goes
-returns-in-Err-give_back-clause-goes g c =
-    λ rs w n. c.in-Err-give_back.ensures.sound
+pub returns-in_err-give_back-in-Emptied-clause-goes : goal.returns-in_err-give_back-in-Emptied-clause-goes
+returns-in_err-give_back-in-Emptied-clause-goes g c =
+    let p = err_from_is_err_and c.from_residual-in_err-give_back-in-Emptied.result c.from_residual-in_err-give_back-in-Emptied.ensures.1 in
+    rw (p.1, p.2) (λ rs w n. c.in_err-give_back-in-Emptied.ensures.sound
     (one_empty c.args.k.now (g.S.PageStore.told c.args.store.now) (g.S.PageStore.told c.remove_under.new.store) (g.S.PageStore.free c.args.store.now)
     (g.S.PageStore.free c.remove_under.new.store) c.args.self.now rs c.if-self-eq0.false
-    (rw c.in-Ok-Emptied.field-0-is at c.in-Ok-Emptied.ensures.removed) n w).0
+    (rw c.in-Emptied.is at c.in_ok-remove_under.ensures.removed) n w).0)
 
-pub returns-in-Ok-clause-goes : goal.returns-in-Ok-clause-goes
-returns-in-Ok-clause-goes g c =
-    out_sound c.shrink-in-Ok.result (g.S.PageStore.told c.args.store.now) (g.S.PageStore.free c.args.store.now) c.args.self.now
-    (0 ≡ 0 → (0 ≡ 0) × (c.args.self.now.records ≡ 1)) (1 ≤ 0 → 2 ≤ c.args.self.now.records) c.shrink-in-Ok.ensures.sound
+pub returns-in_ok-give_back-in-Emptied-clause-goes : goal.returns-in_ok-give_back-in-Emptied-clause-goes
+returns-in_ok-give_back-in-Emptied-clause-goes g c =
+    out_sound c.shrink-in-Emptied.result (g.S.PageStore.told c.args.store.now) (g.S.PageStore.free c.args.store.now) c.args.self.now
+    (0 ≡ 0 → (0 ≡ 0) × (c.args.self.now.records ≡ 1)) (1 ≤ 0 → 2 ≤ c.args.self.now.records) c.shrink-in-Emptied.ensures.sound
     (λ rs w n. (
       λ e. (
         refl,
         (one_empty c.args.k.now (g.S.PageStore.told c.args.store.now) (g.S.PageStore.told c.remove_under.new.store)
             (g.S.PageStore.free c.args.store.now) (g.S.PageStore.free c.remove_under.new.store) c.args.self.now rs c.if-self-eq0.false
-            (rw c.in-Ok-Emptied.field-0-is at c.in-Ok-Emptied.ensures.removed) n w).1,
+            (rw c.in-Emptied.is at c.in_ok-remove_under.ensures.removed) n w).1,
       ),
       λ z. absurd (omega arith),
     ))
 
-pub returns-in-Err-give_back-2-clause-goes : goal.returns-in-Err-give_back-2-clause-goes
-returns-in-Err-give_back-2-clause-goes g c =
-    λ rs w n. c.in-Err-give_back-2.ensures.sound
+pub returns-in_err-give_back-in-Only-clause-goes : goal.returns-in_err-give_back-in-Only-clause-goes
+returns-in_err-give_back-in-Only-clause-goes g c =
+    let p = err_from_is_err_and c.from_residual-in_err-give_back-in-Only.result c.from_residual-in_err-give_back-in-Only.ensures.1 in
+    rw (p.1, p.2) (λ rs w n. c.in_err-give_back-in-Only.ensures.sound
     (two_only c.args.k.now (g.S.PageStore.told c.args.store.now) (g.S.PageStore.told c.remove_under.new.store) (g.S.PageStore.free c.args.store.now)
-    (g.S.PageStore.free c.remove_under.new.store) c.in-Ok-Only.child c.args.self.now rs c.if-self-eq0.false
-    (rw c.in-Ok-Only.field-0-is at c.in-Ok-Only.ensures.removed) n w).0
+    (g.S.PageStore.free c.remove_under.new.store) c.in-Only.child c.args.self.now rs c.if-self-eq0.false
+    (rw c.in-Only.is at c.in_ok-remove_under.ensures.removed) n w).0)
 
-pub returns-in-Ok-give_back-clause-goes : goal.returns-in-Ok-give_back-clause-goes
-returns-in-Ok-give_back-clause-goes g c =
-    out_sound c.shrink-in-Ok-give_back.result (g.S.PageStore.told c.args.store.now) (g.S.PageStore.free c.args.store.now) c.args.self.now
-    (c.args.self.now.height - 1 ≡ 0 → (c.in-Ok-Only.child ≡ 0) × (c.args.self.now.records ≡ 1)) (1 ≤ c.args.self.now.height - 1
-    → 2 ≤ c.args.self.now.records) c.shrink-in-Ok-give_back.ensures.sound
+pub returns-in_ok-give_back-in-Only-clause-goes : goal.returns-in_ok-give_back-in-Only-clause-goes
+returns-in_ok-give_back-in-Only-clause-goes g c =
+    out_sound c.shrink-in-Only.result (g.S.PageStore.told c.args.store.now) (g.S.PageStore.free c.args.store.now) c.args.self.now
+    (c.args.self.now.height - 1 ≡ 0 → (c.in-Only.child ≡ 0) × (c.args.self.now.records ≡ 1)) (1 ≤ c.args.self.now.height - 1
+    → 2 ≤ c.args.self.now.records) c.shrink-in-Only.ensures.sound
     (λ rs w n.
     let two = two_only c.args.k.now (g.S.PageStore.told c.args.store.now) (g.S.PageStore.told c.remove_under.new.store)
-    (g.S.PageStore.free c.args.store.now) (g.S.PageStore.free c.remove_under.new.store) c.in-Ok-Only.child c.args.self.now rs c.if-self-eq0.false
-    (rw c.in-Ok-Only.field-0-is at c.in-Ok-Only.ensures.removed) n w in
+    (g.S.PageStore.free c.args.store.now) (g.S.PageStore.free c.remove_under.new.store) c.in-Only.child c.args.self.now rs c.if-self-eq0.false
+    (rw c.in-Only.is at c.in_ok-remove_under.ensures.removed) n w in
     (λ e. absurd (let low = two.2 in omega arith), λ e. two.1))
 
-pub returns-in-Err-clause-bad : goal.returns-in-Err-clause-bad
-returns-in-Err-clause-bad g c = c.in-Err.ensures.bad
+pub returns-in_err-remove_under-clause-bad : goal.returns-in_err-remove_under-clause-bad
+returns-in_err-remove_under-clause-bad g c =
+    let p = err_from_is_err_and c.from_residual.result c.from_residual.ensures.1 in
+    rw (p.1, p.2) (c.in_err-remove_under.ensures.bad)
 
-pub returns-in-Err-give_back-clause-names : goal.returns-in-Err-give_back-clause-names
-returns-in-Err-give_back-clause-names g c =
-    names_more 1 (g.S.PageStore.size c.args.store.now) c.in-Err-give_back.e (let q = (g.met.S.PageStore.in_range c.args.store.now).0 in omega arith)
-    c.in-Err-give_back.ensures.names
+pub returns-in_err-give_back-in-Emptied-clause-names : goal.returns-in_err-give_back-in-Emptied-clause-names
+returns-in_err-give_back-in-Emptied-clause-names g c =
+    let p = err_from_is_err_and c.from_residual-in_err-give_back-in-Emptied.result c.from_residual-in_err-give_back-in-Emptied.ensures.1 in
+    rw (p.1, p.2) (names_more 1 (g.S.PageStore.size c.args.store.now) _ (let q = (g.met.S.PageStore.in_range c.args.store.now).0 in omega arith)
+    c.in_err-give_back-in-Emptied.ensures.names)
 
-pub returns-in-Err-give_back-clause-bad : goal.returns-in-Err-give_back-clause-bad
-returns-in-Err-give_back-clause-bad g c =
-    zero_names (g.S.PageStore.told c.args.store.now) c.args.self.now.height c.args.self.now.root c.in-Err-give_back.e c.in-Err-give_back.ensures.names
+pub returns-in_err-give_back-in-Emptied-clause-bad : goal.returns-in_err-give_back-in-Emptied-clause-bad
+returns-in_err-give_back-in-Emptied-clause-bad g c =
+    let p = err_from_is_err_and c.from_residual-in_err-give_back-in-Emptied.result c.from_residual-in_err-give_back-in-Emptied.ensures.1 in
+    rw (p.1, p.2) (zero_names (g.S.PageStore.told c.args.store.now) c.args.self.now.height c.args.self.now.root _ c.in_err-give_back-in-Emptied.ensures.names)
 
-pub returns-in-Err-give_back-2-clause-names : goal.returns-in-Err-give_back-2-clause-names
-returns-in-Err-give_back-2-clause-names g c =
-    names_more 1 (g.S.PageStore.size c.args.store.now) c.in-Err-give_back-2.e (let q = (g.met.S.PageStore.in_range c.args.store.now).0 in omega arith)
-    c.in-Err-give_back-2.ensures.names
+pub returns-in_err-give_back-in-Only-clause-names : goal.returns-in_err-give_back-in-Only-clause-names
+returns-in_err-give_back-in-Only-clause-names g c =
+    let p = err_from_is_err_and c.from_residual-in_err-give_back-in-Only.result c.from_residual-in_err-give_back-in-Only.ensures.1 in
+    rw (p.1, p.2) (names_more 1 (g.S.PageStore.size c.args.store.now) _ (let q = (g.met.S.PageStore.in_range c.args.store.now).0 in omega arith)
+    c.in_err-give_back-in-Only.ensures.names)
 
-pub returns-in-Err-give_back-2-clause-bad : goal.returns-in-Err-give_back-2-clause-bad
-returns-in-Err-give_back-2-clause-bad g c =
-    zero_names (g.S.PageStore.told c.args.store.now) c.args.self.now.height c.args.self.now.root c.in-Err-give_back-2.e
-    c.in-Err-give_back-2.ensures.names
+pub returns-in_err-give_back-in-Only-clause-bad : goal.returns-in_err-give_back-in-Only-clause-bad
+returns-in_err-give_back-in-Only-clause-bad g c =
+    let p = err_from_is_err_and c.from_residual-in_err-give_back-in-Only.result c.from_residual-in_err-give_back-in-Only.ensures.1 in
+    rw (p.1, p.2) (zero_names (g.S.PageStore.told c.args.store.now) c.args.self.now.height c.args.self.now.root _
+    c.in_err-give_back-in-Only.ensures.names)
 
-pub returns-in-Ok-Done-clause-bad : goal.returns-in-Ok-Done-clause-bad
-returns-in-Ok-Done-clause-bad g c =
+pub returns-in-Done-clause-bad : goal.returns-in-Done-clause-bad
+returns-in-Done-clause-bad g c =
     zero_named c.shrink.result (g.S.PageStore.told c.args.store.now) c.args.self.now.height c.args.self.now.root
     (c.shrink.ensures.names 1 (omega arith))
 
-pub returns-in-Ok-Underfull-clause-bad : goal.returns-in-Ok-Underfull-clause-bad
-returns-in-Ok-Underfull-clause-bad g c =
-    zero_named c.shrink-in-Ok-Underfull.result (g.S.PageStore.told c.args.store.now) c.args.self.now.height c.args.self.now.root
-    (c.shrink-in-Ok-Underfull.ensures.names 1 (omega arith))
+pub returns-in-Underfull-clause-bad : goal.returns-in-Underfull-clause-bad
+returns-in-Underfull-clause-bad g c =
+    zero_named c.shrink-in-Underfull.result (g.S.PageStore.told c.args.store.now) c.args.self.now.height c.args.self.now.root
+    (c.shrink-in-Underfull.ensures.names 1 (omega arith))
 
-pub returns-in-Ok-clause-bad : goal.returns-in-Ok-clause-bad
-returns-in-Ok-clause-bad g c =
-    zero_named c.shrink-in-Ok.result (g.S.PageStore.told c.args.store.now) c.args.self.now.height c.args.self.now.root
-    (c.shrink-in-Ok.ensures.names 1 (omega arith))
+pub returns-in_ok-give_back-in-Emptied-clause-bad : goal.returns-in_ok-give_back-in-Emptied-clause-bad
+returns-in_ok-give_back-in-Emptied-clause-bad g c =
+    zero_named c.shrink-in-Emptied.result (g.S.PageStore.told c.args.store.now) c.args.self.now.height c.args.self.now.root
+    (c.shrink-in-Emptied.ensures.names 1 (omega arith))
 
-pub returns-in-Ok-give_back-clause-bad : goal.returns-in-Ok-give_back-clause-bad
-returns-in-Ok-give_back-clause-bad g c =
-    zero_named c.shrink-in-Ok-give_back.result (g.S.PageStore.told c.args.store.now) c.args.self.now.height c.args.self.now.root
-    (c.shrink-in-Ok-give_back.ensures.names 1 (omega arith))
+pub returns-in_ok-give_back-in-Only-clause-bad : goal.returns-in_ok-give_back-in-Only-clause-bad
+returns-in_ok-give_back-in-Only-clause-bad g c =
+    zero_named c.shrink-in-Only.result (g.S.PageStore.told c.args.store.now) c.args.self.now.height c.args.self.now.root
+    (c.shrink-in-Only.ensures.names 1 (omega arith))
