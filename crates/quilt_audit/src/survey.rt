@@ -49,16 +49,12 @@ pub fn audit<S: PageStore>(
         → walk_of told head.now.root head.now.height ≡ Whole records visited
         → Goes (λ old new. new ≤ old + length visited) (S.reads store.old) (S.reads store.new)) }
 {
-    match survey_tree(alloc, store, head) {
-        Err(e) => Err(e),
-        Ok(state) => {
-            let Surveying { used, checker } = state;
-            match checker.finish() {
-                Err(_) => Err(Stop::Memory),
-                Ok(None) => Err(Stop::Damaged { page: 0 }),
-                Ok(Some(catalog)) => Ok(Survey { catalog, used }),
-            }
-        }
+    let state = survey_tree(alloc, store, head)?;
+    let Surveying { used, checker } = state;
+    match checker.finish() {
+        Err(_) => Err(Stop::Memory),
+        Ok(None) => Err(Stop::Damaged { page: 0 }),
+        Ok(Some(catalog)) => Ok(Survey { catalog, used }),
     }
 }
 
@@ -76,7 +72,7 @@ fn survey_tree<S: PageStore>(alloc: Global, store: &mut S, head: &Head) -> Resul
     if head.height == 0 {
         return Ok(state);
     }
-    match survey_page(
+    survey_page(
         store,
         &mut state,
         head.root,
@@ -85,10 +81,8 @@ fn survey_tree<S: PageStore>(alloc: Global, store: &mut S, head: &Head) -> Resul
         &None,
         &None,
         &mut [0; 4096],
-    ) {
-        Err(e) => Err(e),
-        Ok(()) => Ok(state),
-    }
+    )?;
+    Ok(state)
 }
 
 /// No page visited, and no record found.

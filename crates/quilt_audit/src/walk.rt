@@ -66,15 +66,11 @@ fn survey_leaf<S: PageStore>(
     ensures names { IfErr result (NamesPage (S.size store.old)) }
     ensures left { OnlyReads S.PageStore store.old store.new result }
 {
-    match read_leaf(store, page, is_root, low, high, bytes) {
-        Err(e) => Err(e),
-        Ok(()) => {
-            mark(&mut state.used, page);
-            match feed(&mut state.checker, bytes) {
-                Err(_) => Err(Stop::Memory),
-                Ok(()) => Ok(()),
-            }
-        }
+    read_leaf(store, page, is_root, low, high, bytes)?;
+    mark(&mut state.used, page);
+    match feed(&mut state.checker, bytes) {
+        Err(_) => Err(Stop::Memory),
+        Ok(()) => Ok(()),
     }
 }
 
