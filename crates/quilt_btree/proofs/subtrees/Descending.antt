@@ -248,7 +248,7 @@ leads_on {k} at leaf high l = record {
   here_under = l.here_under;
 }
 
--- the floor is under the child, or else the last record before it
+-- the inner page at a page, and its child to which the key leads
 pub record AtFloor (old new : Option (List (List ℕ))) (page height child i : ℕ) (k : Key) (inner : Inner) : Type 0 where
   pub told : new ≡ old
   pub some : 1 ≤ height
@@ -321,6 +321,7 @@ module _ (page height child n : ℕ) (inner : Inner) (some : 1 ≤ height) (ne :
       ap (last_or None) end.records ∙ last_append None end.first end.here
       ∙ last_late (last_or None end.first) end.here x (f end.here (along_told old new child (height - 1) end.here t end.spells))
 
+-- the floor is under the child, or else the last record before it
 module _ (old new : Option (List (List ℕ))) (page height child i : ℕ) (k : Key) (inner : Inner) where
   pub floor_here : (r : Record) → AtFloor old new page height child i k inner
       → ((rs : List Record) → SpellsSubtree new child (height - 1) rs → Some r ≡ floor_of k rs) → (rs : List Record) → SpellsSubtree old page height rs
