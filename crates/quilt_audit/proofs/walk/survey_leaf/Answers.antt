@@ -22,10 +22,10 @@ pub returns-in_err-read_leaf-clause-spent : goal.returns-in_err-read_leaf-clause
 returns-in_err-read_leaf-clause-spent g c =
     let p = err_from_is_err_and c.from_residual.result c.from_residual.ensures.1 in
     rw p.1 (λ visited fresh. record {
-  now = c.args.page ∷ visited;
-  spent = Spent-page (g.S.PageStore.size c.args.store.now) visited (g.S.PageStore.reads c.args.store.now) (g.S.PageStore.reads c.read_leaf.new.store)
-      c.args.page c.requires.page.0 c.requires.page.1 fresh c.in_err-read_leaf.ensures.reads;
-})
+      now = c.args.page ∷ visited;
+      spent = Spent-page (g.S.PageStore.size c.args.store.now) visited (g.S.PageStore.reads c.args.store.now) (g.S.PageStore.reads c.read_leaf.new.store)
+          c.args.page c.requires.page.0 c.requires.page.1 fresh c.in_err-read_leaf.ensures.reads;
+    })
 
 pub returns-in-Err-clause-spent : goal.returns-in-Err-clause-spent
 returns-in-Err-clause-spent g c visited fresh = record {
