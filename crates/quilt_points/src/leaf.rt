@@ -10,6 +10,7 @@ ghost use Rattle.quilt_store.specs.Calls.{OnlyReads};
 ghost use Rattle.quilt_world.specs.Tale.{Goes};
 ghost use Rattle.quilt_store.specs.Stops.{IsNotDamage};
 ghost use Rattle.quilt_btree.specs.Spots.{IsSpotIf};
+ghost use Rattle.quilt_btree.specs.Stops.{NamesPage};
 ghost use Rattle.quilt_btree.specs.Trees.{IsRooted, IsTree};
 ghost use Rattle.quilt_points.specs.Layers.{HasPoints};
 ghost use Rattle.quilt_points.specs.Reads.{AreRecordsOf, IsHeld, IsRow};
@@ -50,6 +51,7 @@ pub(crate) fn points_of<S: PageStore>(
         → HasRow layer.level layer.bucket layer.number rs b)) }
     ensures pixels { IfOk result (λ o. IfSome o (λ v. All (λ p. is_pixel layer.level p.at ≡ true) v.items)) }
     ensures sound { IfErr result (λ e. (points : PointMap) → HasPoints (S.told store.old) tree.now layer.number layer.level layer.bucket points → IsNotDamage e) }
+    ensures zero { IfErr result (λ e. (rs : List AnyRecord) → IsTree (S.told store.old) tree.now rs → NamesPage 1 e) }
     ensures left { OnlyReads S.PageStore store.old store.new result }
     ensures reads { IfOk result (λ _. Goes (λ old new. new ≤ old + (6 + 3 * layer.bucket)) (S.reads store.old) (S.reads store.new)) }
 {
@@ -76,6 +78,7 @@ fn points_said(
     ensures pixels { IfOk result (λ o. IfSome o (λ v. All (λ p. is_pixel layer.level p.at ≡ true) v.items)) }
     ensures sound { IfErr result (λ e. (points : PointMap) → IsPointMap 2 layer.level layer.bucket points
         → AreRecordsOf layer.level layer.bucket layer.number points b records.now → IsNotDamage e) }
+    ensures zero { IfErr result (NamesPage 1) }
     ensures no_fault { IsErrOf result Device → ⊥ }
 {
     if records.is_empty() {
@@ -94,6 +97,7 @@ fn add_point(points: &mut Vec<Point>, r: &Record, layer: PointLayer, b: Block) -
         × (points.new.items ≡ points.old.items ++ option_to_list held)) }
     ensures pixels { OnOk result (All (λ p. is_pixel layer.level p.at ≡ true) points.old.items → All (λ p. is_pixel layer.level p.at ≡ true) points.new.items) }
     ensures sound { IfErr result (λ e. (held : Option AnyPoint) → IsRow layer.level layer.bucket layer.number b held r.now → IsNotDamage e) }
+    ensures zero { IfErr result (NamesPage 1) }
     ensures no_fault { IsErrOf result Device → ⊥ }
 {
     let Some((block, held)) = block_of(r, layer) else {

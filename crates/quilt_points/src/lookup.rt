@@ -13,6 +13,7 @@ ghost use Rattle.quilt_world.specs.Tale.{Goes};
 ghost use Rattle.quilt_store.specs.Stops.{IsNotDamage};
 ghost use Rattle.quilt_btree.specs.declared.tree.Tree.{Tree as AnyTree};
 ghost use Rattle.quilt_btree.specs.Lists.{floor_of};
+ghost use Rattle.quilt_btree.specs.Stops.{NamesPage};
 ghost use Rattle.quilt_btree.specs.Trees.{IsRooted, IsTree};
 ghost use Rattle.quilt_points.specs.Layers.{HasPoints, point_pixel_key};
 ghost use Rattle.quilt_points.specs.Reads.{IsBlockRead, IsRow, IsBlockRow, IsLabelIn, IsLabelFound, label_at};
@@ -50,6 +51,7 @@ pub fn find<S: PageStore>(
         → label ≡ finmap.get points at) }
     ensures answered { IfOk result (λ label. (rs : List AnyRecord) → IsTree (S.told store.old) tree.now rs → IsLabelFound level bucket layer rs at label) }
     ensures sound { IfErr result (λ e. (points : PointMap) → HasPoints (S.told store.old) tree.now layer level bucket points → IsNotDamage e) }
+    ensures zero { IfErr result (λ e. (rs : List AnyRecord) → IsTree (S.told store.old) tree.now rs → NamesPage 1 e) }
     ensures left { OnlyReads S.PageStore store.old store.new result }
     ensures reads { Goes (λ old new. new ≤ old + (if bucket == 1 then 6 else 9)) (S.reads store.old) (S.reads store.new) }
 {
@@ -85,6 +87,7 @@ pub(crate) fn block_around<S: PageStore>(
     ensures holds { IfOk result (λ v. in_block v.0 at ≡ true) }
     ensures pixel { IfOk result (λ v. IfSome v.1 (λ p. is_pixel layer.level p.at ≡ true)) }
     ensures sound { IfErr result (λ e. (points : PointMap) → HasPoints (S.told store.old) tree.now layer.number layer.level layer.bucket points → IsNotDamage e) }
+    ensures zero { IfErr result (λ e. (rs : List AnyRecord) → IsTree (S.told store.old) tree.now rs → NamesPage 1 e) }
     ensures left { OnlyReads S.PageStore store.old store.new result }
     ensures reads { Goes (λ old new. new ≤ old + 6) (S.reads store.old) (S.reads store.new) }
 {
@@ -113,6 +116,7 @@ pub(crate) fn block_said(
     ensures sound { IfErr result (λ e. (told : Option (List (List ℕ))) (t : AnyTree) (points : PointMap)
         → ((rs : List AnyRecord) → IsTree told t rs → found ≡ floor_of (point_pixel_key layer.number at) rs)
         → HasPoints told t layer.number layer.level layer.bucket points → IsNotDamage e) }
+    ensures zero { IfErr result (NamesPage 1) }
     ensures no_fault { IsErrOf result Device → ⊥ }
 {
     let Some(r) = found else {
@@ -196,6 +200,7 @@ fn label_in<S: PageStore>(
         → IsLabelIn layer.level layer.bucket layer.number rs b at label) }
     ensures sound { IfErr result (λ e. (points : PointMap) → HasPoints (S.told store.old) tree.now layer.number layer.level layer.bucket points
         → Contains (point_blocks layer.level layer.bucket points) b → in_block b at ≡ true → IsNotDamage e) }
+    ensures zero { IfErr result (λ e. (rs : List AnyRecord) → IsTree (S.told store.old) tree.now rs → NamesPage 1 e) }
     ensures left { OnlyReads S.PageStore store.old store.new result }
     ensures reads { Goes (λ old new. new ≤ old + 3) (S.reads store.old) (S.reads store.new) }
 {

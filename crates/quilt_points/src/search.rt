@@ -5,7 +5,9 @@ ghost use Rattle.quilt_store.specs.Calls.{OnlyReads};
 ghost use Rattle.quilt_store.specs.Stops.{IsNotDamage};
 ghost use Rattle.quilt_world.specs.Tale.{Goes};
 ghost use Rattle.quilt_btree.specs.Fingers.{IsFinger};
-ghost use Rattle.quilt_btree.specs.Trees.{IsRooted};
+ghost use Rattle.quilt_btree.specs.Stops.{NamesPage};
+ghost use Rattle.quilt_btree.specs.Trees.{IsRooted, IsTree};
+ghost use Rattle.quilt_record.specs.declared.record.Record.{Record as AnyRecord};
 ghost use Rattle.quilt_btree.specs.declared.tree.Tree.{Tree as AnyTree};
 ghost use Rattle.quilt_points.specs.Layers.{HasPoints};
 ghost use Rattle.quilt_points.specs.Searches.{IsSeen, IsSearch};
@@ -57,6 +59,7 @@ pub(crate) fn block_near<S: PageStore>(
     ensures holds { IfOk result (λ v. in_block v.0 at ≡ true) }
     ensures search { OnOk result (IsSearch (S.told store.old) tree.now layer.level layer.bucket layer.number search.new) }
     ensures sound { IfErr result (λ e. (points : PointMap) → HasPoints (S.told store.old) tree.now layer.number layer.level layer.bucket points → IsNotDamage e) }
+    ensures zero { IfErr result (λ e. (rs : List AnyRecord) → IsTree (S.told store.old) tree.now rs → NamesPage 1 e) }
     ensures left { OnlyReads S.PageStore store.old store.new result }
     ensures reads { Goes (λ old new. new ≤ old + 9) (S.reads store.old) (S.reads store.new) }
 {
@@ -85,6 +88,7 @@ fn block_anew<S: PageStore>(
     ensures holds { IfOk result (λ v. in_block v.0 at ≡ true) }
     ensures finger { OnOk result (IsFinger (S.told store.old) tree.now finger.new) }
     ensures sound { IfErr result (λ e. (points : PointMap) → HasPoints (S.told store.old) tree.now layer.number layer.level layer.bucket points → IsNotDamage e) }
+    ensures zero { IfErr result (λ e. (rs : List AnyRecord) → IsTree (S.told store.old) tree.now rs → NamesPage 1 e) }
     ensures left { OnlyReads S.PageStore store.old store.new result }
     ensures reads { Goes (λ old new. new ≤ old + 9) (S.reads store.old) (S.reads store.new) }
 {

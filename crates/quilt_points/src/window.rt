@@ -12,6 +12,7 @@ ghost use Rattle.quilt_record.specs.declared.record.Record.{Record as AnyRecord}
 ghost use Rattle.quilt_store.specs.Calls.{OnlyReads};
 ghost use Rattle.quilt_world.specs.Tale.{Goes};
 ghost use Rattle.quilt_store.specs.Stops.{IsNotDamage};
+ghost use Rattle.quilt_btree.specs.Stops.{NamesPage};
 ghost use Rattle.quilt_btree.specs.Trees.{IsRooted, IsTree};
 ghost use Rattle.quilt_points.specs.Layers.{HasPoints, point_entries};
 ghost use Rattle.quilt_points.specs.Reads.{ArePointsOf, IsHeld};
@@ -51,6 +52,7 @@ pub fn within<S: PageStore>(
     ensures covered { IfOk result (λ _. (rs : List AnyRecord) (p : AnyPixel) → IsTree (S.told store.old) tree.now rs → in_window w p ≡ true
         → is_pixel level p ≡ true → IsCovered level bucket layer rs p) }
     ensures sound { IfErr result (λ e. (points : PointMap) → HasPoints (S.told store.old) tree.now layer level bucket points → IsNotDamage e) }
+    ensures zero { IfErr result (λ e. (rs : List AnyRecord) → IsTree (S.told store.old) tree.now rs → NamesPage 1 e) }
     ensures left { OnlyReads S.PageStore store.old store.new result }
     ensures reads { IfOk result (λ _. (points : PointMap) → HasPoints (S.told store.old) tree.now layer level bucket points
         → Goes (λ old new. new ≤ old + (6 + 3 * bucket) * visited level bucket points w (whole level)) (S.reads store.old) (S.reads store.new)) }
@@ -93,6 +95,7 @@ fn add_within<S: PageStore>(
     ensures sound { IfErr result (λ e. (points : PointMap) → HasPoints (S.told store.old) tree.now layer.number layer.level layer.bucket points
         → IsVisited layer.level layer.bucket points b → IsNotDamage e) }
     ensures search { OnOk result (IsSearch (S.told store.old) tree.now layer.level layer.bucket layer.number search.new) }
+    ensures zero { IfErr result (λ e. (rs : List AnyRecord) → IsTree (S.told store.old) tree.now rs → NamesPage 1 e) }
     ensures left { OnlyReads S.PageStore store.old store.new result }
     ensures reads { OnOk result ((points : PointMap) (k : ℕ) → HasPoints (S.told store.old) tree.now layer.number layer.level layer.bucket points
         → IsVisited layer.level layer.bucket points b → b.side ≡ 2 ^ k
@@ -139,6 +142,7 @@ fn visit<S: PageStore>(
         → Contains (point_blocks layer.level layer.bucket points) b → ⊥)) }
     ensures sound { IfErr result (λ e. (points : PointMap) → HasPoints (S.told store.old) tree.now layer.number layer.level layer.bucket points → IsNotDamage e) }
     ensures search { OnOk result (IsSearch (S.told store.old) tree.now layer.level layer.bucket layer.number search.new) }
+    ensures zero { IfErr result (λ e. (rs : List AnyRecord) → IsTree (S.told store.old) tree.now rs → NamesPage 1 e) }
     ensures left { OnlyReads S.PageStore store.old store.new result }
     ensures reads { IfOk result (λ _. Goes (λ old new. new ≤ old + (6 + 3 * layer.bucket)) (S.reads store.old) (S.reads store.new)) }
 {
@@ -178,6 +182,7 @@ fn single_of<S: PageStore>(
         → HasRow layer.level layer.bucket layer.number rs b)) }
     ensures search { OnOk result (IsSearch (S.told store.old) tree.now layer.level layer.bucket layer.number search.new) }
     ensures sound { IfErr result (λ e. (points : PointMap) → HasPoints (S.told store.old) tree.now layer.number layer.level layer.bucket points → IsNotDamage e) }
+    ensures zero { IfErr result (λ e. (rs : List AnyRecord) → IsTree (S.told store.old) tree.now rs → NamesPage 1 e) }
     ensures left { OnlyReads S.PageStore store.old store.new result }
     ensures reads { Goes (λ old new. new ≤ old + 9) (S.reads store.old) (S.reads store.new) }
 {

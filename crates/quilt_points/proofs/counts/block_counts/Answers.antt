@@ -5,7 +5,7 @@ use Rattle.quilt_store.proofs.Reading.{only_reads_then, only_reads_same, read_on
 use Rattle.quilt_types.specs.Quadtrees.{point_blocks}
 use Rattle.quilt_loc.proofs.Blocks.{Holds-from}
 use Rattle.quilt_loc.proofs.Intervals.{code_held}
-use Rattle.quilt_points.proofs.Finds.{has_along}
+use Rattle.quilt_points.proofs.Finds.{has_along, tree_along}
 use Rattle.quilt_points.proofs.Countings.{seen_none, seen_next, all_counted, few_seen, tells_more, tells_less, tells_none, whole_end, pixel_inside, zeros_at}
 use Rattle.quilt_points.proofs.Countings.{zeros_le, counts_most}
 use Rattle.quilt_points.proofs.counts.block_counts.Goals as goal
@@ -96,3 +96,8 @@ pub returns-in_err-b-clause-left : goal.returns-in_err-b-clause-left
 returns-in_err-b-clause-left g c =
     let p = err_from_is_err_and c.from_residual.result c.from_residual.ensures.1 in
     rw (p.1, p.2) (only_reads_err _ (only_reads_then _ g.met.S.PageStore.goes_on _ _ _ c.loop-code.invariant.left c.in_err-b.ensures.left))
+
+pub returns-in_err-b-clause-zero : goal.returns-in_err-b-clause-zero
+returns-in_err-b-clause-zero g c =
+    let p = err_from_is_err_and c.from_residual.result c.from_residual.ensures.1 in
+    rw (p.1, p.2) (λ rs is. c.in_err-b.ensures.zero rs (tree_along _ _ c.args.tree.now rs c.loop-code.invariant.left.told is))

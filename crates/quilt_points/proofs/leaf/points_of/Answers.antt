@@ -3,7 +3,7 @@ use Rattle.std.proofs.lemmas.Result.{IfOk-weaker, IfErr-weaker, err_from_is_err_
 use Rattle.quilt_record.specs.declared.record.Record.{Record}
 use Rattle.quilt_points.specs.Reads.{AreRecordsOf}
 use Rattle.quilt_points.proofs.Bounds.{if_ok_of, reads_range}
-use Rattle.quilt_points.proofs.Finds.{if_some_weaker}
+use Rattle.quilt_points.proofs.Finds.{if_some_weaker, zero_named}
 use Rattle.quilt_points.proofs.Ranges.{rows_read, range_there}
 use Rattle.quilt_points.proofs.leaf.points_of.Goals as goal
 
@@ -44,3 +44,11 @@ returns-clause-row g c =
       there = range_there _ _ _ rs h.row (subst (λ (l : List Record). Contains l h.row) (c.deref.ensures.value ∙ c.in_ok-records.ensures.range rs is) h.there);
       is_row = h.is_row;
     }) f) c.points_said.ensures.row
+
+pub returns-in_err-records-clause-zero : goal.returns-in_err-records-clause-zero
+returns-in_err-records-clause-zero g c =
+    let p = err_from_is_err_and c.from_residual.result c.from_residual.ensures.1 in
+    rw (p.1, p.2) (λ rs is. zero_named _ (c.in_err-records.ensures.sound rs is))
+
+pub returns-clause-zero : goal.returns-clause-zero
+returns-clause-zero g c = IfErr-weaker c.points_said.result _ _ (λ e zero rs is. zero) c.points_said.ensures.zero

@@ -2,7 +2,7 @@ use Rattle.std.proofs.Common.{ℕ, List, Option, ◌∙◌, sym, subst, arith}
 use Rattle.std.proofs.lemmas.Result.{IfOk-weaker, IfErr-weaker}
 use Rattle.quilt_btree.specs.Trees.{IsTree}
 use Rattle.quilt_store.proofs.Reading.{only_reads_then}
-use Rattle.quilt_points.proofs.Finds.{one_found_at, has_along}
+use Rattle.quilt_points.proofs.Finds.{one_found_at, has_along, tree_along}
 use Rattle.quilt_points.proofs.lookup.find.Goals as goal
 
 pub returns-then-bucket-eq1-clause-label : goal.returns-then-bucket-eq1-clause-label
@@ -39,3 +39,7 @@ returns-else-bucket-eq1-clause-answered g c =
       one = λ e. absurd (c.if-bucket-eq1.false e);
       more = λ lt. f rs (subst (λ (o : Option (List (List ℕ))). IsTree o c.args.tree.now rs) (sym c.in_ok-b.ensures.left.told) is);
     }) c.label_in.ensures.answered
+
+pub returns-else-bucket-eq1-clause-zero : goal.returns-else-bucket-eq1-clause-zero
+returns-else-bucket-eq1-clause-zero g c =
+    IfErr-weaker c.label_in.result _ _ (λ e f rs is. f rs (tree_along _ _ c.args.tree.now rs c.in_ok-b.ensures.left.told is)) c.label_in.ensures.zero

@@ -2,7 +2,7 @@ use Rattle.std.proofs.Common.{[], None, refl, sym, ◌∙◌, ap}
 use Rattle.std.proofs.lemmas.Option.{none-some}
 use Rattle.std.proofs.lemmas.Result.{err_from_is_err_and}
 use Rattle.quilt_record.specs.declared.record.Record.{Record}
-use Rattle.quilt_points.proofs.Finds.{if_some_at, none_read, label_read, label_same, label_none, label_some}
+use Rattle.quilt_points.proofs.Finds.{if_some_at, none_read, label_read, label_same, label_none, label_some, zero_named}
 use Rattle.quilt_points.proofs.lookup.label_in.Goals as goal
 
 pub returns-in_err-value-clause-sound : goal.returns-in_err-value-clause-sound
@@ -43,3 +43,8 @@ returns-in-Some-point_of-clause-answered g c rs is =
     label_some c.args.layer.level c.args.layer.bucket c.args.layer.number rs c.args.b c.args.at _ _ c.in-Some.value c.in-Some-point_of.p
     (ap (λ (r : Record). r.key) (c.point_record-like.ensures.written [])) (c.in_ok-value.ensures.value rs is) c.in-Some.is
     (if_some_at c.point_of.result _ c.in-Some-point_of.p c.in-Some-point_of.is c.point_of.ensures.row)
+
+pub returns-in_err-value-clause-zero : goal.returns-in_err-value-clause-zero
+returns-in_err-value-clause-zero g c =
+    let p = err_from_is_err_and c.from_residual.result c.from_residual.ensures.1 in
+    rw (p.1, p.2) (λ rs is. zero_named _ (c.in_err-value.ensures.sound rs is))

@@ -3,6 +3,7 @@ use Rattle.std.proofs.lemmas.Result.{IfErr-weaker, err_from_is_err_and}
 use Rattle.quilt_record.specs.declared.key.Key.{Key}
 use Rattle.quilt_btree.specs.Lists.{floor_of}
 use Rattle.quilt_points.proofs.Singles.{seen_at}
+use Rattle.quilt_points.proofs.Finds.{zero_named}
 use Rattle.quilt_points.proofs.search.block_anew.Goals as goal
 
 pub returns-in_err-found-clause-sound : goal.returns-in_err-found-clause-sound
@@ -22,3 +23,11 @@ returns-clause-sound g c =
     IfErr-weaker c.block_said.result _ _
     (λ v f points h. f (g.S.PageStore.told c.args.store.now) c.args.tree.now points
     (λ rs is. c.in_ok-found.ensures.floor rs is ∙ ap (λ (k : Key). floor_of k rs) c.key_behind-k.ensures) h) c.block_said.ensures.sound
+
+pub returns-in_err-found-clause-zero : goal.returns-in_err-found-clause-zero
+returns-in_err-found-clause-zero g c =
+    let p = err_from_is_err_and c.from_residual.result c.from_residual.ensures.1 in
+    rw (p.1, p.2) (λ rs is. zero_named _ (c.in_err-found.ensures.sound rs is))
+
+pub returns-clause-zero : goal.returns-clause-zero
+returns-clause-zero g c = IfErr-weaker c.block_said.result _ _ (λ e zero rs is. zero) c.block_said.ensures.zero

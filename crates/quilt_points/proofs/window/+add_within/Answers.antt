@@ -7,7 +7,7 @@ use Rattle.quilt_types.specs.Plane.{in_window}
 use Rattle.quilt_loc.proofs.Blocks.{IsBlock-up}
 use Rattle.quilt_points.proofs.Quarters.{quarter_at}
 use Rattle.quilt_btree.specs.Trees.{IsRooted, IsTree}
-use Rattle.quilt_points.proofs.Finds.{has_along}
+use Rattle.quilt_points.proofs.Finds.{has_along, tree_along}
 use Rattle.quilt_edits.proofs.Lists.{member_at}
 use Rattle.quilt_points.proofs.Unions.{all_none}
 use Rattle.quilt_points.proofs.Windows.{none_of, open_pixel, open_quarter, found_next, found_all, quarter_pixel, covered_next}
@@ -159,3 +159,8 @@ returns-then-branch-clause-reads g t c points k h o e =
 
 pub returns-clause-search : goal.returns-clause-search
 returns-clause-search g t c = c.loop-q.invariant.search
+
+pub returns-in_err-add_within-clause-zero : goal.returns-in_err-add_within-clause-zero
+returns-in_err-add_within-clause-zero g t c =
+    let p = err_from_is_err_and c.from_residual-in_err-add_within.result c.from_residual-in_err-add_within.ensures.1 in
+    rw (p.1, p.2) (λ rs is. c.in_err-add_within.ensures.zero rs (tree_along _ _ c.args.tree.now rs c.loop-q.invariant.left.told is))
