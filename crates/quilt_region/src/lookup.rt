@@ -40,6 +40,7 @@ pub fn read_list<S: PageStore>(
     ensures list { IfOk result (λ l. (g : Grid) → HasRegion (S.told store.old) tree.now layer level g → l ≡ record { level = level; grid = g }) }
     ensures level { IfOk result (λ l. l.level ≡ level) }
     ensures sound { IfErr result (λ e. (g : Grid) → HasRegion (S.told store.old) tree.now layer level g → IsNotDamage e) }
+    ensures zero { IfErr result (λ e. (rs : List Record) → IsTree (S.told store.old) tree.now rs → NamesPage 1 e) }
     ensures left { OnlyReads S.PageStore store.old store.new result }
     ensures reads { IfOk result (λ l. (g : Grid) → HasRegion (S.told store.old) tree.now layer level g
         → Goes (λ old new. new ≤ old + 6 + 3 * length (leaves_by_code level g)) (S.reads store.old) (S.reads store.new)) }
