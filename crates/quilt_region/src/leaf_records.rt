@@ -87,6 +87,7 @@ pub fn put_records(
     ensures colours { OnOk result ((g : Grid) (f : AnyPixel → ℕ) → records.now ≡ records_within level layer g b
         → ((p : AnyPixel) → Holds b p → f p ≡ colour_at level g p) → HasColours level f maker.old.colours → HasColours level f maker.new.colours) }
     ensures sound { IfErr result (λ e. (g : Grid) → records.now ≡ records_within level layer g b → IsCutOut level g b → IsNotDamage e) }
+    ensures zero { IfErr result (NamesPage 1) }
     ensures no_fault { IsErrOf result Device → ⊥ }
 {
     let last = end_of(b);
