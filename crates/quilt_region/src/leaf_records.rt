@@ -7,6 +7,7 @@ ghost use Rattle.quilt_types.specs.Plane.{Holds, IsBlock};
 ghost use Rattle.quilt_types.specs.Layers.{Grid, IsGrid, colour_at};
 ghost use Rattle.quilt_loc.specs.Codes.{code_from, code_to};
 ghost use Rattle.quilt_blocks.specs.Cutting.{leaf_pair};
+ghost use Rattle.quilt_btree.specs.Stops.{NamesPage};
 ghost use Rattle.quilt_store.specs.Stops.{IsNotDamage};
 ghost use Rattle.quilt_region.specs.Painting.{HasColours};
 ghost use Rattle.quilt_spell.specs.OfLayer.{leaf_record};
@@ -45,6 +46,7 @@ pub fn list_of(alloc: Global, records: &[Record], layer: u8, level: u8) -> Resul
     ensures list { IfOk result (λ l. (g : Grid) → IsGrid 2 level g → records.now ≡ region_records level layer g → l ≡ record { level = level; grid = g }) }
     ensures level { IfOk result (λ l. l.level ≡ level) }
     ensures sound { IfErr result (λ e. (g : Grid) → records.now ≡ region_records level layer g → IsNotDamage e) }
+    ensures zero { IfErr result (NamesPage 1) }
     ensures no_fault { IsErrOf result Device → ⊥ }
 {
     let mut maker = Maker::new(alloc, level);
@@ -85,6 +87,7 @@ pub fn put_records(
     ensures colours { OnOk result ((g : Grid) (f : AnyPixel → ℕ) → records.now ≡ records_within level layer g b
         → ((p : AnyPixel) → Holds b p → f p ≡ colour_at level g p) → HasColours level f maker.old.colours → HasColours level f maker.new.colours) }
     ensures sound { IfErr result (λ e. (g : Grid) → records.now ≡ records_within level layer g b → IsCutOut level g b → IsNotDamage e) }
+    ensures zero { IfErr result (NamesPage 1) }
     ensures no_fault { IsErrOf result Device → ⊥ }
 {
     let last = end_of(b);

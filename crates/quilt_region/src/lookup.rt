@@ -7,6 +7,7 @@ ghost use Rattle.quilt_world.specs.Tale.{Goes};
 ghost use Rattle.quilt_blocks.specs.Cutting.{leaves_by_code, leaf_pair};
 ghost use Rattle.quilt_btree.specs.Lists.{floor_of};
 ghost use Rattle.quilt_btree.specs.Floors.{floor_pages, HoldsFirst, ReadsNone};
+ghost use Rattle.quilt_btree.specs.Stops.{NamesPage};
 ghost use Rattle.quilt_store.specs.Stops.{IsNotDamage};
 ghost use Rattle.quilt_btree.specs.Trees.{IsRooted, IsTree};
 ghost use Rattle.quilt_region.specs.Answered.{IsColourFound};
@@ -39,6 +40,7 @@ pub fn read_list<S: PageStore>(
     ensures list { IfOk result (λ l. (g : Grid) → HasRegion (S.told store.old) tree.now layer level g → l ≡ record { level = level; grid = g }) }
     ensures level { IfOk result (λ l. l.level ≡ level) }
     ensures sound { IfErr result (λ e. (g : Grid) → HasRegion (S.told store.old) tree.now layer level g → IsNotDamage e) }
+    ensures zero { IfErr result (λ e. (rs : List Record) → IsTree (S.told store.old) tree.now rs → NamesPage 1 e) }
     ensures left { OnlyReads S.PageStore store.old store.new result }
     ensures reads { IfOk result (λ l. (g : Grid) → HasRegion (S.told store.old) tree.now layer level g
         → Goes (λ old new. new ≤ old + 6 + 3 * length (leaves_by_code level g)) (S.reads store.old) (S.reads store.new)) }
@@ -67,6 +69,7 @@ pub fn colour_at<S: PageStore>(
     ensures colour { IfOk result (λ c. (g : Grid) → HasRegion (S.told store.old) tree.now layer level g → c.0 ≡ colour_in level g p) }
     ensures answered { IfOk result (λ c. (rs : List Record) → IsTree (S.told store.old) tree.now rs → IsColourFound level layer rs p c.0) }
     ensures sound { IfErr result (λ e. (g : Grid) → HasRegion (S.told store.old) tree.now layer level g → IsNotDamage e) }
+    ensures zero { IfErr result (λ e. (rs : List Record) → IsTree (S.told store.old) tree.now rs → NamesPage 1 e) }
     ensures left { OnlyReads S.PageStore store.old store.new result }
     ensures reads { Goes (λ old new. new ≤ old + 6) (S.reads store.old) (S.reads store.new) }
     ensures held { OnOk result ((rs : List Record) → IsTree (S.told store.old) tree.now rs
@@ -98,6 +101,7 @@ pub(crate) fn leaf_with<S: PageStore>(
     ensures row { IfOk result (λ l. (rs : List Record) → IsTree (S.told store.old) tree.now rs
         → floor_of (pixel_key layer p) rs ≡ Some (leaf_record level layer (leaf_pair l))) }
     ensures sound { IfErr result (λ e. (g : Grid) → HasRegion (S.told store.old) tree.now layer level g → IsNotDamage e) }
+    ensures zero { IfErr result (λ e. (rs : List Record) → IsTree (S.told store.old) tree.now rs → NamesPage 1 e) }
     ensures left { OnlyReads S.PageStore store.old store.new result }
     ensures reads { Goes (λ old new. new ≤ old + 6) (S.reads store.old) (S.reads store.new) }
     ensures held { OnOk result ((rs : List Record) → IsTree (S.told store.old) tree.now rs
