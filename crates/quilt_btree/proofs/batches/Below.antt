@@ -244,12 +244,3 @@ module _ (high : Option Key) (run : List Edit) where
   fails_leaf (Ok n) told free page height is_root one f = f
   fails_leaf (Err e) told free page height is_root one f =
       λ b rs used top can. f b rs used top (subst (λ h. CanEdit told free page h is_root b rs used) one can)
-
-  -- the edits that the leaf does not take
-  pub fails_here : (top : Option Key) (leaf rs : List Record) (n : ℕ) → top ≡ high → leaf ≡ rs → are_due (take n run) leaf ≡ false
-      → list_all (is_below high) (edit_keys (take n run)) ≡ true → Fails run top rs
-  fails_here top leaf rs n e same missing under = record {
-    number = n;
-    missing = subst (λ (l : List Record). are_due (take n run) l ≡ false) same missing;
-    under = subst (λ o. list_all (is_below o) (edit_keys (take n run)) ≡ true) (sym e) under;
-  }

@@ -387,9 +387,3 @@ cost_is [] = refl
 cost_is (edit.Remove k ∷ run) = let h = cost_is run in omega arith
 cost_is (edit.Put r ∷ run) = let h = cost_is run in omega arith
 cost_is (edit.Replace r ∷ run) = let h = cost_is run in omega arith
-
-pub more_few : (run : List Edit) → more run ≤ length run
-more_few [] = omega arith
-more_few (edit.Remove k ∷ run) = let h = more_few run in omega arith
-more_few (edit.Put r ∷ run) = let h = more_few run in omega arith
-more_few (edit.Replace r ∷ run) = let h = more_few run in omega arith

@@ -230,10 +230,6 @@ pub named_along : {T : Type 0} (r : Result T Stop) (told now : Option (List (Lis
     → IfErr r (λ e. e ≢ Damaged 0 → NamesBad now height page e) → IfErr r (λ e. e ≢ Damaged 0 → NamesBad told height page e)
 named_along r told now height page same f = subst (λ t. IfErr r (λ e. e ≢ Damaged 0 → NamesBad t height page e)) same f
 
--- what is named of two pages of which one was only read
-spare_above : (q named page : ℕ) → named ≡ page → page < 1 → q < named + 1 → q ≡ 0
-spare_above q named page same lt le = omega arith
-
 module _ (told now : Option (List (List ℕ))) (height page : ℕ) (e : Stop) (same : now ≡ told) where
   -- where the store tells the same
   pub names_along : (e ≢ Damaged 0 → NamesBad now height page e) → e ≢ Damaged 0 → NamesBad told height page e
