@@ -1,6 +1,6 @@
 -- A leaf that is edited where it lies.
-use Rattle.std.proofs.Common.{◌≡◌, ℕ, ◌+◌, ◌≤◌, Bool, false, List, [], ◌∷◌, length, take, Option, Some, None, IfSome, slice_index_or, slice_set}
-use Rattle.std.proofs.Common.{refl, sym, ◌∙◌, ap, subst, arith}
+use Rattle.std.proofs.Common.{◌≡◌, ℕ, ◌≤◌, Bool, false, List, [], ◌∷◌, length, take, Option, Some, None, IfSome, slice_index_or, slice_set}
+use Rattle.std.proofs.Common.{refl, sym, ◌∙◌, ap, subst}
 use Rattle.std.specs.Prelude.{if◌then◌else◌}
 use Rattle.std.proofs.lemmas.List.{set-get_or}
 use Rattle.quilt_record.specs.declared.key.Key.{Key}
@@ -13,7 +13,7 @@ use Rattle.quilt_btree.specs.Batches.{edit_all, EditsLeaf, DidEdit}
 use Rattle.quilt_btree.specs.Edits.{multiplicity, CanEdit}
 use Rattle.quilt_btree.specs.Subtree.{Subtree}
 use Rattle.quilt_btree.proofs.batches.Below.{LieWithin, leaf_edited, all_first}
-use Rattle.quilt_btree.proofs.lists.Counts.{times_here}
+use Rattle.quilt_btree.proofs.lists.Counts.{once_here}
 use Rattle.quilt_btree.proofs.stores.Moves.{used_not_free}
 use Rattle.quilt_btree.proofs.stores.Writes.{WritesPage}
 use Rattle.quilt_btree.proofs.ways.Forks.{are_of}
@@ -24,10 +24,7 @@ pub leaf_taken : (told : Option (List (List ℕ))) (free : ℕ → Bool) (page :
 leaf_taken told free page is_root b rs used can =
     let s : Subtree can.pages 1 is_root (page, b) rs used = can.subtree in
     used_not_free free used page can.apart
-    (subst (λ u. 1 ≤ multiplicity page u) (sym s.is_used) (first (multiplicity page (page ∷ [])) (times_here page [])))
-  where
-    first : (t : ℕ) → t ≡ 1 + 0 → 1 ≤ t
-    first t e = omega arith
+    (subst (λ u. 1 ≤ multiplicity page u) (sym s.is_used) (once_here page))
 
 module _ (told : Option (List (List ℕ))) (free : ℕ → Bool) (page : ℕ) (is_root : Bool) (b : Bounds) (rs : List Record) (used old : List ℕ)
     (shown : IfSome told (λ pages. old ≡ slice_index_or pages page [])) where

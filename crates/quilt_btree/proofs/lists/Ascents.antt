@@ -120,7 +120,7 @@ module _ (ks : List Key) (k : Key) where
   fits_behind i j l lt asc f e h =
       fits_from i lt asc true (is_lt (key_cmp k l)) (past_first ks i k f) (ap (is_before_all k) (ap (slice_get ks) (sym e) ∙ h))
 
-no_more : (ks : List Key) (i : ℕ) → length ks ≤ i → slice_get ks i ≡ None
+pub no_more : (ks : List Key) (i : ℕ) → length ks ≤ i → slice_get ks i ≡ None
 no_more [] i h = refl
 no_more (k ∷ ks) zero h = absurd (omega arith)
 no_more (k ∷ ks) (suc i) h = no_more ks i (omega arith)

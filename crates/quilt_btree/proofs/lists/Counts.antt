@@ -40,6 +40,9 @@ other_test q p h = grind (arith, nat_tests)
 pub times_here : (p : ℕ) (used : List ℕ) → multiplicity p (p ∷ used) ≡ 1 + multiplicity p used
 times_here p used = ap (λ b. cond {A = ℕ} b 1 0 + multiplicity p used) (self_test p)
 
+pub once_here : (p : ℕ) → 1 ≤ multiplicity p (p ∷ [])
+once_here p = let e = times_here p [] in omega arith
+
 pub times_other : (p q : ℕ) (used : List ℕ) → p ≢ q → multiplicity p (q ∷ used) ≡ multiplicity p used
 times_other p q used ne = ap (λ b. cond {A = ℕ} b 1 0 + multiplicity p used) (other_test q p ne) ∙ nothing (multiplicity p used)
   where

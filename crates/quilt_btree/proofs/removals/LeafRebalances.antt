@@ -20,6 +20,7 @@ use Rattle.quilt_btree.proofs.subtrees.Trees.{keys_append, subtree_rises}
 use Rattle.quilt_btree.proofs.stores.Pairs.{is_joined, are_written, left_taken, right_taken}
 use Rattle.quilt_btree.proofs.lists.RisingApart.{rises_apart}
 use Rattle.quilt_btree.proofs.removals.LeafRemovals.{tells_on, has_many, many_enough}
+use Rattle.quilt_btree.proofs.lists.Lists.{begins_with}
 
 -- the two leaves, as they were read
 pub record AreLeaves (told : Option (List (List ℕ))) (free : ℕ → Bool) (left : ℕ) (key : Key) (right : ℕ) (b : Bounds) (rs : List Record)
@@ -104,11 +105,6 @@ pub record LeavesPart (told mid now_told : Option (List (List ℕ))) (free now :
   pub tells : Goes (λ old new. new ≡ slice_set (slice_set old left bytes) right others) mid now_told
   pub frees : now ≡ free
 
--- a list from its first record on
-begins : (rest : List Record) (x : Record) → slice_get rest 0 ≡ Some x → (more : List Record) × (rest ≡ x ∷ more)
-begins [] x h = cc
-begins (y ∷ ys) x h = let same : y ≡ x = cc in (ys, ap (λ z. z ∷ ys) same)
-
 module _ (told mid now_told : Option (List (List ℕ))) (free now : ℕ → Bool) (size left : ℕ) (key : Key) (right height : ℕ) (b : Bounds)
     (rs : List Record) (used : List ℕ) (l r : List Record) (bytes : List ℕ) where
   pub leaves_joined : (was : ℕ → Bool) (all : List Record) → height ≡ 1 → LeavesJoin told mid now_told free was now size left right l r all bytes
@@ -150,7 +146,7 @@ module _ (told mid now_told : Option (List (List ℕ))) (free now : ℕ → Bool
       let news = slice_set (slice_set m.pages left bytes) right others in
       let all : rs ≡ first ++ rest = a.records ∙ sym c.records in
       let enough = c.enough a.first_many a.rest_many in
-      let from = begins rest start c.starts in
+      let from = begins_with rest start c.starts in
       let rises : IsRising b (keys_of first ++ start.key ∷ keys_of from.0) =
       subst (IsRising b) (ap (λ x. keys_of first ++ keys_of x) from.1)
       (subst (IsRising b) (keys_append first rest) (subst (λ x. IsRising b (keys_of x)) all a.rises)) in

@@ -14,7 +14,7 @@ use Rattle.quilt_record.specs.Lists.{has_key, without}
 use Rattle.quilt_btree.specs.Subtree.{Subtree}
 use Rattle.quilt_btree.specs.Trees.{SpellsSubtree, ReadsLeaf}
 use Rattle.quilt_btree.specs.Edits.{multiplicity, Becomes, CanEdit, IsNearlyFull, DidRemove}
-use Rattle.quilt_btree.proofs.lists.Counts.{times_here}
+use Rattle.quilt_btree.proofs.lists.Counts.{times_here, once_here}
 use Rattle.quilt_btree.proofs.stores.Moves.{moves_written, used_account, used_not_free}
 use Rattle.quilt_btree.proofs.ways.Leaves.{gap_any, found_any, without_found}
 use Rattle.quilt_btree.proofs.lists.Rising.{all_parts, all_append}
@@ -78,11 +78,8 @@ leaf_becomes {pages} free {page} r {used} bytes s inside is enough within = reco
     within = within;
     is_used = s.is_used;
   };
-  moves = moves_written pages free used page bytes (used_account free used page (subst (λ l. 1 ≤ multiplicity page l) (sym s.is_used) (some page)));
+  moves = moves_written pages free used page bytes (used_account free used page (subst (λ l. 1 ≤ multiplicity page l) (sym s.is_used) (once_here page)));
 }
-  where
-    some : (page : ℕ) → 1 ≤ multiplicity page (page ∷ [])
-    some page = let e = times_here page [] in omega arith
 
 pub leaf_same : {told : Option (List (List ℕ))} {free : ℕ → Bool} {page : ℕ} {is_root : Bool} {b : Bounds} {rs leaf : List Record} {used : List ℕ}
     → CanEdit told free page 1 is_root b rs used → ReadsLeaf told page leaf → leaf ≡ rs

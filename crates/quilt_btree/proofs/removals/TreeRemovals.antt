@@ -25,7 +25,7 @@ use Rattle.quilt_btree.proofs.subtrees.Whole.{no_records}
 use Rattle.quilt_btree.proofs.removals.LeafRemovals.{tells_on}
 use Rattle.quilt_btree.proofs.subtrees.Holdings.{subtree_some}
 use Rattle.quilt_btree.proofs.removals.Underfulls.{any_root, page_used}
-use Rattle.quilt_btree.proofs.growth.TreeGrowth.{everywhere, FreeIn, IsRegrown, whole_from, whole_again}
+use Rattle.quilt_btree.proofs.growth.TreeGrowth.{everywhere, FreeIn, IsRegrown, whole_from, whole_again, some_height}
 use Rattle.quilt_btree.proofs.lists.Withouts.{without_missing, without_one_fewer, without_none}
 
 -- the tree and the store of a removal
@@ -34,9 +34,6 @@ pub record IsRemoving (free : ℕ → Bool) (size : ℕ) (t : Tree) : Type 0 whe
   pub least : 16 ≤ size
   pub inside : FreeIn free size
   pub above : t.height ≢ 0
-
-some_height : (h : ℕ) → h ≢ 0 → 1 ≤ h
-some_height h ne = omega arith
 
 -- what a removal below the root says
 abbrev pub UnderRoot : Key → (told now_told : Option (List (List ℕ))) (free now : ℕ → Bool) → Tree → Removed → Type 0

@@ -13,13 +13,14 @@ use Rattle.quilt_node.specs.Tree.{Bounds, bounded, is_above, is_below, are_withi
 use Rattle.quilt_btree.specs.Subtree.{Row, Subtree}
 use Rattle.quilt_btree.specs.Edits.{multiplicity, IsNearlyFull}
 use Rattle.quilt_btree.specs.Rebalancing.{IsNear, CanRebalance, Partly, HasUnderfull}
-use Rattle.quilt_btree.proofs.lists.Counts.{times-append, times-three, times_here, equal_pages}
+use Rattle.quilt_btree.proofs.lists.Counts.{times-append, times-three, equal_pages, once_here}
 use Rattle.quilt_btree.proofs.stores.Moves.{AreApart, apart_some}
 use Rattle.quilt_btree.proofs.removals.LeafRemovals.{not_root}
 use Rattle.quilt_btree.proofs.rows.Places.{front, from_keys, high_from, at_place}
 use Rattle.quilt_btree.proofs.subtrees.Descents.{keys_behind}
 use Rattle.quilt_btree.proofs.subtrees.Trees.{inner_list, ascending_first}
 use Rattle.quilt_btree.proofs.rows.Middles.{rear, gap_bounds, bounded_two, CutTwo, cut_two, two_rows}
+use Rattle.quilt_btree.proofs.rows.Splices.{page_in}
 
 pub weaker : (pages : List (List ℕ)) (height : ℕ) (r : Bool) (at : ℕ × Bounds) (rs : List Record) (used : List ℕ) → Subtree pages height r at rs used
     → Subtree pages height true at rs used
@@ -82,14 +83,8 @@ module _ (pages : List (List ℕ)) (height underfull : ℕ) where
 pub page_used : (pages : List (List ℕ)) (height : ℕ) (r : Bool) (at : ℕ × Bounds) (rs : List Record) (used : List ℕ)
     → Subtree pages height r at rs used → 1 ≤ multiplicity at.0 used
 page_used pages zero r at rs used s = absurd s
-page_used pages (suc zero) r at rs used s = subst (λ u. 1 ≤ multiplicity at.0 u) (sym s.is_used) (one at.0)
-  where
-    one : (p : ℕ) → 1 ≤ multiplicity p (p ∷ [])
-    one p = let e = times_here p [] in omega arith
-page_used pages (suc (suc h)) r at rs used s = subst (λ u. 1 ≤ multiplicity at.0 u) (sym s.is_used) (last at.0 s.under)
-  where
-    last : (p : ℕ) (under : List ℕ) → 1 ≤ multiplicity p (under ++ p ∷ [])
-    last p under = let e = times_here p [] in let f = times-append p under (p ∷ []) in omega arith
+page_used pages (suc zero) r at rs used s = subst (λ u. 1 ≤ multiplicity at.0 u) (sym s.is_used) (once_here at.0)
+page_used pages (suc (suc h)) r at rs used s = subst (λ u. 1 ≤ multiplicity at.0 u) (sym s.is_used) (page_in at.0 s.under)
 
 module _ (pages : List (List ℕ)) (height underfull : ℕ) where
   whole_case : (at : ℕ × Bounds) (rs : List Record) (used : List ℕ) (r : Bool) → (at.0 == underfull) ≡ r → multiplicity underfull used ≡ 0

@@ -20,7 +20,7 @@ use Rattle.quilt_btree.specs.Trees.{SpellsSubtree, ReadsInner, IsTree}
 use Rattle.quilt_btree.specs.Floors.{child_place, last_pages, floor_pages, TouchesInTurn, HoldsFirst, ReadsNone}
 use Rattle.quilt_btree.specs.Searches.{IsFork, AreOf, IsLeafFor}
 use Rattle.quilt_btree.proofs.lists.Rising.{all_append}
-use Rattle.quilt_btree.proofs.lists.Lists.{IsAmong, value_between}
+use Rattle.quilt_btree.proofs.lists.Lists.{IsAmong, value_between, some_same}
 use Rattle.quilt_btree.proofs.stores.Held.{IsTouched}
 use Rattle.quilt_btree.proofs.subtrees.Descending.{height_above, leads_below, along_told, AtFloor, ends_below, last_up}
 use Rattle.quilt_btree.proofs.subtrees.Trees.{inner_list, leaf_list}
@@ -52,14 +52,11 @@ page_here {page = page} {height = height} {size = size} {bytes = bytes} {rs = rs
     let long : length s.pages ≡ size = subst (λ o. IfSome o (λ pages. length pages ≡ size)) s.is_told r.many in
     record {
       inner = t.inner;
-      reads = λ pages is. subst (λ ps. inner_of (length ps) (slice_index_or ps page []) ≡ Some t.inner) (one s.pages pages (sym s.is_told ∙ is))
+      reads = λ pages is. subst (λ ps. inner_of (length ps) (slice_index_or ps page []) ≡ Some t.inner) (some_same s.pages pages (sym s.is_told ∙ is))
           t.page;
       is = ap (inner_of size) same ∙ ap (λ m. inner_of m (slice_index_or s.pages page [])) (sym long) ∙ t.page;
       is_height = t.is_height ∙ sym n.1;
     }
-  where
-    one : (ps qs : List (List ℕ)) → Some ps ≡ Some qs → ps ≡ qs
-    one ps qs h = cc
 
 pub leaf_here : (told : Option (List (List ℕ))) (page height : ℕ) (bytes : List ℕ) (rs : List Record) → height ≡ 1 → AreOf told page bytes
     → SpellsSubtree told page height rs → leaf_of bytes ≡ Some rs
@@ -170,9 +167,6 @@ pub record Ended (old new : Option (List (List ℕ))) (page height child : ℕ) 
   pub at : AtLast old new page height child (length inner.children) inner
   pub here : List Record
   pub spells : SpellsSubtree new child (height - 1) here
-
-some_same : (c d : ℕ) → Some c ≡ Some d → c ≡ d
-some_same c d h = cc
 
 module _ (page height : ℕ) (bytes : List ℕ) where
   pub leaf_led : (told : Option (List (List ℕ))) (k : Key) → height ≡ 1 → AreOf told page bytes → (rs : List Record) → SpellsSubtree told page height rs

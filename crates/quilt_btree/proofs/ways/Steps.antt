@@ -1,7 +1,7 @@
 -- The way down to a leaf in the bytes of pages, with the bound below which the leaf's keys stay.
-use Rattle.std.proofs.Common.{◌≡◌, ℕ, zero, suc, ◌+◌, ◌-◌, ◌<◌, ◌≤◌, Bool, true, false, List, [], ◌∷◌, drop, length, Option, Some, None, Result, Ok, Err}
+use Rattle.std.proofs.Common.{◌≡◌, ℕ, zero, suc, ◌+◌, ◌-◌, ◌<◌, ◌≤◌, Bool, true, false, List, [], ◌∷◌, drop, length, Option, Some, Result, Ok, Err}
 use Rattle.std.proofs.lemmas.Bool.{and_parts}
-use Rattle.std.proofs.Common.{IfOk, IfErr, slice_index, refl, sym, ◌∙◌, ap, subst, arith}
+use Rattle.std.proofs.Common.{IfOk, IfErr, slice_index, sym, ◌∙◌, ap, subst, arith}
 use Rattle.std.specs.Prelude.{slice_get}
 use Rattle.std.specs.List.{list_all}
 use Rattle.std.specs.Option.{option_or}
@@ -23,6 +23,7 @@ use Rattle.quilt_btree.proofs.subtrees.Descending.{leads_below, along_told, lead
 use Rattle.quilt_btree.proofs.subtrees.Dividing.{cut_up, leaf_cut}
 use Rattle.quilt_btree.proofs.ways.Forks.{IsRead, page_here, leaf_here}
 use Rattle.quilt_btree.proofs.subtrees.Trees.{inner_list, leaf_list}
+use Rattle.quilt_btree.proofs.lists.Ascents.{no_more}
 
 -- the step down from an inner page
 abbrev pub StepsTo : ℕ → List ℕ → Key → Option Key → ℕ → Option Key → Type 0
@@ -138,14 +139,6 @@ here_arrives told page height bytes k high one are = record {
 }
 
 -- the step in the bytes of a well formed page
-key_missing : (ks : List Key) (i : ℕ) → length ks ≤ i → slice_get ks i ≡ None
-key_missing [] i le = refl
-key_missing (k ∷ ks) zero le = absurd (omega arith)
-key_missing (k ∷ ks) (suc i) le = key_missing ks i (fewer (length ks) i le)
-  where
-    fewer : (n i : ℕ) → suc n ≤ suc i → n ≤ i
-    fewer n i h = omega arith
-
 pub keys_many : (pages : ℕ) (bytes : List ℕ) (inner : Inner) (i n : ℕ) → inner_of pages bytes ≡ Some inner → n ≡ length inner.children
     → i + 1 < n → i < length inner.keys
 keys_many pages bytes inner i n is many more = let e = (inner_list pages bytes inner is).keys in omega arith
@@ -156,7 +149,7 @@ module _ (inner : Inner) (k : Key) (i child : ℕ) (high : Option Key) where
   last_step pages bytes n is p many le c =
       let l = inner_list pages bytes inner is in
       let few : length inner.keys ≤ i = let e = l.keys in omega arith in
-      record { place = i; is_place = p; child_is = c; next_is = sym (ap (λ o. option_or o high) (key_missing inner.keys i few)) }
+      record { place = i; is_place = p; child_is = c; next_is = sym (ap (λ o. option_or o high) (no_more inner.keys i few)) }
 
   pub next_step : (next : Key) → IsPlace inner.keys k i → child ≡ slice_index inner.children i → slice_get inner.keys i ≡ Some next
       → IsStepDown k inner high child (Some next)
