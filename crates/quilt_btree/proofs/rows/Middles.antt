@@ -1,5 +1,5 @@
 -- Two neighbouring children among the others of their page, and one or two in their stead.
-use Rattle.std.proofs.Common.{◌≡◌, ℕ, zero, suc, ◌+◌, ◌-◌, ◌<◌, ◌≤◌, Bool, true, false, List, [], ◌∷◌, ◌++◌, length, take, drop, Option, Some, slice_index}
+use Rattle.std.proofs.Common.{◌≡◌, ℕ, zero, suc, ◌+◌, ◌-◌, ◌<◌, ◌≤◌, Bool, false, List, [], ◌∷◌, ◌++◌, length, take, drop, Option, Some, slice_index}
 use Rattle.std.proofs.Common.{slice_index_or, slice_set, refl, sym, ◌∙◌, ap, arith, length-take-le, length-drop, drop-cons}
 use Rattle.std.specs.Prelude.{slice_get}
 use Rattle.std.specs.List.{remove}
@@ -11,7 +11,7 @@ use Rattle.quilt_btree.specs.Subtree.{Reading, InTurn, Row, Subtree}
 use Rattle.quilt_btree.specs.Edits.{multiplicity, KeepsAccount}
 use Rattle.quilt_btree.proofs.lists.Counts.{times-append, times-three}
 use Rattle.quilt_btree.proofs.stores.Moves.{AreApart, moves_among, stays_on}
-use Rattle.quilt_btree.proofs.lists.Rows.{is_in, SameOn, row_stays, subtree_stays, is_in_first}
+use Rattle.quilt_btree.proofs.lists.Rows.{SameOn, row_stays, subtree_stays, is_in_first}
 use Rattle.quilt_btree.proofs.ways.Leaves.{cut_at}
 use Rattle.quilt_btree.proofs.rows.Places.{AtPlace, front, from_keys, bounded_front, high_from, place_back, fewer}
 use Rattle.quilt_btree.proofs.subtrees.Descents.{cut_children}

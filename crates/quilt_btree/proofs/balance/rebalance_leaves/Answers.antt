@@ -12,7 +12,8 @@ returns-in_err-first-clause-sound g c =
 
 pub returns-in_err-rest-clause-sound : goal.returns-in_err-rest-clause-sound
 returns-in_err-rest-clause-sound g c =
-    rw (handed_on c.from_residual-in_err-rest.result c.from_residual-in_err-rest.ensures.1) (λ height b rs used one m. c.in_err-rest.ensures.sound height m.rest one
+    rw (handed_on c.from_residual-in_err-rest.result c.from_residual-in_err-rest.ensures.1)
+    (λ height b rs used one m. c.in_err-rest.ensures.sound height m.rest one
     (along_told (g.S.PageStore.told c.args.store.now) (g.S.PageStore.told c.read_leaf.new.store) c.args.right height m.rest c.in_ok-first.ensures.left.told
     (right_spells (g.S.PageStore.told c.args.store.now) (g.S.PageStore.free c.args.store.now) height c.args.left c.args.key.now c.args.right b rs used m)))
 
@@ -86,7 +87,8 @@ returns-in_err-first-clause-bad g c =
 
 pub returns-in_err-rest-clause-names : goal.returns-in_err-rest-clause-names
 returns-in_err-rest-clause-names g c =
-    rw (handed_on c.from_residual-in_err-rest.result c.from_residual-in_err-rest.ensures.1) (names_more (c.named_of-2.result + 1) (g.S.PageStore.size c.args.store.now) _
+    rw (handed_on c.from_residual-in_err-rest.result c.from_residual-in_err-rest.ensures.1)
+    (names_more (c.named_of-2.result + 1) (g.S.PageStore.size c.args.store.now) _
     (let m = c.named_of-2.ensures.most in let lt = c.requires.right.1 in omega arith) c.in_err-rest.ensures.names)
 
 pub returns-in_err-rest-clause-bad : goal.returns-in_err-rest-clause-bad
@@ -96,16 +98,20 @@ returns-in_err-rest-clause-bad g c =
 
 pub returns-in_err-write_and_give-clause-names : goal.returns-in_err-write_and_give-clause-names
 returns-in_err-write_and_give-clause-names g c =
-    rw (handed_on c.from_residual-in_err-write_and_give.result c.from_residual-in_err-write_and_give.ensures.1) (names_more 1 (g.S.PageStore.size c.args.store.now) _ (let lt = c.requires.left.1 in omega arith) c.in_err-write_and_give.ensures.names)
+    rw (handed_on c.from_residual-in_err-write_and_give.result c.from_residual-in_err-write_and_give.ensures.1)
+    (names_more 1 (g.S.PageStore.size c.args.store.now) _ (let lt = c.requires.left.1 in omega arith) c.in_err-write_and_give.ensures.names)
 
 pub returns-in_err-write_and_give-clause-bad : goal.returns-in_err-write_and_give-clause-bad
 returns-in_err-write_and_give-clause-bad g c =
-    rw (handed_on c.from_residual-in_err-write_and_give.result c.from_residual-in_err-write_and_give.ensures.1) (λ height one. no_spare (g.S.PageStore.told c.args.store.now) height c.args.spare _ c.in_err-write_and_give.ensures.names)
+    rw (handed_on c.from_residual-in_err-write_and_give.result c.from_residual-in_err-write_and_give.ensures.1)
+    (λ height one. no_spare (g.S.PageStore.told c.args.store.now) height c.args.spare _ c.in_err-write_and_give.ensures.names)
 
 pub returns-in_err-write_both-clause-names : goal.returns-in_err-write_both-clause-names
 returns-in_err-write_both-clause-names g c =
-    rw (handed_on c.from_residual-in_err-write_both.result c.from_residual-in_err-write_both.ensures.1) (names_more 1 (g.S.PageStore.size c.args.store.now) _ (let lt = c.requires.left.1 in omega arith) c.in_err-write_both.ensures.names)
+    rw (handed_on c.from_residual-in_err-write_both.result c.from_residual-in_err-write_both.ensures.1)
+    (names_more 1 (g.S.PageStore.size c.args.store.now) _ (let lt = c.requires.left.1 in omega arith) c.in_err-write_both.ensures.names)
 
 pub returns-in_err-write_both-clause-bad : goal.returns-in_err-write_both-clause-bad
 returns-in_err-write_both-clause-bad g c =
-    rw (handed_on c.from_residual-in_err-write_both.result c.from_residual-in_err-write_both.ensures.1) (λ height one. no_spare (g.S.PageStore.told c.args.store.now) height c.args.spare _ c.in_err-write_both.ensures.names)
+    rw (handed_on c.from_residual-in_err-write_both.result c.from_residual-in_err-write_both.ensures.1)
+    (λ height one. no_spare (g.S.PageStore.told c.args.store.now) height c.args.spare _ c.in_err-write_both.ensures.names)

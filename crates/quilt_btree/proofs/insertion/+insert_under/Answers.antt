@@ -19,12 +19,14 @@ returns-then-height-eq1-clause-sound g t c =
 
 pub returns-in_err-path-clause-sound : goal.returns-in_err-path-clause-sound
 returns-in_err-path-clause-sound g t c =
-    rw (handed_on c.from_residual.result c.from_residual.ensures.1) (λ is_root b rs used can few. c.in_err-path.ensures.sound c.args.height rs c.requires.height c.if-height-eq1.false
+    rw (handed_on c.from_residual.result c.from_residual.ensures.1)
+    (λ is_root b rs used can few. c.in_err-path.ensures.sound c.args.height rs c.requires.height c.if-height-eq1.false
     (edit_spells (g.S.PageStore.told c.args.store.now) (g.S.PageStore.free c.args.store.now) c.args.page c.args.height is_root b rs used can.can_edit))
 
 pub returns-in_err-insert_under-clause-sound : goal.returns-in_err-insert_under-clause-sound
 returns-in_err-insert_under-clause-sound g t c =
-    rw (handed_on c.from_residual-in_err-insert_under.result c.from_residual-in_err-insert_under.ensures.1) (λ is_root b rs used can few. let h = c.in_ok-path.ensures.here c.args.height rs c.requires.height c.if-height-eq1.false
+    rw (handed_on c.from_residual-in_err-insert_under.result c.from_residual-in_err-insert_under.ensures.1)
+    (λ is_root b rs used can few. let h = c.in_ok-path.ensures.here c.args.height rs c.requires.height c.if-height-eq1.false
     (edit_spells (g.S.PageStore.told c.args.store.now) (g.S.PageStore.free c.args.store.now) c.args.page c.args.height is_root b rs used can.can_edit) in
     let w = c.in_ok-path.ensures.path h.inner h.is in
     sound_under _

@@ -9,7 +9,8 @@ use Rattle.quilt_btree.proofs.leaf_edits.+edit_under.Goals as goal
 
 pub returns-in_err-step-clause-fails : goal.returns-in_err-step-clause-fails
 returns-in_err-step-clause-fails g t c =
-    rw (handed_on c.from_residual.result c.from_residual.ensures.1) (λ b rs used top can page is. absurd (c.in_err-step.ensures.sound c.args.height rs c.requires.height c.if-height-eq1.false (edit_spells (g.S.PageStore.told c.args.store.now)
+    rw (handed_on c.from_residual.result c.from_residual.ensures.1)
+    (λ b rs used top can page is. absurd (c.in_err-step.ensures.sound c.args.height rs c.requires.height c.if-height-eq1.false (edit_spells (g.S.PageStore.told c.args.store.now)
     (g.S.PageStore.free c.args.store.now) c.args.page c.args.height c.args.is_root b rs used can) page is))
 
 pub returns-in_err-step-clause-bad : goal.returns-in_err-step-clause-bad

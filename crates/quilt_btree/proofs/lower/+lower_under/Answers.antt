@@ -79,7 +79,8 @@ returns-in_ok-last_under-in-Some-prior-clause-lower g t c = λ rs s.
 
 pub returns-in_err-fork-clause-sound : goal.returns-in_err-fork-clause-sound
 returns-in_err-fork-clause-sound g t c =
-    rw (handed_on c.from_residual.result c.from_residual.ensures.1) (λ rs s. c.in_err-fork.ensures.sound c.args.height rs c.requires.height c.if-height-eq1.false s)
+    rw (handed_on c.from_residual.result c.from_residual.ensures.1)
+    (λ rs s. c.in_err-fork.ensures.sound c.args.height rs c.requires.height c.if-height-eq1.false s)
 
 pub returns-in_err-fork-clause-bad : goal.returns-in_err-fork-clause-bad
 returns-in_err-fork-clause-bad g t c =
@@ -87,7 +88,8 @@ returns-in_err-fork-clause-bad g t c =
 
 pub returns-in_err-r-clause-bad : goal.returns-in_err-r-clause-bad
 returns-in_err-r-clause-bad g t c =
-    rw (handed_on c.from_residual-in_err-r.result c.from_residual-in_err-r.ensures.1) (bad_below (g.S.PageStore.told c.args.store.now) (g.S.PageStore.told c.fork_at.new.store)
+    rw (handed_on c.from_residual-in_err-r.result c.from_residual-in_err-r.ensures.1)
+    (bad_below (g.S.PageStore.told c.args.store.now) (g.S.PageStore.told c.fork_at.new.store)
     c.args.page c.args.height (g.S.PageStore.size c.args.store.now) c.in_ok-fork.ensures.shows.bytes c.in_ok-fork.fork.child _
     (read_of _ _ _ _ _ _ (record {
       some = c.requires.height;
@@ -99,7 +101,8 @@ returns-in_err-r-clause-bad g t c =
 
 pub returns-in_err-last_under-in-Some-prior-clause-bad : goal.returns-in_err-last_under-in-Some-prior-clause-bad
 returns-in_err-last_under-in-Some-prior-clause-bad g t c =
-    rw (handed_on c.from_residual-in_err-last_under-in-Some-prior.result c.from_residual-in_err-last_under-in-Some-prior.ensures.1) (bad_below (g.S.PageStore.told c.args.store.now) (g.S.PageStore.told c.lower_under.new.store)
+    rw (handed_on c.from_residual-in_err-last_under-in-Some-prior.result c.from_residual-in_err-last_under-in-Some-prior.ensures.1)
+    (bad_below (g.S.PageStore.told c.args.store.now) (g.S.PageStore.told c.lower_under.new.store)
     c.args.page c.args.height (g.S.PageStore.size c.args.store.now) c.in_ok-fork.ensures.shows.bytes c.in-Some-prior.prior _
     (read_of _ _ _ _ _ _ (record {
       some = c.requires.height;
@@ -112,7 +115,8 @@ returns-in_err-last_under-in-Some-prior-clause-bad g t c =
 
 pub returns-in_err-last_under-in-Some-prior-clause-left : goal.returns-in_err-last_under-in-Some-prior-clause-left
 returns-in_err-last_under-in-Some-prior-clause-left g t c =
-    rw (handed_on c.from_residual-in_err-last_under-in-Some-prior.result c.from_residual-in_err-last_under-in-Some-prior.ensures.1) (only_reads_err _ (only_reads_then _ g.met.S.PageStore.goes_on _ _ _ c.in_ok-fork.ensures.looks.left
+    rw (handed_on c.from_residual-in_err-last_under-in-Some-prior.result c.from_residual-in_err-last_under-in-Some-prior.ensures.1)
+    (only_reads_err _ (only_reads_then _ g.met.S.PageStore.goes_on _ _ _ c.in_ok-fork.ensures.looks.left
     (only_reads_then _ g.met.S.PageStore.goes_on _ _ _ c.in_ok-r.ensures.left c.in_err-last_under-in-Some-prior.ensures.left)))
 
 pub returns-in_ok-last_under-in-Some-prior-clause-left : goal.returns-in_ok-last_under-in-Some-prior-clause-left
@@ -122,7 +126,8 @@ returns-in_ok-last_under-in-Some-prior-clause-left g t c =
 
 pub returns-in_err-r-clause-left : goal.returns-in_err-r-clause-left
 returns-in_err-r-clause-left g t c =
-    rw (handed_on c.from_residual-in_err-r.result c.from_residual-in_err-r.ensures.1) (only_reads_then _ g.met.S.PageStore.goes_on _ _ _ c.in_ok-fork.ensures.looks.left c.in_err-r.ensures.left)
+    rw (handed_on c.from_residual-in_err-r.result c.from_residual-in_err-r.ensures.1)
+    (only_reads_then _ g.met.S.PageStore.goes_on _ _ _ c.in_ok-fork.ensures.looks.left c.in_err-r.ensures.left)
 
 pub returns-in-Some-clause-left : goal.returns-in-Some-clause-left
 returns-in-Some-clause-left g t c =

@@ -20,7 +20,8 @@ returns-then-height-eq1-clause-sound g t c =
 
 pub returns-in_err-path-clause-sound : goal.returns-in_err-path-clause-sound
 returns-in_err-path-clause-sound g t c =
-    rw (handed_on c.from_residual.result c.from_residual.ensures.1) (λ is_root b rs used can. c.in_err-path.ensures.sound c.args.height rs c.requires.height c.if-height-eq1.false
+    rw (handed_on c.from_residual.result c.from_residual.ensures.1)
+    (λ is_root b rs used can. c.in_err-path.ensures.sound c.args.height rs c.requires.height c.if-height-eq1.false
     (leaf_reads (g.S.PageStore.told c.args.store.now) (g.S.PageStore.free c.args.store.now) c.args.page c.args.height is_root b rs used can))
 
 pub returns-in_err-remove_under-clause-sound : goal.returns-in_err-remove_under-clause-sound
@@ -297,7 +298,8 @@ returns-in-Some-clause-left g t c =
 
 pub returns-in_err-remove_under-clause-left : goal.returns-in_err-remove_under-clause-left
 returns-in_err-remove_under-clause-left g t c =
-    rw (handed_on c.from_residual-in_err-remove_under.result c.from_residual-in_err-remove_under.ensures.1) (removes_below _ g.met.S.PageStore.goes_on c.args.height c.requires.height c.in_ok-path.ensures.left c.in_ok-path.ensures.reads
+    rw (handed_on c.from_residual-in_err-remove_under.result c.from_residual-in_err-remove_under.ensures.1)
+    (removes_below _ g.met.S.PageStore.goes_on c.args.height c.requires.height c.in_ok-path.ensures.left c.in_ok-path.ensures.reads
     c.in_err-remove_under.ensures.left)
 
 pub returns-in-Missing-clause-left : goal.returns-in-Missing-clause-left

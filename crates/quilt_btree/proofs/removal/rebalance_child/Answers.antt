@@ -7,7 +7,8 @@ use Rattle.quilt_btree.proofs.removal.rebalance_child.Goals as goal
 
 pub returns-in_err-rebalance_pages-clause-sound : goal.returns-in_err-rebalance_pages-clause-sound
 returns-in_err-rebalance_pages-clause-sound g c =
-    rw (handed_on c.from_residual.result c.from_residual.ensures.1) (sound_rebalance (g.S.PageStore.told c.args.store.now) (g.S.PageStore.free c.args.store.now) c.args.page c.args.height c.args.inner.now c.args.i
+    rw (handed_on c.from_residual.result c.from_residual.ensures.1)
+    (sound_rebalance (g.S.PageStore.told c.args.store.now) (g.S.PageStore.free c.args.store.now) c.args.page c.args.height c.args.inner.now c.args.i
     c.pair_at-j.result (c.pair_at-j.result + 1) c.child-left.result c.key-key.result c.child-right.result _ (record {
       in_range = subst (λ n. c.pair_at-j.result + 1 < n) c.len.ensures.length c.pair_at-j.ensures.both;
       one = c.pair_at-j.ensures.one;
@@ -57,7 +58,8 @@ returns-in-Joined-clause-sound g c =
 
 pub returns-in_err-renew_key-in-Redistributed-clause-sound : goal.returns-in_err-renew_key-in-Redistributed-clause-sound
 returns-in_err-renew_key-in-Redistributed-clause-sound g c =
-    rw (handed_on c.from_residual-in_err-renew_key-in-Redistributed.result c.from_residual-in_err-renew_key-in-Redistributed.ensures.1) (let found = rw c.in-Redistributed.is at c.in_ok-rebalance_pages.ensures in
+    rw (handed_on c.from_residual-in_err-renew_key-in-Redistributed.result c.from_residual-in_err-renew_key-in-Redistributed.ensures.1)
+    (let found = rw c.in-Redistributed.is at c.in_ok-rebalance_pages.ensures in
     separated_sound (g.S.PageStore.told c.args.store.now) (g.S.PageStore.told c.rebalance_pages.new.store)
     (g.S.PageStore.free c.args.store.now) (g.S.PageStore.free c.rebalance_pages.new.store)
     c.args.page c.args.height c.args.inner.now c.args.i c.pair_at-j.result c.child-left.result c.key-key.result c.child-right.result

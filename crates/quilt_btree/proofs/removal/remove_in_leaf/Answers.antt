@@ -89,11 +89,13 @@ returns-in_err-leaf-clause-bad g c =
 
 pub returns-in_err-write_page-in-Ok-2-clause-names : goal.returns-in_err-write_page-in-Ok-2-clause-names
 returns-in_err-write_page-in-Ok-2-clause-names g c =
-    rw (handed_on c.from_residual-in_err-write_page-in-Ok-2.result c.from_residual-in_err-write_page-in-Ok-2.ensures.1) (names_more 1 (g.S.PageStore.size c.args.store.now) _ (let q = c.requires.1 in omega arith) c.in_err-write_page-in-Ok-2.ensures.names)
+    rw (handed_on c.from_residual-in_err-write_page-in-Ok-2.result c.from_residual-in_err-write_page-in-Ok-2.ensures.1)
+    (names_more 1 (g.S.PageStore.size c.args.store.now) _ (let q = c.requires.1 in omega arith) c.in_err-write_page-in-Ok-2.ensures.names)
 
 pub returns-in_err-write_page-in-Ok-2-clause-bad : goal.returns-in_err-write_page-in-Ok-2-clause-bad
 returns-in_err-write_page-in-Ok-2-clause-bad g c =
-    rw (handed_on c.from_residual-in_err-write_page-in-Ok-2.result c.from_residual-in_err-write_page-in-Ok-2.ensures.1) (zero_names (g.S.PageStore.told c.args.store.now) 1 c.args.page _ c.in_err-write_page-in-Ok-2.ensures.names)
+    rw (handed_on c.from_residual-in_err-write_page-in-Ok-2.result c.from_residual-in_err-write_page-in-Ok-2.ensures.1)
+    (zero_names (g.S.PageStore.told c.args.store.now) 1 c.args.page _ c.in_err-write_page-in-Ok-2.ensures.names)
 
 pub returns-in-Err-clause-others : goal.returns-in-Err-clause-others
 returns-in-Err-clause-others g c = same_others c.args.page _ _ c.in_ok-leaf.ensures.left.told

@@ -11,7 +11,8 @@ returns-then-height-eq1-clause-sound g t c =
 
 pub returns-in_err-child-clause-sound : goal.returns-in_err-child-clause-sound
 returns-in_err-child-clause-sound g t c =
-    rw (handed_on c.from_residual.result c.from_residual.ensures.1) (λ rs s. c.in_err-child.ensures.sound c.args.height rs c.requires.height c.if-height-eq1.false s)
+    rw (handed_on c.from_residual.result c.from_residual.ensures.1)
+    (λ rs s. c.in_err-child.ensures.sound c.args.height rs c.requires.height c.if-height-eq1.false s)
 
 pub returns-in_err-child-clause-bad : goal.returns-in_err-child-clause-bad
 returns-in_err-child-clause-bad g t c =

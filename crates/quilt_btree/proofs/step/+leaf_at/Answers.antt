@@ -15,7 +15,8 @@ returns-then-height-eq1-clause-spoilt g t c = λ bytes are.
 
 pub returns-in_err-step-clause-sound : goal.returns-in_err-step-clause-sound
 returns-in_err-step-clause-sound g t c =
-    rw (handed_on c.from_residual.result c.from_residual.ensures.1) (λ rs s. c.in_err-step.ensures.sound c.args.height rs c.requires.height c.if-height-eq1.false s)
+    rw (handed_on c.from_residual.result c.from_residual.ensures.1)
+    (λ rs s. c.in_err-step.ensures.sound c.args.height rs c.requires.height c.if-height-eq1.false s)
 
 pub returns-in_err-step-clause-bad : goal.returns-in_err-step-clause-bad
 returns-in_err-step-clause-bad g t c =

@@ -10,7 +10,8 @@ use Rattle.quilt_btree.proofs.tree.Tree.add_rest.Goals as goal
 
 pub returns-in_err-k-clause-sound : goal.returns-in_err-k-clause-sound
 returns-in_err-k-clause-sound g c =
-    rw (handed_on c.from_residual.result c.from_residual.ensures.1) (loop_sound _ c.loop-k.invariant.left.told c.loop-k.invariant.goes_on c.in_err-k.ensures.sound)
+    rw (handed_on c.from_residual.result c.from_residual.ensures.1)
+    (loop_sound _ c.loop-k.invariant.left.told c.loop-k.invariant.goes_on c.in_err-k.ensures.sound)
 
 pub loop-k-preserved : goal.loop-k-preserved
 loop-k-preserved g c =
@@ -48,5 +49,6 @@ returns-clause-grows g c = record {
 
 pub returns-in_err-k-clause-bad : goal.returns-in_err-k-clause-bad
 returns-in_err-k-clause-bad g c =
-    rw (handed_on c.from_residual.result c.from_residual.ensures.1) (names_along (g.S.PageStore.told c.args.store.now) (g.S.PageStore.told c.loop-k.store) c.args.self.now.height c.args.self.now.root
+    rw (handed_on c.from_residual.result c.from_residual.ensures.1)
+    (names_along (g.S.PageStore.told c.args.store.now) (g.S.PageStore.told c.loop-k.store) c.args.self.now.height c.args.self.now.root
     _ c.loop-k.invariant.left.told c.in_err-k.ensures.bad)

@@ -10,7 +10,8 @@ use Rattle.quilt_btree.proofs.tree.Tree.apply_first.Goals as goal
 
 pub returns-in_err-apply_one-clause-fails : goal.returns-in_err-apply_one-clause-fails
 returns-in_err-apply_one-clause-fails g c =
-    rw (handed_on c.from_residual.result c.from_residual.ensures.1) (λ rs w page is. let h = c.in_err-apply_one.ensures.fails rs w page is in (h.0, first_fails c.args.run.now rs c.requires.some h.1))
+    rw (handed_on c.from_residual.result c.from_residual.ensures.1)
+    (λ rs w page is. let h = c.in_err-apply_one.ensures.fails rs w page is in (h.0, first_fails c.args.run.now rs c.requires.some h.1))
 
 pub returns-clause-edited : goal.returns-clause-edited
 returns-clause-edited g c rs w =

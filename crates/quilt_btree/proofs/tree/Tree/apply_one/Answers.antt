@@ -22,7 +22,8 @@ returns-then-is_out-clause-edited g c rs w =
 
 pub returns-in_err-is_new-in-Put-clause-fails : goal.returns-in_err-is_new-in-Put-clause-fails
 returns-in_err-is_new-in-Put-clause-fails g c =
-    rw (handed_on c.from_residual-in_err-is_new-in-Put.result c.from_residual-in_err-is_new-in-Put.ensures.1) (λ rs w page is. absurd (c.in_err-is_new-in-Put.ensures.sound rs w page is))
+    rw (handed_on c.from_residual-in_err-is_new-in-Put.result c.from_residual-in_err-is_new-in-Put.ensures.1)
+    (λ rs w page is. absurd (c.in_err-is_new-in-Put.ensures.sound rs w page is))
 
 pub returns-then-is_new-clause-edited : goal.returns-then-is_new-clause-edited
 returns-then-is_new-clause-edited g c rs w =
@@ -36,7 +37,8 @@ returns-then-is_new-clause-edited g c rs w =
 
 pub returns-in_err-is_out-in-Replace-clause-fails : goal.returns-in_err-is_out-in-Replace-clause-fails
 returns-in_err-is_out-in-Replace-clause-fails g c =
-    rw (handed_on c.from_residual-in_err-is_out-in-Replace.result c.from_residual-in_err-is_out-in-Replace.ensures.1) (λ rs w page is. absurd (c.in_err-is_out-in-Replace.ensures.sound rs w page is))
+    rw (handed_on c.from_residual-in_err-is_out-in-Replace.result c.from_residual-in_err-is_out-in-Replace.ensures.1)
+    (λ rs w page is. absurd (c.in_err-is_out-in-Replace.ensures.sound rs w page is))
 
 pub returns-in-Err-clause-fails : goal.returns-in-Err-clause-fails
 returns-in-Err-clause-fails g c rs w =

@@ -10,7 +10,8 @@ use Rattle.quilt_btree.proofs.tree.Tree.apply_some.Goals as goal
 
 pub returns-in_err-n-clause-fails : goal.returns-in_err-n-clause-fails
 returns-in_err-n-clause-fails g c =
-    rw (handed_on c.from_residual.result c.from_residual.ensures.1) (λ rs w page is. whole_fails (g.S.PageStore.told c.args.store.now) (g.S.PageStore.free c.args.store.now) (g.S.PageStore.size c.args.store.now) c.args.self.now
+    rw (handed_on c.from_residual.result c.from_residual.ensures.1)
+    (λ rs w page is. whole_fails (g.S.PageStore.told c.args.store.now) (g.S.PageStore.free c.args.store.now) (g.S.PageStore.size c.args.store.now) c.args.self.now
     c.args.run.now _ rs
     (record {
       rooted = c.requires.rooted;
@@ -43,7 +44,8 @@ returns-then-n-eq0-clause-bad g c =
 
 pub returns-in_err-n-clause-left : goal.returns-in_err-n-clause-left
 returns-in_err-n-clause-left g c =
-    rw (handed_on c.from_residual.result c.from_residual.ensures.1) (first_stopped _ c.args.run.now c.args.self.now.height _ (some_cost c.args.run.now c.requires.some) (λ is. is) c.in_err-n.ensures.left)
+    rw (handed_on c.from_residual.result c.from_residual.ensures.1)
+    (first_stopped _ c.args.run.now c.args.self.now.height _ (some_cost c.args.run.now c.requires.some) (λ is. is) c.in_err-n.ensures.left)
 
 pub returns-in-None-clause-left : goal.returns-in-None-clause-left
 returns-in-None-clause-left g c =

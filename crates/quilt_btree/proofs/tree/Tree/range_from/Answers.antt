@@ -28,7 +28,8 @@ returns-in-None-clause-range g c = spot_ends (g.S.PageStore.told c.args.store.no
 
 pub returns-in_err-add_rest-in-Some-clause-sound : goal.returns-in_err-add_rest-in-Some-clause-sound
 returns-in_err-add_rest-in-Some-clause-sound g c =
-    rw (handed_on c.from_residual-in_err-add_rest-in-Some.result c.from_residual-in_err-add_rest-in-Some.ensures.1) (spot_sound (g.S.PageStore.told c.args.store.now) _ c.args.self.now c.in_ok-found.found.page c.in_ok-found.found.low c.in_ok-found.found.high c.args.low.now
+    rw (handed_on c.from_residual-in_err-add_rest-in-Some.result c.from_residual-in_err-add_rest-in-Some.ensures.1)
+    (spot_sound (g.S.PageStore.told c.args.store.now) _ c.args.self.now c.in_ok-found.found.page c.in_ok-found.found.low c.in_ok-found.found.high c.args.low.now
     c.args.high.now c.args.most _ c.add_in.new.records.items c.in_ok-found.ensures.leads.spot c.in_ok-found.ensures.leads.keys.0 c.in_ok-found.ensures.leads.keys.1 c.in_ok-found.ensures.left.told
     c.in_ok-wide.ensures.adds c.new-records.ensures.items
     (g.S.PageStore.told c.add_in.new.store) c.in-Some.next _ (c.in_ok-wide.ensures.looks.left.told ∙ c.in_ok-found.ensures.left.told)
@@ -92,7 +93,8 @@ returns-in_ok-add_rest-in-Some-clause-fits g c = record {
 
 pub returns-in_err-add_rest-in-Some-clause-left : goal.returns-in_err-add_rest-in-Some-clause-left
 returns-in_err-add_rest-in-Some-clause-left g c =
-    rw (handed_on c.from_residual-in_err-add_rest-in-Some.result c.from_residual-in_err-add_rest-in-Some.ensures.1) (only_reads_err _ (only_reads_then _ g.met.S.PageStore.goes_on _ _ _ c.in_ok-found.ensures.left
+    rw (handed_on c.from_residual-in_err-add_rest-in-Some.result c.from_residual-in_err-add_rest-in-Some.ensures.1)
+    (only_reads_err _ (only_reads_then _ g.met.S.PageStore.goes_on _ _ _ c.in_ok-found.ensures.left
     (only_reads_then _ g.met.S.PageStore.goes_on _ _ _ c.in_ok-wide.ensures.looks.left c.in_err-add_rest-in-Some.ensures.left)))
 
 pub returns-in_ok-add_rest-in-Some-clause-left : goal.returns-in_ok-add_rest-in-Some-clause-left
