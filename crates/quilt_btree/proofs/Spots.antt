@@ -1,8 +1,9 @@
 -- What the leaf of a spot tells of the tree.
-use Rattle.std.proofs.Common.{◌≡◌, ◌≢◌, ℕ, ◌<◌, ◌≤◌, Bool, true, false, List, [], ◌∷◌, ◌++◌, filter, take, length, Option, Some, None, refl, sym, ◌∙◌, ap, subst, arith}
+use Rattle.std.proofs.Common.{◌≡◌, ◌≢◌, ℕ, ◌<◌, ◌≤◌, true, false, List, [], ◌∷◌, ◌++◌, filter, take, length, Option, Some, None, refl, sym, ◌∙◌, ap, subst, arith}
 use Rattle.std.specs.Prelude.{IfSome, slice_get, slice_index_or}
 use Rattle.std.specs.List.{list_all}
 use Rattle.std.specs.Ordering.{is_le, is_lt}
+use Rattle.std.proofs.lemmas.Option.{same_Some}
 use Rattle.quilt_record.specs.declared.key.Key.{Key}
 use Rattle.quilt_record.specs.declared.record.Record.{Record}
 use Rattle.quilt_record.specs.Records.{key_cmp}
@@ -21,7 +22,7 @@ use Rattle.quilt_btree.specs.Spots.{HoldsKeys, IsLeafFrom, IsAtSpot}
 use Rattle.quilt_btree.specs.declared.spot.Spot.{Spot}
 use Rattle.quilt_btree.specs.Trees.{IsTree, LeadsToLeaf, Before, is_past}
 use Rattle.quilt_btree.proofs.cursors.Fingers.{floor_is_near, under_past}
-use Rattle.quilt_btree.proofs.lists.Lists.{gt_not_le, begins_with, some_same}
+use Rattle.quilt_btree.proofs.lists.Lists.{gt_not_le, begins_with, true_false}
 use Rattle.quilt_btree.proofs.lists.Rising.{all_follow, all_map}
 use Rattle.quilt_btree.proofs.ranges.Ranges.{range_first, range_next, range_ends, range_fills}
 use Rattle.quilt_btree.proofs.ranges.Rests.{next_divides}
@@ -32,7 +33,7 @@ use Rattle.quilt_btree.proofs.lists.Separators.{below_separator}
 
 -- the bytes of a page, where the pages are told
 are_pages : (told : Option (List (List ℕ))) (pages : List (List ℕ)) (page : ℕ) → told ≡ Some pages → AreOf told page (slice_index_or pages page [])
-are_pages told pages page is = λ others o. ap (λ ps. slice_index_or ps page []) (some_same pages others (sym is ∙ o))
+are_pages told pages page is = λ others o. ap (λ ps. slice_index_or ps page []) (same_Some pages others (sym is ∙ o))
 
 -- the leaf to which a key leads is the leaf for keys from this one on
 pub leads_from : (told : Option (List (List ℕ))) (t : Tree) (k : Key) (page : ℕ) (high : Option Key) → 1 ≤ t.height
@@ -195,11 +196,7 @@ never_on size high next is at up le =
     let here = subst (λ z. IsAtSpot size z high) is at in
     let below = subst (λ z. is_below z high ≡ true) up here.3 in
     let no = gt_not_le high next below in
-    differ (is_le (key_cmp next high)) le no
-  where
-    differ : (b : Bool) → b ≡ true → b ≡ false → ⊥
-    differ true h g = cc
-    differ false h g = cc
+    true_false (is_le (key_cmp next high)) le no
 
 -- a key of a leaf is a key of the spot that is put there
 pub placed_at : (size : ℕ) (s wide : Spot) (k : Key) → (1 ≤ s.page) × (s.page < size) → (is_le (key_cmp s.low k) ≡ true) × (is_below s.high k ≡ true)

@@ -332,10 +332,6 @@ pub first_fails : (run : List Edit) (rs : List Record) → 1 ≤ length run → 
 first_fails [] rs some h = absurd (omega arith)
 first_fails (e ∷ run) rs some h = ap (λ b. b && are_due run (edited e rs)) h
 
-pub true_false : (b : Bool) → b ≡ true → b ≡ false → ⊥
-true_false true h g = cc
-true_false false h g = cc
-
 pub few_enough : (r a b m n : ℕ) → a + b ≡ m → r + m ≤ quota n → n ≤ 30000 → r + a < 4294967296
 few_enough r a b m n e h g = omega arith
 

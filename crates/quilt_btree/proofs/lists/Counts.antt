@@ -36,6 +36,9 @@ self_test q = grind (arith, nat_tests)
 pub other_test : (q p : ℕ) → p ≢ q → (q == p) ≡ false
 other_test q p h = grind (arith, nat_tests)
 
+pub some_not_none : (n : ℕ) → 1 ≤ n → n ≡ 0 → ⊥
+some_not_none n h e = omega arith
+
 -- a page that stands there first, and one that does not
 pub times_here : (p : ℕ) (used : List ℕ) → multiplicity p (p ∷ used) ≡ 1 + multiplicity p used
 times_here p used = ap (λ b. cond {A = ℕ} b 1 0 + multiplicity p used) (self_test p)

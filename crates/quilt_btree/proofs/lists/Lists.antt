@@ -29,8 +29,9 @@ pub record IsAmong (k : Key) (before here behind rs : List Record) : Type 0 wher
   pub lower : AreBelow k before
   pub higher : AreAbove k behind
 
-pub some_same : {X : Type 0} (x y : X) → Some x ≡ Some y → x ≡ y
-some_same x y h = cc
+pub true_false : (b : Bool) → b ≡ true → b ≡ false → ⊥
+true_false true h g = cc
+true_false false h g = cc
 
 -- a list from its first element on
 pub begins_with : (rs : List Record) (r : Record) → slice_get rs 0 ≡ Some r → (rest : List Record) × (rs ≡ r ∷ rest)

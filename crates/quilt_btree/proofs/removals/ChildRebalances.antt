@@ -2,6 +2,7 @@
 use Rattle.std.proofs.Common.{◌≡◌, ℕ, suc, ◌+◌, ◌<◌, ◌≤◌, Bool, true, false, ◌||◌, nat_le, List, [], ◌∷◌, ◌++◌, length, Option, Some, slice_index}
 use Rattle.std.proofs.Common.{slice_index_or, slice_set, refl, sym, ◌∙◌, ap, subst, arith, get_or-set_same, length-set}
 use Rattle.std.specs.List.{remove}
+use Rattle.std.proofs.lemmas.Option.{same_Some}
 use Rattle.quilt_record.specs.declared.key.Key.{Key}
 use Rattle.quilt_record.specs.declared.record.Record.{Record}
 use Rattle.quilt_node.specs.Pages.{Inner, inner_of}
@@ -21,7 +22,6 @@ use Rattle.quilt_btree.proofs.removals.LeafRemovals.{few_root, not_root, many_en
 use Rattle.quilt_btree.proofs.rows.Middles.{rear, gap_bounds, bounded_one, bounded_two, StandsAround, middle_changed, row_two, remove_middle, remove_second, set_middle}
 use Rattle.quilt_btree.proofs.rows.NewKeys.{FitsBetween, fits_between, within_less, strictly_above}
 use Rattle.quilt_btree.proofs.removals.Underfulls.{Neighbours}
-use Rattle.quilt_btree.proofs.lists.Lists.{some_same}
 
 -- the pages after a rebalancing
 pub record Rebalances (told mid : Option (List (List ℕ))) (free between : ℕ → Bool) (pages : List (List ℕ)) (height left right : ℕ) (b : Bounds)
@@ -34,7 +34,7 @@ pub rebalances : {told mid : Option (List (List ℕ))} {free between : ℕ → B
     {rs : List Record} {used : List ℕ} {o : Rebalanced} → told ≡ Some pages → DidRebalance told mid free between height left right b rs used o
     → Rebalances told mid free between pages height left right b rs used o
 rebalances {free = free} {between = between} pages {height = height} {left = left} {right = right} {b = b} {rs = rs} {used = used} {o = o} e d =
-    let same : d.pages ≡ pages = some_same d.pages pages (sym d.was ∙ e) in
+    let same : d.pages ≡ pages = same_Some d.pages pages (sym d.was ∙ e) in
     record { news = d.news; is = d.is; done = subst (λ p. HasRebalanced p d.news free between height left right b rs used o) same d.done }
 
 -- the children of the page, rebalanced, with the page still as it was
@@ -221,7 +221,7 @@ module _ (told mid now_told : Option (List (List ℕ))) (free between now : ℕ 
       let fewer = one_fewer inner.children (suc j) there in
       let p = page_rebalanced mid free between page below n.pages (without_child inner j) b rs used now_told now true m d.1 f inside refl in
       let nearly : is_root ≡ false → IsNearlyFull p.news (suc (suc below)) page = λ root i is.
-      let same : i ≡ without_child inner j = some_same i (without_child inner j) (sym is ∙ p.page_is) in
+      let same : i ≡ without_child inner j = same_Some i (without_child inner j) (sym is ∙ p.page_is) in
       let full = not_root is_root 127 (length inner.children) n.enough root in
       subst (λ (x : Inner). 126 ≤ length x.children) (sym same) (less_one (length (remove inner.children (suc j))) (length inner.children) fewer full) in
       subst (λ h. DidLeave told now_told free now page h is_root b used rs removed.Underfull) (sym e)

@@ -2,6 +2,7 @@
 use Rattle.std.proofs.Common.{◌≡◌, ℕ, ◌+◌, ◌<◌, ◌≤◌, Bool, true, false, List, [], ◌∷◌, ◌++◌, length, Option, Some, IfSome, slice_index_or, slice_set, refl, sym}
 use Rattle.std.proofs.Common.{◌∙◌, ap, subst, arith, length-append}
 use Rattle.std.specs.Prelude.{slice_get}
+use Rattle.std.proofs.lemmas.Option.{same_Some}
 use Rattle.quilt_record.specs.declared.key.Key.{Key}
 use Rattle.quilt_record.specs.declared.record.Record.{Record}
 use Rattle.quilt_node.specs.Pages.{leaf_of, is_ascending}
@@ -42,8 +43,8 @@ module _ (told : Option (List (List ℕ))) (free : ℕ → Bool) (left : ℕ) (k
       let t : Subtree m.pages 1 true (right, record { low = Some key; high = b.high }) m.rest m.rest_used = m.is_right.subtree in
       let there = reads m.pages m.is_told in
       let other = also m.pages m.is_told in
-      let first : l ≡ m.first = some_same l m.first (sym there ∙ s.page) in
-      let rest : r ≡ m.rest = some_same r m.rest (sym other ∙ t.page) in
+      let first : l ≡ m.first = same_Some l m.first (sym there ∙ s.page) in
+      let rest : r ≡ m.rest = same_Some r m.rest (sym other ∙ t.page) in
       let pages : used ≡ right ∷ left ∷ [] = m.is_used ∙ ap (λ u. u ++ m.first_used) t.is_used ∙ ap (λ u. right ∷ u) s.is_used in
       record {
         first = first;
@@ -58,9 +59,6 @@ module _ (told : Option (List (List ℕ))) (free : ℕ → Bool) (left : ℕ) (k
         pages = pages;
         apart = subst (AreApart free) pages m.apart;
       }
-    where
-      some_same : (x y : List Record) → Some x ≡ Some y → x ≡ y
-      some_same x y e = cc
 
   -- they ascend one behind the other
   pub leaves_ascend : is_ascending (keys_of (l ++ r)) ≡ true

@@ -2,6 +2,7 @@
 use Rattle.std.proofs.Common.{◌≡◌, ◌≢◌, ℕ, suc, ◌+◌, ◌-◌, ◌<◌, ◌≤◌, Bool, true, false, ◌||◌, ◌==◌, nat_le, List, [], ◌∷◌, ◌++◌, length, Option}
 use Rattle.std.proofs.Common.{Some, Result, Ok, Err, IfOk, IfErr, slice_index, slice_index_or, refl, sym, ◌∙◌, ap, subst, arith}
 use Rattle.std.specs.List.{list_any}
+use Rattle.std.proofs.lemmas.Option.{same_Some}
 use Rattle.quilt_record.specs.declared.key.Key.{Key}
 use Rattle.quilt_record.specs.declared.record.Record.{Record}
 use Rattle.quilt_node.specs.Pages.{Inner, inner_of}
@@ -19,7 +20,7 @@ use Rattle.quilt_btree.specs.Rebalancing.{Partly, HasUnderfull}
 use Rattle.quilt_btree.proofs.lists.Counts.{times-append, times-three, self_test}
 use Rattle.quilt_btree.proofs.stores.Moves.{AreApart, apart_some, apart_then, moves_then}
 use Rattle.quilt_btree.proofs.rows.Splices.{parent_stays, becomes_then}
-use Rattle.quilt_btree.proofs.lists.Lists.{IsAmong, any_between, without_between, some_same}
+use Rattle.quilt_btree.proofs.lists.Lists.{IsAmong, any_between, without_between}
 use Rattle.quilt_btree.proofs.subtrees.Trees.{IsInnerList, inner_list, one_less}
 use Rattle.quilt_btree.proofs.rows.Places.{row_one, one_row}
 use Rattle.quilt_btree.proofs.subtrees.Descents.{child_bounds, LeadsDown, leads_down, place_in}
@@ -58,7 +59,7 @@ module _ (told : Option (List (List ℕ))) (free : ℕ → Bool) (page height : 
       let e = height_above height some ne in
       let s = subst (λ n. Subtree can.pages n is_root (page, b) rs used) e.1 can.subtree in
       let there = reads can.pages can.is_told in
-      let same : s.inner ≡ inner = some_same s.inner inner (sym s.page ∙ there) in
+      let same : s.inner ≡ inner = same_Some s.inner inner (sym s.page ∙ there) in
       let list = inner_list (length can.pages) (slice_index_or can.pages page []) inner there in
       let within = subst (λ (x : Inner). are_within b x.keys ≡ true) same s.within in
       let row = subst (λ (x : Inner). Row (Subtree can.pages (suc e.0) false) (bounded x.children x.keys b) rs s.under) same s.children in
@@ -146,7 +147,7 @@ child_left : {k : Key} {told mid between : Option (List (List ℕ))} {free was t
     → Becomes pages news was then child (height - 1) r (child_bounds inner b i) a.down.at.here_used (without k a.down.at.here)
     → ChildLeft k between free then page height i inner is_root r b rs used told a
 child_left {k} {was} {then} {height} {child} {i} {inner} {r} {b} a t f c {pages} {news} e g becomes =
-    let same : pages ≡ a.pages = some_same pages a.pages (sym e ∙ t ∙ a.is_told) in
+    let same : pages ≡ a.pages = same_Some pages a.pages (sym e ∙ t ∙ a.is_told) in
     record {
       news = news;
       is = g;
@@ -218,7 +219,7 @@ did_leave : (told : Option (List (List ℕ))) {between now_told : Option (List (
     → between ≡ Some mids → KeepsAccount pages mids free then used more → DidLeave between now_told then now page height is_root b more all o
     → DidLeave told now_told free now page height is_root b used all o
 did_leave told {free = free} {then = then} {now = now} {page = page} {height = height} {is_root = is_root} {b = b} {used = used} {more = more} {all = all} {o = o} {pages = pages} {mids = mids} ne e g m d =
-    let same : mids ≡ d.pages = some_same mids d.pages (sym g ∙ d.was) in
+    let same : mids ≡ d.pages = same_Some mids d.pages (sym g ∙ d.was) in
     record {
       pages = pages;
       news = d.news;
@@ -271,7 +272,7 @@ module _ (k : Key) (told mid between : Option (List (List ℕ))) (free was then 
       (around free page at (subst (AreApart free) a.is_used a.apart)) (row_one T (underfull, child_bounds inner b i) (without k at.here) l.uses here) l.moves in
       let row = subst (λ x. Row T x (at.first ++ (without k at.here ++ at.last)) changed.uses) (sym (cut_at_child inner b i a.in_range a.list.keys))
       changed.row in
-      let same : a.pages ≡ can.pages = some_same a.pages can.pages (sym a.is_told ∙ can.is_told) in
+      let same : a.pages ≡ can.pages = same_Some a.pages can.pages (sym a.is_told ∙ can.is_told) in
       let moves = subst (λ u. KeepsAccount a.pages l.news free then u (changed.uses ++ page ∷ [])) (sym a.is_used) changed.moves in
       record {
         more = changed.uses ++ page ∷ [];

@@ -7,7 +7,7 @@ use Rattle.quilt_node.specs.Pages.{Inner, inner_of}
 use Rattle.quilt_node.specs.Tree.{Bounds, bounded, are_within}
 use Rattle.quilt_btree.specs.Subtree.{Row, Subtree}
 use Rattle.quilt_btree.specs.Edits.{multiplicity, account, KeepsAccount, Becomes}
-use Rattle.quilt_btree.proofs.lists.Counts.{times-append, times-three, times_here, in_times}
+use Rattle.quilt_btree.proofs.lists.Counts.{times-append, times-three, times_here, in_times, some_not_none}
 use Rattle.quilt_btree.proofs.stores.Moves.{AreApart, moves_among, moves_then, moves_written, used_account, stays_on}
 use Rattle.quilt_btree.proofs.lists.Rows.{SameOn, row_stays, subtree_stays, is_in_first}
 use Rattle.quilt_btree.proofs.rows.Places.{AtPlace, place_back}
@@ -130,10 +130,7 @@ page_in p under = some (multiplicity p (under ++ p ∷ [])) (multiplicity p unde
 pub written_same : (pages : List (List ℕ)) (page : ℕ) (bytes : List ℕ) (used : List ℕ) → multiplicity page used ≡ 0
     → SameOn pages (slice_set pages page bytes) used
 written_same pages page bytes used none p inside =
-    get_or-set_other pages page p bytes [] (λ e. nothing (multiplicity page used) (subst (λ q. 1 ≤ multiplicity q used) e (in_times p used inside)) none)
-  where
-    nothing : (n : ℕ) → 1 ≤ n → n ≡ 0 → ⊥
-    nothing n h g = omega arith
+    get_or-set_other pages page p bytes [] (λ e. some_not_none (multiplicity page used) (subst (λ q. 1 ≤ multiplicity q used) e (in_times p used inside)) none)
 
 pub apart_above : (free : ℕ → Bool) (under : List ℕ) (page : ℕ) → AreApart free (under ++ page ∷ []) → multiplicity page under ≡ 0
 apart_above free under page apart =

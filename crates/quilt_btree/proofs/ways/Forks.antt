@@ -5,6 +5,7 @@ use Rattle.std.proofs.Common.{Ok, Err, IfOk, IfErr, IfSome, OnOk, slice_index, s
 use Rattle.std.specs.List.{last_or}
 use Rattle.std.specs.Ordering.{is_lt}
 use Rattle.std.proofs.lemmas.List.{append-nil}
+use Rattle.std.proofs.lemmas.Option.{same_Some}
 use Rattle.quilt_record.specs.declared.key.Key.{Key}
 use Rattle.quilt_record.specs.declared.record.Record.{Record}
 use Rattle.quilt_record.specs.Records.{key_cmp}
@@ -20,7 +21,7 @@ use Rattle.quilt_btree.specs.Trees.{SpellsSubtree, ReadsInner, IsTree}
 use Rattle.quilt_btree.specs.Floors.{child_place, last_pages, floor_pages, TouchesInTurn, HoldsFirst, ReadsNone}
 use Rattle.quilt_btree.specs.Searches.{IsFork, AreOf, IsLeafFor}
 use Rattle.quilt_btree.proofs.lists.Rising.{all_append}
-use Rattle.quilt_btree.proofs.lists.Lists.{IsAmong, value_between, some_same}
+use Rattle.quilt_btree.proofs.lists.Lists.{IsAmong, value_between}
 use Rattle.quilt_btree.proofs.stores.Held.{IsTouched}
 use Rattle.quilt_btree.proofs.subtrees.Descending.{height_above, leads_below, along_told, AtFloor, ends_below, last_up}
 use Rattle.quilt_btree.proofs.subtrees.Trees.{inner_list, leaf_list}
@@ -52,7 +53,7 @@ page_here {page = page} {height = height} {size = size} {bytes = bytes} {rs = rs
     let long : length s.pages ≡ size = subst (λ o. IfSome o (λ pages. length pages ≡ size)) s.is_told r.many in
     record {
       inner = t.inner;
-      reads = λ pages is. subst (λ ps. inner_of (length ps) (slice_index_or ps page []) ≡ Some t.inner) (some_same s.pages pages (sym s.is_told ∙ is))
+      reads = λ pages is. subst (λ ps. inner_of (length ps) (slice_index_or ps page []) ≡ Some t.inner) (same_Some s.pages pages (sym s.is_told ∙ is))
           t.page;
       is = ap (inner_of size) same ∙ ap (λ m. inner_of m (slice_index_or s.pages page [])) (sym long) ∙ t.page;
       is_height = t.is_height ∙ sym n.1;
@@ -186,7 +187,7 @@ module _ (page height : ℕ) (bytes : List ℕ) where
       → SpellsSubtree old page height rs → Ended old new page height child
   ended old new size child rs r f s =
       let h = page_here r s in
-      let is = some_same child (slice_index h.inner.children (length h.inner.children - 1)) (f h.inner h.is) in
+      let is = same_Some child (slice_index h.inner.children (length h.inner.children - 1)) (f h.inner h.is) in
       let e = ends_below page height child (length h.inner.children) h.inner r.some r.above refl is old h.reads rs s in
       record {
         inner = h.inner;
@@ -285,7 +286,7 @@ module _ (k : Key) (inner : Inner) (i child : ℕ) where
     number = n;
     child_is = e;
     first = λ h. absurd (differ prior h);
-    later = λ q h. (ne, sym (some_same prior q h) ∙ is);
+    later = λ q h. (ne, sym (same_Some prior q h) ∙ is);
   }
     where
       differ : (q : ℕ) → Some q ≡ None → ⊥

@@ -4,8 +4,9 @@ use Rattle.quilt_record.specs.Lists.{put, without}
 use Rattle.quilt_btree.specs.Batches.{is_due, edited}
 use Rattle.quilt_btree.specs.Edits.{IsWhole}
 use Rattle.quilt_btree.proofs.ways.Damage.{stops_behind, run_zero}
-use Rattle.quilt_btree.proofs.batches.Whole.{gone, true_false}
+use Rattle.quilt_btree.proofs.batches.Whole.{gone}
 use Rattle.quilt_btree.proofs.Handed.{handed_on}
+use Rattle.quilt_btree.proofs.lists.Lists.{true_false}
 use Rattle.quilt_btree.proofs.tree.Tree.apply_one.Goals as goal
 
 pub returns-in_err-is_out-in-Remove-clause-fails : goal.returns-in_err-is_out-in-Remove-clause-fails
