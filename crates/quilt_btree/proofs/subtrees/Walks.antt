@@ -10,7 +10,6 @@ use Rattle.quilt_record.specs.declared.record.Record.{Record}
 use Rattle.quilt_node.specs.Pages.{Inner, leaf_of, inner_of}
 use Rattle.quilt_node.specs.Tree.{Bounds, Walk, Whole, Damaged, are_within, bounded, and_then, each_child, leaf_walk, inner_walk, walk}
 use Rattle.quilt_btree.specs.Subtree.{Reading, IsLeafPlace, Row, IsInnerPlace, Subtree, AreFreshPages}
-use Rattle.quilt_btree.proofs.lists.Counts.{equal_pages}
 
 -- what a walk added to what was visited before
 pub record Found (S : List Record → List ℕ → Type 0) (visited : List ℕ) (rs : List Record) (now : List ℕ) : Type 0 where
@@ -115,6 +114,9 @@ module _ (S : Reading) (visit : ℕ × Bounds → List ℕ → Walk) where
   row_found one (c ∷ cs) before visited rs now h =
       row_step c cs before visited (one c visited) (λ ss later e. row_found one cs ss later rs now e) refl h
 
+pub same_number : (m n : ℕ) → (m == n) ≡ true → m ≡ n
+same_number m n h = grind (arith, nat_tests)
+
 pub number_test : (m n : ℕ) → m ≡ n → (m == n) ≡ true
 number_test m n h = grind (arith, nat_tests)
 
@@ -135,7 +137,7 @@ module _ (S : Reading) (visit : ℕ × Bounds → List ℕ → Walk) where
         spells = record {
           inner = inner;
           page = page;
-          is_height = equal_pages inner.height height both.0;
+          is_height = same_number inner.height height both.0;
           enough = both.1;
           within = all.1;
           under = row.found.used;
