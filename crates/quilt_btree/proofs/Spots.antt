@@ -1,8 +1,9 @@
 -- What the leaf of a spot tells of the tree.
-use Rattle.std.proofs.Common.{◌≡◌, ◌≢◌, ℕ, ◌<◌, ◌≤◌, Bool, true, false, List, [], ◌∷◌, ◌++◌, filter, take, length, Option, Some, None, refl, sym, ◌∙◌, ap, subst, arith}
+use Rattle.std.proofs.Common.{◌≡◌, ◌≢◌, ℕ, ◌<◌, ◌≤◌, true, false, List, [], ◌∷◌, ◌++◌, filter, take, length, Option, Some, None, refl, sym, ◌∙◌, ap, subst, arith}
 use Rattle.std.specs.Prelude.{IfSome, slice_get, slice_index_or}
 use Rattle.std.specs.List.{list_all}
 use Rattle.std.specs.Ordering.{is_le, is_lt}
+use Rattle.std.proofs.lemmas.Option.{same_Some}
 use Rattle.quilt_record.specs.declared.key.Key.{Key}
 use Rattle.quilt_record.specs.declared.record.Record.{Record}
 use Rattle.quilt_record.specs.Records.{key_cmp}
@@ -20,22 +21,19 @@ use Rattle.quilt_btree.specs.Searches.{AreOf}
 use Rattle.quilt_btree.specs.Spots.{HoldsKeys, IsLeafFrom, IsAtSpot}
 use Rattle.quilt_btree.specs.declared.spot.Spot.{Spot}
 use Rattle.quilt_btree.specs.Trees.{IsTree, LeadsToLeaf, Before, is_past}
-use Rattle.quilt_btree.proofs.cursors.Fingers.{floor_is_near}
-use Rattle.quilt_btree.proofs.lists.Lists.{gt_not_le}
+use Rattle.quilt_btree.proofs.cursors.Fingers.{floor_is_near, under_past}
+use Rattle.quilt_btree.proofs.lists.Lists.{gt_not_le, begins_with, true_false}
 use Rattle.quilt_btree.proofs.lists.Rising.{all_follow, all_map}
-use Rattle.quilt_btree.proofs.lists.RisingApart.{all_under}
 use Rattle.quilt_btree.proofs.ranges.Ranges.{range_first, range_next, range_ends, range_fills}
 use Rattle.quilt_btree.proofs.ranges.Rests.{next_divides}
 use Rattle.quilt_btree.proofs.subtrees.Trees.{leaf_list, subtree_rises, keys_append}
 use Rattle.quilt_btree.proofs.subtrees.Whole.{tree_spells}
 use Rattle.quilt_btree.proofs.ways.Forks.{value_led}
+use Rattle.quilt_btree.proofs.lists.Separators.{below_separator}
 
 -- the bytes of a page, where the pages are told
 are_pages : (told : Option (List (List ℕ))) (pages : List (List ℕ)) (page : ℕ) → told ≡ Some pages → AreOf told page (slice_index_or pages page [])
-are_pages told pages page is = λ others o. ap (λ ps. slice_index_or ps page []) (same pages others (sym is ∙ o))
-  where
-    same : (a b : List (List ℕ)) → Some a ≡ Some b → a ≡ b
-    same a b h = cc
+are_pages told pages page is = λ others o. ap (λ ps. slice_index_or ps page []) (same_Some pages others (sym is ∙ o))
 
 -- the leaf to which a key leads is the leaf for keys from this one on
 pub leads_from : (told : Option (List (List ℕ))) (t : Tree) (k : Key) (page : ℕ) (high : Option Key) → 1 ≤ t.height
@@ -57,11 +55,6 @@ leads_from told t k page high some f = λ rs is.
       here_under = l.here_under;
       bound = λ pages told_is. a.cut.ends pages rs s.0 told_is s.1 refl;
     }
-
--- a key below the bound is below all that stands behind the leaf
-under_past : (high : Option Key) (k m : Key) → is_below high k ≡ true → is_past high m ≡ true → is_lt (key_cmp k m) ≡ true
-under_past None k m below past = cc
-under_past (Some h) k m below past = lt_le k h m below past
 
 -- the leaf is the one to which each of its keys leads
 pub led_from : {told : Option (List (List ℕ))} {t : Tree} {page : ℕ} {low : Key} {high : Option Key} {rs : List Record} (k : Key)
@@ -109,18 +102,14 @@ floor_of_spot {high} {bytes} k (Some r) f below are found = λ rs is.
     floor_is_near bytes high k r rs below found
     (record { own = s.own; is_leaf = s.is_leaf bytes are; before = s.before; behind = s.behind; records = s.records; bounded = s.bounded })
 
-first_of : (rs : List Record) (r : Record) → slice_get rs 0 ≡ Some r → (rest : List Record) × (rs ≡ r ∷ rest)
-first_of [] r h = cc
-first_of (x ∷ xs) r h = (xs, cc)
-
 -- what stands before a record of a list that ascends is below it
 below_first : (before own behind : List Record) (r : Record) → is_ascending (keys_of (before ++ (own ++ behind))) ≡ true → slice_get own 0 ≡ Some r
     → list_all (λ (l : Record). is_lt (key_cmp l.key r.key)) before ≡ true
 below_first before own behind r a is =
-    let f = first_of own r is in
+    let f = begins_with own r is in
     let cut = subst (λ l. is_ascending (keys_of (before ++ (l ++ behind))) ≡ true) f.1 a in
     all_map (λ (l : Record). l.key) (λ l. is_lt (key_cmp l r.key)) before
-    (all_under (keys_of before) r.key (keys_of (f.0 ++ behind))
+    (below_separator r.key (keys_of before) (keys_of (f.0 ++ behind))
     (subst (λ l. is_ascending l ≡ true) (keys_append before (r ∷ (f.0 ++ behind))) cut))
 
 -- it is the leaf for all keys from its first on
@@ -207,11 +196,7 @@ never_on size high next is at up le =
     let here = subst (λ z. IsAtSpot size z high) is at in
     let below = subst (λ z. is_below z high ≡ true) up here.3 in
     let no = gt_not_le high next below in
-    differ (is_le (key_cmp next high)) le no
-  where
-    differ : (b : Bool) → b ≡ true → b ≡ false → ⊥
-    differ true h g = cc
-    differ false h g = cc
+    true_false (is_le (key_cmp next high)) le no
 
 -- a key of a leaf is a key of the spot that is put there
 pub placed_at : (size : ℕ) (s wide : Spot) (k : Key) → (1 ≤ s.page) × (s.page < size) → (is_le (key_cmp s.low k) ≡ true) × (is_below s.high k ≡ true)

@@ -6,6 +6,5 @@ pub mod InnerGrowth
 pub mod KeptPages
 pub mod LeafGrowth
 pub mod NewChild
-pub mod Runs
 pub mod TreeGrowth
 pub mod UnderGrowth

@@ -1,5 +1,5 @@
 -- A subtree that is edited in one leaf.
-use Rattle.std.proofs.Common.{◌≡◌, ℕ, zero, suc, ◌+◌, ◌-◌, ◌≤◌, Bool, true, false, ◌&&◌, List, [], ◌∷◌, ◌++◌, length, take, drop}
+use Rattle.std.proofs.Common.{◌≡◌, ℕ, zero, suc, ◌-◌, ◌≤◌, Bool, true, false, ◌&&◌, List, [], ◌∷◌, ◌++◌, length, take, drop}
 use Rattle.std.proofs.lemmas.Bool.{and_from, and_parts}
 use Rattle.std.proofs.Common.{Option, Some, Result, Ok, Err, IfOk, IfErr, slice_index, slice_set, refl, sym, ◌∙◌, ap, subst, arith, get_or-set_same}
 use Rattle.std.specs.Prelude.{slice_get, if◌then◌else◌}
@@ -24,18 +24,18 @@ use Rattle.quilt_btree.specs.Subtree.{Subtree}
 use Rattle.quilt_btree.specs.Edits.{multiplicity, Becomes, CanEdit}
 use Rattle.quilt_btree.proofs.batches.Leaves.{IsEdited, edit_at, edit_all_between, are_due_between}
 use Rattle.quilt_btree.proofs.growth.Below.{cut_at_child, above_from, edit_spells}
-use Rattle.quilt_btree.proofs.growth.Fills.{one_less, within_put, child_low}
+use Rattle.quilt_btree.proofs.growth.Fills.{within_put}
 use Rattle.quilt_btree.proofs.growth.UnderGrowth.{LeadsToChild}
-use Rattle.quilt_btree.proofs.lists.Counts.{times_here}
+use Rattle.quilt_btree.proofs.lists.Counts.{once_here}
 use Rattle.quilt_btree.proofs.lists.Rising.{all_follow}
 use Rattle.quilt_btree.proofs.removals.Drains.{AreAmong, all_lower, all_higher, at_run, kept_without, still_enough, first_least}
-use Rattle.quilt_btree.proofs.rows.Places.{front, from_keys, tail_places, row_one}
+use Rattle.quilt_btree.proofs.rows.Places.{front, from_keys, tail_places, row_one, head_low}
 use Rattle.quilt_btree.proofs.rows.Splices.{RowMoved, middle_moved, parent_stays}
 use Rattle.quilt_btree.proofs.stores.Moves.{moves_written, used_account}
 use Rattle.quilt_btree.proofs.stores.Writes.{WritesPage, tells_at, all_told}
 use Rattle.quilt_btree.proofs.subtrees.Along.{IsSame}
 use Rattle.quilt_btree.proofs.subtrees.Descents.{child_bounds}
-use Rattle.quilt_btree.proofs.subtrees.Trees.{all_both}
+use Rattle.quilt_btree.proofs.subtrees.Trees.{all_both, one_less}
 use Rattle.quilt_btree.proofs.ways.Forks.{IsRead, page_here}
 use Rattle.quilt_btree.proofs.ways.Steps.{StepsTo}
 
@@ -76,7 +76,7 @@ leaf_edited {told} {now_told} {free} {size} {page} {bytes} {is_root} {b} {rs} {u
     let pages = can.pages in
     let s = can.subtree in
     let written = tells_at (λ old new. new ≡ slice_set old page bytes) told now_told pages w.wrote can.is_told in
-    let here : 1 ≤ multiplicity page used = subst (λ u. 1 ≤ multiplicity page u) (sym s.is_used) (first (multiplicity page (page ∷ [])) (times_here page [])) in
+    let here : 1 ≤ multiplicity page used = subst (λ u. 1 ≤ multiplicity page u) (sym s.is_used) (once_here page) in
     let left : new ≡ edit_all xs rs = d.is ∙ ap (edit_all xs) same in
     let under : list_all (is_below b.high) (edit_keys xs) ≡ true = subst (λ o. list_all (is_below o) (edit_keys xs) ≡ true) (sym fits.top) fits.below in
     let grown : Becomes pages (slice_set pages page bytes) free free page 1 is_root b used (edit_all xs rs) = record {
@@ -99,9 +99,6 @@ leaf_edited {told} {now_told} {free} {size} {page} {bytes} {is_root} {b} {rs} {u
       under = under;
       becomes = subst (λ g. Becomes pages (slice_set pages page bytes) free g page 1 is_root b used (edit_all xs rs)) (sym same_free) grown;
     }
-  where
-    first : (t : ℕ) → t ≡ 1 + 0 → 1 ≤ t
-    first t e = omega arith
 
 all_above_child : (inner : Inner) (b : Bounds) (i : ℕ) (k : Key) (xs : List Key) → IsPlace inner.keys k i
     → list_all (is_above b.low) xs ≡ true → list_all (λ x. is_le (key_cmp k x)) xs ≡ true
@@ -111,7 +108,7 @@ all_above_child inner b i k (x ∷ xs) p h g =
     let s = and_parts (is_above b.low x) (list_all (is_above b.low) xs) h in
     let t = and_parts (is_le (key_cmp k x)) (list_all (λ x. is_le (key_cmp k x)) xs) g in
     and_from (is_above (child_bounds inner b i).low x) (list_all (is_above (child_bounds inner b i).low) xs)
-    (subst (λ o. is_above o x ≡ true) (sym (child_low (drop i inner.keys) (from_keys (take i inner.keys) b)))
+    (subst (λ o. is_above o x ≡ true) (sym (head_low (drop i inner.keys) (from_keys (take i inner.keys) b)))
     (above_from (take i inner.keys) b x
     (all_follow (λ l. is_le (key_cmp l k)) (λ l. is_le (key_cmp l x)) (λ l e. le_le l k x e t.0) (take i inner.keys) p.before) s.0))
     (all_above_child inner b i k xs p s.1 t.1)
@@ -244,12 +241,3 @@ module _ (high : Option Key) (run : List Edit) where
   fails_leaf (Ok n) told free page height is_root one f = f
   fails_leaf (Err e) told free page height is_root one f =
       λ b rs used top can. f b rs used top (subst (λ h. CanEdit told free page h is_root b rs used) one can)
-
-  -- the edits that the leaf does not take
-  pub fails_here : (top : Option Key) (leaf rs : List Record) (n : ℕ) → top ≡ high → leaf ≡ rs → are_due (take n run) leaf ≡ false
-      → list_all (is_below high) (edit_keys (take n run)) ≡ true → Fails run top rs
-  fails_here top leaf rs n e same missing under = record {
-    number = n;
-    missing = subst (λ (l : List Record). are_due (take n run) l ≡ false) same missing;
-    under = subst (λ o. list_all (is_below o) (edit_keys (take n run)) ≡ true) (sym e) under;
-  }

@@ -1,8 +1,7 @@
 -- A leaf that is edited where it lies.
-use Rattle.std.proofs.Common.{◌≡◌, ℕ, ◌+◌, ◌≤◌, Bool, true, false, List, [], ◌∷◌, length, take, Option, Some, None, IfSome, slice_index_or, slice_set}
-use Rattle.std.proofs.Common.{refl, sym, ◌∙◌, ap, subst, arith}
+use Rattle.std.proofs.Common.{◌≡◌, ℕ, ◌≤◌, Bool, false, List, [], length, take, Option, Some, None, IfSome, slice_index_or, slice_set}
+use Rattle.std.proofs.Common.{refl, sym, ◌∙◌, ap, subst}
 use Rattle.std.specs.Prelude.{if◌then◌else◌}
-use Rattle.std.specs.Option.{is_some}
 use Rattle.std.proofs.lemmas.List.{set-get_or}
 use Rattle.quilt_record.specs.declared.key.Key.{Key}
 use Rattle.quilt_record.specs.declared.record.Record.{Record}
@@ -10,11 +9,11 @@ use Rattle.quilt_node.specs.Pages.{leaf_of}
 use Rattle.quilt_node.specs.Tree.{Bounds, is_above}
 use Rattle.quilt_world.specs.Tale.{Goes}
 use Rattle.quilt_btree.specs.declared.edit.Edit.{Edit}
-use Rattle.quilt_btree.specs.Batches.{edit_all, Fails, EditsLeaf, DidEdit}
+use Rattle.quilt_btree.specs.Batches.{edit_all, EditsLeaf, DidEdit}
 use Rattle.quilt_btree.specs.Edits.{multiplicity, CanEdit}
 use Rattle.quilt_btree.specs.Subtree.{Subtree}
 use Rattle.quilt_btree.proofs.batches.Below.{LieWithin, leaf_edited, all_first}
-use Rattle.quilt_btree.proofs.lists.Counts.{times_here}
+use Rattle.quilt_btree.proofs.lists.Counts.{once_here}
 use Rattle.quilt_btree.proofs.stores.Moves.{used_not_free}
 use Rattle.quilt_btree.proofs.stores.Writes.{WritesPage}
 use Rattle.quilt_btree.proofs.ways.Forks.{are_of}
@@ -25,10 +24,7 @@ pub leaf_taken : (told : Option (List (List ℕ))) (free : ℕ → Bool) (page :
 leaf_taken told free page is_root b rs used can =
     let s : Subtree can.pages 1 is_root (page, b) rs used = can.subtree in
     used_not_free free used page can.apart
-    (subst (λ u. 1 ≤ multiplicity page u) (sym s.is_used) (first (multiplicity page (page ∷ [])) (times_here page [])))
-  where
-    first : (t : ℕ) → t ≡ 1 + 0 → 1 ≤ t
-    first t e = omega arith
+    (subst (λ u. 1 ≤ multiplicity page u) (sym s.is_used) (once_here page))
 
 module _ (told : Option (List (List ℕ))) (free : ℕ → Bool) (page : ℕ) (is_root : Bool) (b : Bounds) (rs : List Record) (used old : List ℕ)
     (shown : IfSome told (λ pages. old ≡ slice_index_or pages page [])) where
@@ -37,13 +33,6 @@ module _ (told : Option (List (List ℕ))) (free : ℕ → Bool) (page : ℕ) (i
   lent_leaf can =
       let s : Subtree can.pages 1 is_root (page, b) rs used = can.subtree in
       ap leaf_of (are_of told page old shown can.pages can.is_told) ∙ s.page
-
-  pub no_leaf : is_some (leaf_of old) ≡ false → CanEdit told free page 1 is_root b rs used → ⊥
-  no_leaf none can =
-      differ (ap is_some (sym (lent_leaf can)) ∙ none)
-    where
-      differ : true ≡ false → ⊥
-      differ h = cc
 
 -- the first edits of the run were made where the leaf lies
 pub leaf_made : {told now_told : Option (List (List ℕ))} {free now : ℕ → Bool} {size page least : ℕ} {is_root : Bool} {b : Bounds} {rs : List Record}
@@ -54,14 +43,6 @@ leaf_made {b = b} {rs = rs} {run = run} {n = n} w made one lower fits same_free 
     leaf_edited w made.is (record { is = refl; due = made.due }) refl
     (record { above = all_first (is_above b.low) n run fits.above; below = fits.below; top = fits.top }) same_free
     (subst (λ k. k ≤ length (edit_all (take n run) rs)) lower (made.enough one)) can
-
--- an edit of the leaf is not due
-pub leaf_fails : {told : Option (List (List ℕ))} {free : ℕ → Bool} {page : ℕ} {is_root : Bool} {b : Bounds} {rs : List Record} {used : List ℕ}
-    (high : Option Key) (run : List Edit) (old : List ℕ) → IfSome told (λ pages. old ≡ slice_index_or pages page [])
-    → ((rs : List Record) → leaf_of old ≡ Some rs → Fails run high rs) → b.high ≡ high → CanEdit told free page 1 is_root b rs used
-    → Fails run b.high rs
-leaf_fails {told = told} {free = free} {page = page} {is_root = is_root} {b = b} {rs = rs} {used = used} high run old shown fails top can =
-    subst (λ o. Fails run o rs) (sym top) (fails rs (lent_leaf told free page is_root b rs used old shown can))
 
 -- bytes that are written back as they were change nothing
 pub wrote_same : (told now_told : Option (List (List ℕ))) (page : ℕ) (old bytes : List ℕ) → IfSome told (λ pages. old ≡ slice_index_or pages page [])

@@ -31,13 +31,13 @@ use Rattle.quilt_btree.proofs.batches.Leaves.{edit_at, taken, edit_all-append, a
 use Rattle.quilt_btree.proofs.growth.Fills.{within_put}
 use Rattle.quilt_btree.proofs.growth.TreeGrowth.{length-put, everywhere, whole_again}
 use Rattle.quilt_btree.proofs.lists.Lists.{filter_cond}
-use Rattle.quilt_btree.proofs.lists.RisingApart.{ascending_back}
 use Rattle.quilt_btree.proofs.lists.Withouts.{without_one_fewer}
 use Rattle.quilt_btree.proofs.removals.Drains.{asc_without}
 use Rattle.quilt_btree.proofs.removals.TreeRemovals.{IsRemoving, at_root}
 use Rattle.quilt_btree.proofs.subtrees.Along.{IsSame}
 use Rattle.quilt_btree.proofs.subtrees.Holdings.{subtree_some}
 use Rattle.quilt_btree.proofs.subtrees.Trees.{subtree_rises, ascending_first, ascending_rest}
+use Rattle.quilt_btree.proofs.lists.Separators.{ascending_behind}
 
 -- counts of runs
 pub more-append : (xs ys : List Edit) → more (xs ++ ys) ≡ more xs + more ys
@@ -243,7 +243,7 @@ keys_drop (suc i) (e ∷ run) = keys_drop i run
 pub rest_ascends : (run : List Edit) (i : ℕ) → is_ascending (edit_keys run) ≡ true → is_ascending (edit_keys (rest run i)) ≡ true
 rest_ascends run i a =
     subst (λ l. is_ascending (edit_keys l) ≡ true) (sym (take_rest run i)) (subst (λ l. is_ascending l ≡ true) (sym (keys_drop i run))
-    (ascending_back (take i (edit_keys run)) (drop i (edit_keys run))
+    (ascending_behind (take i (edit_keys run)) (drop i (edit_keys run))
     (subst (λ l. is_ascending l ≡ true) (sym (take-append-drop i (edit_keys run))) a)))
 
 pub made_rest : {told mid now_told : Option (List (List ℕ))} {free was now : ℕ → Bool} {size at : ℕ} (i n : ℕ) {t u v : Tree} (run : List Edit)
@@ -332,10 +332,6 @@ pub first_fails : (run : List Edit) (rs : List Record) → 1 ≤ length run → 
 first_fails [] rs some h = absurd (omega arith)
 first_fails (e ∷ run) rs some h = ap (λ b. b && are_due run (edited e rs)) h
 
-pub true_false : (b : Bool) → b ≡ true → b ≡ false → ⊥
-true_false true h g = cc
-true_false false h g = cc
-
 pub few_enough : (r a b m n : ℕ) → a + b ≡ m → r + m ≤ quota n → n ≤ 30000 → r + a < 4294967296
 few_enough r a b m n e h g = omega arith
 
@@ -387,9 +383,3 @@ cost_is [] = refl
 cost_is (edit.Remove k ∷ run) = let h = cost_is run in omega arith
 cost_is (edit.Put r ∷ run) = let h = cost_is run in omega arith
 cost_is (edit.Replace r ∷ run) = let h = cost_is run in omega arith
-
-pub more_few : (run : List Edit) → more run ≤ length run
-more_few [] = omega arith
-more_few (edit.Remove k ∷ run) = let h = more_few run in omega arith
-more_few (edit.Put r ∷ run) = let h = more_few run in omega arith
-more_few (edit.Replace r ∷ run) = let h = more_few run in omega arith

@@ -39,7 +39,7 @@ leaf_of_finger {told = told} {t = t} {rs = rs} {bytes = bytes} a some is =
     }
 
 -- a key below the bound is below all that stands behind the leaf
-under_past : (high : Option Key) (k m : Key) → is_below high k ≡ true → is_past high m ≡ true → is_lt (key_cmp k m) ≡ true
+pub under_past : (high : Option Key) (k m : Key) → is_below high k ≡ true → is_past high m ≡ true → is_lt (key_cmp k m) ≡ true
 under_past None k m below past = cc
 under_past (Some h) k m below past = lt_le k h m below past
 

@@ -19,11 +19,11 @@ use Rattle.quilt_btree.specs.Trees.{SpellsSubtree, IsTree}
 use Rattle.quilt_btree.proofs.cursors.Stands.{take_at, drop_at, over_le}
 use Rattle.quilt_btree.proofs.ranges.Ranges.{parts_same, no_both}
 use Rattle.quilt_btree.proofs.lists.Rising.{all_append, all_map}
-use Rattle.quilt_btree.proofs.lists.RisingApart.{all_under, ascending_back}
 use Rattle.quilt_btree.proofs.subtrees.Descending.{AtFloor, leads_below, along_told}
 use Rattle.quilt_btree.proofs.subtrees.Trees.{subtree_rises, ascending_first, keys_append}
 use Rattle.quilt_btree.proofs.subtrees.Whole.{tree_spells}
 use Rattle.quilt_btree.proofs.ways.Leaves.{cut_at, same_le}
+use Rattle.quilt_btree.proofs.lists.Separators.{ascending_behind, below_separator}
 
 -- in a leaf, where so many of its keys are below
 pub none_lower : (k : Key) (rs : List Record) (n : ℕ) → n ≡ 0 → list_all (λ (r : Record). is_le (key_cmp k r.key)) (drop n rs) ≡ true
@@ -130,8 +130,8 @@ parted : (xs : List Record) (r : Record) (ys : List Record) → is_ascending (ke
     → (list_all (λ (l : Record). is_lt (key_cmp l.key r.key)) xs ≡ true) × (list_all (λ (l : Record). is_le (key_cmp r.key l.key)) (r ∷ ys) ≡ true)
 parted xs r ys a =
     let cut = subst (λ l. is_ascending l ≡ true) (keys_append xs (r ∷ ys)) a in
-    let behind = ascending_first r.key (keys_of ys) (ascending_back (keys_of xs) (keys_of (r ∷ ys)) cut) in (
-      all_map (λ (l : Record). l.key) (λ l. is_lt (key_cmp l r.key)) xs (all_under (keys_of xs) r.key (keys_of ys) cut),
+    let behind = ascending_first r.key (keys_of ys) (ascending_behind (keys_of xs) (keys_of (r ∷ ys)) cut) in (
+      all_map (λ (l : Record). l.key) (λ l. is_lt (key_cmp l r.key)) xs (below_separator r.key (keys_of xs) (keys_of ys) cut),
       and_from (is_le (key_cmp r.key r.key)) (list_all (λ (l : Record). is_le (key_cmp r.key l.key)) ys) (same_le r.key)
           (over_le r.key ys (all_map (λ (l : Record). l.key) (λ l. is_lt (key_cmp r.key l)) ys behind)),
     )

@@ -44,18 +44,15 @@ drop_past (r ∷ rs) (suc i) h = drop_past rs i (fewer (length rs) i h)
     fewer : (n i : ℕ) → suc n ≤ suc i → n ≤ i
     fewer n i h = omega arith
 
+pub over_le : (k : Key) (xs : List Record) → list_all (λ r. is_lt (key_cmp k r.key)) xs ≡ true → list_all (λ r. is_le (key_cmp k r.key)) xs ≡ true
+over_le k xs h = all_follow (λ (r : Record). is_lt (key_cmp k r.key)) (λ r. is_le (key_cmp k r.key)) (λ r g. lt_to_le (key_cmp k r.key) g) xs h
+
 -- from a record that is found
 pub found_from : (k : Key) (rs : List Record) (i : ℕ) → IsFound k rs i → list_all (λ r. is_le (key_cmp k r.key)) (drop i rs) ≡ true
 found_from k rs i f =
     ap (list_all (λ (r : Record). is_le (key_cmp k r.key))) (drop_at rs i f.found f.here)
     ∙ and_from (is_le (key_cmp k f.found.key)) (list_all (λ (r : Record). is_le (key_cmp k r.key)) (drop (suc i) rs))
     (subst (λ m. is_le (key_cmp k m) ≡ true) (sym f.key) (same_le k)) (over_le k (drop (suc i) rs) f.behind)
-  where
-    over_le : (k : Key) (xs : List Record) → list_all (λ r. is_lt (key_cmp k r.key)) xs ≡ true → list_all (λ r. is_le (key_cmp k r.key)) xs ≡ true
-    over_le k xs h = all_follow (λ (r : Record). is_lt (key_cmp k r.key)) (λ r. is_le (key_cmp k r.key)) (λ r g. lt_to_le (key_cmp k r.key) g) xs h
-
-pub over_le : (k : Key) (xs : List Record) → list_all (λ r. is_lt (key_cmp k r.key)) xs ≡ true → list_all (λ r. is_le (key_cmp k r.key)) xs ≡ true
-over_le k xs h = all_follow (λ (r : Record). is_lt (key_cmp k r.key)) (λ r. is_le (key_cmp k r.key)) (λ r g. lt_to_le (key_cmp k r.key) g) xs h
 
 assoc : (xs ys zs : List Record) → (xs ++ ys) ++ zs ≡ xs ++ (ys ++ zs)
 assoc [] ys zs = refl

@@ -1,9 +1,9 @@
 -- A subtree that is to be edited, and the child to which a key leads.
 use Rattle.std.proofs.Common.{◌≡◌, ◌≢◌, ℕ, suc, ◌+◌, ◌<◌, ◌≤◌, Bool, true, false, ◌||◌, nat_le, List, [], ◌∷◌, ◌++◌, length, take, drop, Option, Some}
 use Rattle.std.proofs.lemmas.Bool.{and_parts}
-use Rattle.std.proofs.Common.{slice_index, slice_index_or, refl, sym, ◌∙◌, ap, subst, arith, take-append-drop}
+use Rattle.std.proofs.Common.{slice_index, slice_index_or, sym, ◌∙◌, ap, subst, arith, take-append-drop}
 use Rattle.std.specs.List.{list_all}
-use Rattle.std.specs.Ordering.{is_lt, is_le}
+use Rattle.std.specs.Ordering.{is_le}
 use Rattle.quilt_record.specs.declared.key.Key.{Key}
 use Rattle.quilt_record.specs.declared.record.Record.{Record}
 use Rattle.quilt_record.specs.Records.{key_cmp}
@@ -16,10 +16,10 @@ use Rattle.quilt_btree.specs.Trees.{ReadsInner, SpellsSubtree}
 use Rattle.quilt_btree.proofs.lists.Counts.{times-append, times-three}
 use Rattle.quilt_btree.proofs.stores.Moves.{AreApart, apart_some}
 use Rattle.quilt_btree.proofs.subtrees.Trees.{IsInnerList, inner_list}
-use Rattle.quilt_btree.proofs.rows.Places.{front, from_keys, head_bounds, tail_places, bounded_at, one_row, high_from}
+use Rattle.quilt_btree.proofs.rows.Places.{front, from_keys, tail_places, bounded_at, one_row, high_from, head_low}
 use Rattle.quilt_btree.proofs.lists.Lists.{IsAmong}
 use Rattle.quilt_btree.proofs.subtrees.Descents.{child_bounds, AtChild, leads_down, cut_children, as_long, place_in}
-use Rattle.quilt_btree.proofs.subtrees.Descending.{height_above}
+use Rattle.quilt_btree.proofs.subtrees.Descending.{height_above, key_below}
 
 -- what stands below an inner page, around the child to which the key leads
 pub record IsBelow (told : Option (List (List ℕ))) (free : ℕ → Bool) (page height : ℕ) (is_root : Bool) (b : Bounds) (k : Key) (rs : List Record)
@@ -64,25 +64,16 @@ above_from (l ∷ ks) b k h g =
     let t = and_parts (is_le (key_cmp l k)) (list_all (λ m. is_le (key_cmp m k)) ks) h in
     above_from ks (record { low = Some l; high = b.high }) k t.1 t.0
 
-head_low : (ks : List Key) (b : Bounds) → (head_bounds ks b).low ≡ b.low
-head_low [] b = refl
-head_low (k ∷ ks) b = refl
-
 pub child_above : (inner : Inner) (b : Bounds) (i : ℕ) (k : Key) → IsPlace inner.keys k i → is_above b.low k ≡ true
     → is_above (child_bounds inner b i).low k ≡ true
 child_above inner b i k p h =
     subst (λ o. is_above o k ≡ true) (sym (head_low (drop i inner.keys) (from_keys (take i inner.keys) b)))
     (above_from (take i inner.keys) b k p.before h)
 
-pub head_below : (ks : List Key) (b : Bounds) (k : Key) → list_all (λ l. is_lt (key_cmp k l)) ks ≡ true → is_below b.high k ≡ true
-    → is_below (head_bounds ks b).high k ≡ true
-head_below [] b k p h = h
-head_below (l ∷ ks) b k p h = (and_parts (is_lt (key_cmp k l)) (list_all (λ m. is_lt (key_cmp k m)) ks) p).0
-
 pub child_below : (inner : Inner) (b : Bounds) (i : ℕ) (k : Key) → IsPlace inner.keys k i → is_below b.high k ≡ true
     → is_below (child_bounds inner b i).high k ≡ true
 child_below inner b i k p h =
-    head_below (drop i inner.keys) (from_keys (take i inner.keys) b) k p.behind
+    key_below (drop i inner.keys) (from_keys (take i inner.keys) b) k p.behind
     (subst (λ o. is_below o k ≡ true) (sym (high_from (take i inner.keys) b)) h)
 
 module _ (told : Option (List (List ℕ))) (free : ℕ → Bool) (page height : ℕ) (is_root : Bool) (b : Bounds) where

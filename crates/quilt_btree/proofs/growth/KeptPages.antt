@@ -30,11 +30,8 @@ use Rattle.quilt_btree.proofs.subtrees.Trees.{subtree_rises}
 use Rattle.quilt_btree.proofs.subtrees.Whole.{no_records}
 use Rattle.quilt_btree.proofs.lists.Withouts.{without_missing, without_one_fewer, without_none}
 use Rattle.quilt_btree.proofs.stores.Writes.{WritesPage, tells_at, TellsAll, all_told}
-use Rattle.quilt_btree.proofs.growth.TreeGrowth.{everywhere, root_found, tree_again, length-put, two_thirds, too_many, UnderRoot, IsNewRoot, regrown_split}
+use Rattle.quilt_btree.proofs.growth.TreeGrowth.{everywhere, root_found, tree_again, length-put, two_thirds, too_many, UnderRoot, IsNewRoot, regrown_split, some_height}
 use Rattle.quilt_btree.proofs.removals.TreeRemovals as removals
-
-some_height : (h : ℕ) → h ≢ 0 → 1 ≤ h
-some_height h ne = omega arith
 
 -- the tree as a subtree that can be edited
 pub record AtRoot (told : Option (List (List ℕ))) (free : ℕ → Bool) (t : Tree) (rs : List Record) : Type 0 where

@@ -19,7 +19,7 @@ use Rattle.quilt_world.specs.Tale.{Goes}
 use Rattle.quilt_record.specs.Lists.{has_key, put}
 use Rattle.quilt_btree.specs.Edits.{multiplicity, KeepsAccount, Becomes, Separated, CanInsert, DidInsert}
 use Rattle.quilt_btree.specs.declared.outcomes.Inserted.TheVariants as inserted
-use Rattle.quilt_btree.proofs.lists.Counts.{times_here}
+use Rattle.quilt_btree.proofs.lists.Counts.{once_here}
 use Rattle.quilt_btree.proofs.stores.Moves.{moves_written, used_account}
 use Rattle.quilt_btree.proofs.lists.Rising.{all_append, map_all}
 use Rattle.quilt_btree.proofs.subtrees.Trees.{leaf_list, keys_append}
@@ -27,6 +27,7 @@ use Rattle.quilt_btree.specs.Trees.{ReadsLeaf, SpellsSubtree}
 use Rattle.quilt_btree.proofs.ways.Leaves.{put_gap, gap_any, found_any, same_le}
 use Rattle.quilt_btree.proofs.lists.Separators.{separated_at}
 use Rattle.quilt_btree.proofs.stores.Writes.{tells_at, TellsAll, all_told, both_written}
+use Rattle.quilt_btree.proofs.lists.Lists.{begins_with}
 
 keys_insert : (rs : List Record) (i : ℕ) (r : Record) → keys_of (insert rs i r) ≡ insert (keys_of rs) i r.key
 keys_insert rs zero r = refl
@@ -88,11 +89,6 @@ pub record AreHalves (r : Record) (rs : List Record) (i : ℕ) (left right : Lis
   pub begins : slice_get (drop 72 (insert rs i r)) 0 ≡ Some start
   pub is_key : key ≡ start.key
 
--- a list from its first element on
-begins_with : (rs : List Record) (start : Record) → slice_get rs 0 ≡ Some start → (more : List Record) × (rs ≡ start ∷ more)
-begins_with [] start h = cc
-begins_with (s ∷ rs) start h = let same : s ≡ start = cc in (rs, ap (λ t. t ∷ rs) same)
-
 record HasHalves (b : Bounds) (xs : List Record) (n : ℕ) (key : Key) : Type 0 where
   above : is_above b.low key ≡ true
   below : is_below b.high key ≡ true
@@ -131,7 +127,7 @@ leaf_split {told} {now_told} {free} {now} {size} {page} {new} {i} {r} {left} {ri
     let xs = insert rs i r in
     let news = slice_set (slice_set pages page left) new right in
     let written = tells_at (λ old now. now ≡ slice_set (slice_set old page left) new right) told now_told pages wrote told_is in
-    let here : 1 ≤ multiplicity page used = subst (λ u. 1 ≤ multiplicity page u) (sym s.is_used) (first (multiplicity page (page ∷ [])) (times_here page [])) in
+    let here : 1 ≤ multiplicity page used = subst (λ u. 1 ≤ multiplicity page u) (sym s.is_used) (once_here page) in
     let both = both_written pages free now used page new left right can.can_edit.apart here (all_told told size page pages is.many told_is is.inside)
     (all_told told size new pages is.many told_is inside_new) t f in
     let old_list = leaf_list (slice_index_or pages page []) rs s.page in
@@ -162,9 +158,6 @@ leaf_split {told} {now_told} {free} {now} {size} {page} {new} {i} {r} {left} {ri
       done = (gap_any r.key rs i is.gap, subst (λ l. Separated pages news free now page 1 b used l key new) (put_gap r rs i is.gap) separated);
     }
   where
-    first : (t : ℕ) → t ≡ 1 + 0 → 1 ≤ t
-    first t e = omega arith
-
     most : (n : ℕ) → n ≡ 145 → 72 ≤ n
     most n e = omega arith
 
@@ -184,7 +177,7 @@ module _ (told now_told : Option (List (List ℕ))) (free now : ℕ → Bool) (s
       let pages = can.can_edit.pages in
       let s = can.can_edit.subtree in
       let written = tells_at (λ old new. new ≡ slice_set old page bytes) told now_told pages wrote can.can_edit.is_told in
-      let here : 1 ≤ multiplicity page used = subst (λ u. 1 ≤ multiplicity page u) (sym s.is_used) (first (multiplicity page (page ∷ [])) (times_here page [])) in
+      let here : 1 ≤ multiplicity page used = subst (λ u. 1 ≤ multiplicity page u) (sym s.is_used) (once_here page) in
       let is_put : insert rs i r ≡ put r rs = put_gap r rs i is.gap in
       let grown : Becomes pages (slice_set pages page bytes) free free page 1 is_root b used (insert rs i r) = record {
         uses = used;

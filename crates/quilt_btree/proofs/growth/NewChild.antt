@@ -12,7 +12,7 @@ use Rattle.quilt_node.proofs.Ascending.{ascending_insert, ascending_take, ascend
 use Rattle.quilt_record.proofs.Orders.{lt_le, lt_to_le}
 use Rattle.quilt_btree.proofs.lists.Rising.{all_follow, all_parts, all_append, above_on, below_on}
 use Rattle.quilt_btree.proofs.subtrees.Trees.{ascending_first, ascending_rest}
-use Rattle.quilt_btree.proofs.rows.Places.{front, from_keys, head_bounds, tail_places, bounded_front, bounded_head, high_from}
+use Rattle.quilt_btree.proofs.rows.Places.{front, from_keys, head_bounds, tail_places, bounded_front, bounded_head, high_from, head_low}
 use Rattle.quilt_btree.proofs.subtrees.Descents.{child_bounds, as_long, behind_many}
 use Rattle.quilt_btree.proofs.lists.Fitting.{are_under, are_over}
 
@@ -35,10 +35,6 @@ tail_again cs (k ∷ ks) b key n = refl
 -- the two children that one became, with their bounds
 abbrev pub two_places : ℕ → ℕ → Key → Bounds → List (ℕ × Bounds)
 two_places c right key b = (c, record { low = b.low; high = Some key }) ∷ (right, record { low = Some key; high = b.high }) ∷ []
-
-head_low : (ks : List Key) (b : Bounds) → (head_bounds ks b).low ≡ b.low
-head_low [] b = refl
-head_low (k ∷ ks) b = refl
 
 -- keys whose last is below another key are below it
 under_from : (ks : List Key) (b : Bounds) (key : Key) → is_ascending ks ≡ true

@@ -166,7 +166,7 @@ pub record IsInserting (told : Option (List (List ℕ))) (free : ℕ → Bool) (
   pub inside : FreeIn free size
   pub many : TellsAll told size
 
-some_height : (h : ℕ) → h ≢ 0 → 1 ≤ h
+pub some_height : (h : ℕ) → h ≢ 0 → 1 ≤ h
 some_height h ne = omega arith
 
 pub insert_from : (told : Option (List (List ℕ))) (free : ℕ → Bool) (size : ℕ) (t : Tree) (rs : List Record) → IsInserting told free size t

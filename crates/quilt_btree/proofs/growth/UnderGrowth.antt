@@ -35,6 +35,7 @@ use Rattle.quilt_btree.proofs.rows.Places.{front, from_keys, tail_places, row_on
 use Rattle.quilt_btree.proofs.lists.Rising.{all_append}
 use Rattle.quilt_btree.proofs.rows.Splices.{RowMoved, middle_moved, parent_stays, becomes_then}
 use Rattle.quilt_btree.proofs.stores.Writes.{TellsAll, if_some_at}
+use Rattle.quilt_btree.proofs.subtrees.Trees.{one_less}
 
 -- an inner page was read, and the key leads to this child
 pub record LeadsToChild (told then_told : Option (List (List ℕ))) (free then_free : ℕ → Bool) (size then_size page height child i : ℕ) (k : Key)
@@ -45,9 +46,6 @@ pub record LeadsToChild (told then_told : Option (List (List ℕ))) (free then_f
   pub reads : ReadsInner told page inner
   pub place : IsPlace inner.keys k i
   pub is_child : child ≡ slice_index inner.children i
-
-one_less : (height below : ℕ) → height ≡ suc (suc below) → height - 1 ≡ suc below
-one_less height below e = omega arith
 
 module _ (told then_told : Option (List (List ℕ))) (free then_free : ℕ → Bool) (size then_size page height child i : ℕ) (k : Key) (inner : Inner)
     (is_root : Bool) (b : Bounds) (rs : List Record) (used : List ℕ)

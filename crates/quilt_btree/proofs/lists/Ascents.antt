@@ -4,6 +4,7 @@ use Rattle.std.proofs.lemmas.Bool.{and_parts}
 use Rattle.std.proofs.Common.{subst, arith}
 use Rattle.std.specs.Prelude.{slice_get, slice_set}
 use Rattle.std.specs.Ordering.{is_lt}
+use Rattle.std.proofs.lemmas.Option.{same_Some}
 use Rattle.quilt_record.specs.declared.key.Key.{Key}
 use Rattle.quilt_record.specs.declared.record.Record.{Record}
 use Rattle.quilt_record.specs.Records.{key_cmp}
@@ -120,7 +121,7 @@ module _ (ks : List Key) (k : Key) where
   fits_behind i j l lt asc f e h =
       fits_from i lt asc true (is_lt (key_cmp k l)) (past_first ks i k f) (ap (is_before_all k) (ap (slice_get ks) (sym e) ∙ h))
 
-no_more : (ks : List Key) (i : ℕ) → length ks ≤ i → slice_get ks i ≡ None
+pub no_more : (ks : List Key) (i : ℕ) → length ks ≤ i → slice_get ks i ≡ None
 no_more [] i h = refl
 no_more (k ∷ ks) zero h = absurd (omega arith)
 no_more (k ∷ ks) (suc i) h = no_more ks i (omega arith)
@@ -133,10 +134,7 @@ fits_last ks i k lt asc f e = fits_from ks k i lt asc true true (past_first ks i
 module _ (ks : List Key) (i : ℕ) (k : Key) where
   pub known_past : (l : Key) → slice_get ks (i - 1) ≡ Some l → is_lt (key_cmp l k) ≡ true → (m : Key) → 0 < i → slice_get ks (i - 1) ≡ Some m
       → is_lt (key_cmp m k) ≡ true
-  known_past l h g m some e = let same : l ≡ m = some_same l m (sym h ∙ e) in subst (λ n. is_lt (key_cmp n k) ≡ true) same g
-    where
-      some_same : (a b : Key) → Some a ≡ Some b → a ≡ b
-      some_same a b q = cc
+  known_past l h g m some e = let same : l ≡ m = same_Some l m (sym h ∙ e) in subst (λ n. is_lt (key_cmp n k) ≡ true) same g
 
   pub first_past : i ≤ 0 → (m : Key) → 0 < i → slice_get ks (i - 1) ≡ Some m → is_lt (key_cmp m k) ≡ true
   first_past none m some e = absurd (omega arith)

@@ -36,9 +36,15 @@ self_test q = grind (arith, nat_tests)
 pub other_test : (q p : ℕ) → p ≢ q → (q == p) ≡ false
 other_test q p h = grind (arith, nat_tests)
 
+pub some_not_none : (n : ℕ) → 1 ≤ n → n ≡ 0 → ⊥
+some_not_none n h e = omega arith
+
 -- a page that stands there first, and one that does not
 pub times_here : (p : ℕ) (used : List ℕ) → multiplicity p (p ∷ used) ≡ 1 + multiplicity p used
 times_here p used = ap (λ b. cond {A = ℕ} b 1 0 + multiplicity p used) (self_test p)
+
+pub once_here : (p : ℕ) → 1 ≤ multiplicity p (p ∷ [])
+once_here p = let e = times_here p [] in omega arith
 
 pub times_other : (p q : ℕ) (used : List ℕ) → p ≢ q → multiplicity p (q ∷ used) ≡ multiplicity p used
 times_other p q used ne = ap (λ b. cond {A = ℕ} b 1 0 + multiplicity p used) (other_test q p ne) ∙ nothing (multiplicity p used)

@@ -1,7 +1,7 @@
 -- What is looked for, put in or taken out concerns one part of an ascending list alone.
 use Rattle.std.proofs.Common.{◌≡◌, Bool, true, false, ◌||◌, not, cond, List, [], ◌∷◌, ◌++◌, filter, Option, Some, None, refl, ◌∙◌, ap}
 use Rattle.std.proofs.lemmas.Bool.{and_parts, not-true}
-use Rattle.std.specs.Prelude.{if◌then◌else◌}
+use Rattle.std.specs.Prelude.{if◌then◌else◌, slice_get}
 use Rattle.std.specs.List.{list_any, list_all, find, last_or}
 use Rattle.std.specs.Ordering.{is_lt, is_le, ordering_reverse}
 use Rattle.std.specs.Option.{option_or}
@@ -28,6 +28,15 @@ pub record IsAmong (k : Key) (before here behind rs : List Record) : Type 0 wher
   pub records : rs ≡ before ++ (here ++ behind)
   pub lower : AreBelow k before
   pub higher : AreAbove k behind
+
+pub true_false : (b : Bool) → b ≡ true → b ≡ false → ⊥
+true_false true h g = cc
+true_false false h g = cc
+
+-- a list from its first element on
+pub begins_with : (rs : List Record) (r : Record) → slice_get rs 0 ≡ Some r → (rest : List Record) × (rs ≡ r ∷ rest)
+begins_with [] r h = cc
+begins_with (x ∷ xs) r h = (xs, cc)
 
 pub filter_cond : {X : Type 0} (p : X → Bool) (x : X) (xs ys : List X) (b : Bool) → p x ≡ b → cond (p x) (x ∷ xs) ys ≡ cond b (x ∷ xs) ys
 filter_cond p x xs ys b e = ap (λ c. cond c (x ∷ xs) ys) e

@@ -11,10 +11,7 @@ use Rattle.quilt_record.proofs.Orders.{lt_to_le}
 use Rattle.quilt_btree.proofs.lists.Rising.{IsRising, all_follow, all_parts}
 use Rattle.quilt_btree.proofs.subtrees.Trees.{ascending_first, ascending_rest, all_both}
 use Rattle.quilt_btree.proofs.ways.Leaves.{same_le}
-
-pub ascending_back : (ks ls : List Key) → is_ascending (ks ++ ls) ≡ true → is_ascending ls ≡ true
-ascending_back [] ls a = a
-ascending_back (k ∷ ks) ls a = ascending_back ks ls (ascending_rest k (ks ++ ls) a)
+use Rattle.quilt_btree.proofs.lists.Separators.{ascending_behind, below_separator}
 
 pub ascending_front : (ks ls : List Key) → is_ascending (ks ++ ls) ≡ true → is_ascending ks ≡ true
 ascending_front [] ls a = refl
@@ -22,14 +19,6 @@ ascending_front (k ∷ []) ls a = refl
 ascending_front (k ∷ l ∷ ks) ls a =
     let t = and_parts (is_lt (key_cmp k l)) (is_ascending (l ∷ ks ++ ls)) a in
     and_from (is_lt (key_cmp k l)) (is_ascending (l ∷ ks)) t.0 (ascending_front (l ∷ ks) ls t.1)
-
-pub all_under : (ks : List Key) (k : Key) (ls : List Key) → is_ascending (ks ++ k ∷ ls) ≡ true → list_all (λ l. is_lt (key_cmp l k)) ks ≡ true
-all_under [] k ls a = refl
-all_under (m ∷ ks) k ls a =
-    let over = all_parts (λ l. is_lt (key_cmp m l)) ks (k ∷ ls) (ascending_first m (ks ++ k ∷ ls) a) in
-    and_from (is_lt (key_cmp m k)) (list_all (λ l. is_lt (key_cmp l k)) ks)
-    (and_parts (is_lt (key_cmp m k)) (list_all (λ l. is_lt (key_cmp m l)) ls) over.1).0
-    (all_under ks k ls (ascending_rest m (ks ++ k ∷ ls) a))
 
 -- what stands before a key, and what stands from it on
 pub record RisesApart (b : Bounds) (ks : List Key) (k : Key) (ls : List Key) : Type 0 where
@@ -41,7 +30,7 @@ pub record RisesApart (b : Bounds) (ks : List Key) (k : Key) (ls : List Key) : T
 
 pub rises_apart : (b : Bounds) (ks : List Key) (k : Key) (ls : List Key) → IsRising b (ks ++ k ∷ ls) → RisesApart b ks k ls
 rises_apart b ks k ls r =
-    let asc = ascending_back ks (k ∷ ls) r.ascends in
+    let asc = ascending_behind ks (k ∷ ls) r.ascends in
     let w = all_parts (λ m. is_above b.low m && is_below b.high m) ks (k ∷ ls) r.within in
     let here = and_parts (is_above b.low k && is_below b.high k) (are_within b ls) w.1 in
     let mine = and_parts (is_above b.low k) (is_below b.high k) here.0 in
@@ -56,7 +45,7 @@ rises_apart b ks k ls r =
         ascends = ascending_front ks (k ∷ ls) r.ascends;
         within = all_both (is_above b.low) (λ m. is_lt (key_cmp m k)) ks
             (all_follow (λ m. is_above b.low m && is_below b.high m) (is_above b.low) (λ m h. (and_parts (is_above b.low m) (is_below b.high m) h).0) ks w.0)
-            (all_under ks k ls r.ascends);
+            (below_separator k ks ls r.ascends);
       };
       behind = record { ascends = ascending_rest k ls asc; within = rest };
       from_here = record {

@@ -24,7 +24,7 @@ same_late pages news late early same p h = same p (list_any-append (λ v. v == p
 same_early : (pages news : List (List ℕ)) (late early : List ℕ) → SameOn pages news (late ++ early) → SameOn pages news early
 same_early pages news late early same p h = same p (list_any-append (λ v. v == p) late early ∙ or_right _ _ h)
 
-is_in_first : (p : ℕ) → is_in p (p ∷ []) ≡ true
+pub is_in_first : (p : ℕ) → is_in p (p ∷ []) ≡ true
 is_in_first p = grind arith
 
 module _ (pages news : List (List ℕ)) where

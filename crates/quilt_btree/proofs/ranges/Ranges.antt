@@ -15,7 +15,7 @@ use Rattle.quilt_node.specs.Tree.{is_below}
 use Rattle.quilt_btree.specs.Trees.{LeadsToLeaf, IsAsFar, is_past}
 use Rattle.quilt_record.proofs.Orders.{lt_le, le_le, lt_to_le, not_le}
 use Rattle.quilt_btree.proofs.lists.Rising.{all_follow, all_append}
-use Rattle.quilt_btree.proofs.lists.Lists.{AreBelow, filter_none, filter_cond, gt_not_le}
+use Rattle.quilt_btree.proofs.lists.Lists.{AreBelow, filter_none, filter_cond, gt_not_le, true_false}
 
 pub take_next : {X : Type 0} (xs : List X) (i : ℕ) (x : X) → slice_get xs i ≡ Some x → take (i + 1) xs ≡ take i xs ++ x ∷ []
 take_next xs i x h = ap (λ n. take n xs) (add-one i) ∙ next xs i x h
@@ -79,11 +79,7 @@ abbrev pub StandsBetween : Key → List Record → List Record → Type 0
 StandsBetween k before behind = AreBelow k before × (list_all (λ (r : Record). is_le (key_cmp k r.key)) behind ≡ true)
 
 pub no_both : (a b : Key) → is_lt (key_cmp a b) ≡ true → is_le (key_cmp b a) ≡ true → ⊥
-no_both a b h g = no (is_le (key_cmp b a)) g (gt_not_le a b h)
-  where
-    no : (c : Bool) → c ≡ true → c ≡ false → ⊥
-    no true h g = cc
-    no false h g = cc
+no_both a b h g = true_false (is_le (key_cmp b a)) g (gt_not_le a b h)
 
 -- a key parts a list at one place
 pub parts_same : (k : Key) (xs ys us vs : List Record) → xs ++ ys ≡ us ++ vs → StandsBetween k xs ys → StandsBetween k us vs → (xs ≡ us) × (ys ≡ vs)

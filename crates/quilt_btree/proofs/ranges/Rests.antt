@@ -4,7 +4,7 @@ use Rattle.std.proofs.Common.{Ok, Err, OnOk, zero, suc, refl, sym, ◌∙◌, ap
 use Rattle.std.specs.Prelude.{IfSome, MatchOption}
 use Rattle.std.specs.Result.{is_err}
 use Rattle.quilt_world.specs.Tale.{Goes}
-use Rattle.std.specs.Ordering.{is_lt, is_le}
+use Rattle.std.specs.Ordering.{is_le}
 use Rattle.quilt_record.specs.declared.key.Key.{Key}
 use Rattle.quilt_record.specs.declared.record.Record.{Record}
 use Rattle.quilt_record.specs.Records.{key_cmp}
@@ -13,10 +13,10 @@ use Rattle.quilt_store.specs.Stops.{IsNotDamage}
 use Rattle.quilt_btree.specs.declared.tree.Tree.{Tree}
 use Rattle.quilt_btree.specs.Lists.{is_from_to, range_of}
 use Rattle.quilt_btree.specs.Trees.{SpellsSubtree, IsTree, LeadsToLeaf, IsCut, IsBound, Divides, Before}
-use Rattle.quilt_record.proofs.Orders.{le_lt, lt_to_le}
 use Rattle.quilt_btree.proofs.ways.Leaves.{same_le}
 use Rattle.quilt_btree.proofs.subtrees.Whole.{tree_spells, no_records}
 use Rattle.quilt_btree.proofs.ranges.Ranges.{range_more, range_first, range_next, range_ends, range_fills, adds_some}
+use Rattle.quilt_btree.proofs.ranges.Spans.{le_on}
 
 -- the leaf that a search for the key came to, and what of it was added to the list
 pub record CameTo (told : Option (List (List ℕ))) (t : Tree) (from high : Key) (most : ℕ) (leaf old new : List Record) (up : Option Key) : Type 0 where
@@ -67,9 +67,6 @@ pub next_divides : (pages : List (List ℕ)) (height page : ℕ) (up : Option Ke
 next_divides pages height page up next e (inl none) = cc
 next_divides pages height page up next e (inr q) = let is = q.1 in let same : q.0 ≡ next = cc in subst (λ k. Divides pages height page k) same q.2
 
-later : (low from next : Key) → is_le (key_cmp low from) ≡ true → is_lt (key_cmp from next) ≡ true → is_le (key_cmp low next) ≡ true
-later low from next h g = lt_to_le (key_cmp low next) (le_lt low from next h g)
-
 module _ (told : Option (List (List ℕ))) (t : Tree) (low : Key) where
   -- and it goes on from the next key
   pub rest_goes_on : {from high next : Key} {most : ℕ} {leaf old new rs : List Record} {up : Option Key}
@@ -81,7 +78,7 @@ module _ (told : Option (List (List ℕ))) (t : Tree) (low : Key) where
         is.pages,
         is.is_told,
         next_divides is.pages t.height t.root up next e (c.cut.ends is.pages rs s.0 is.is_told s.1 refl),
-        later low from next le
+        le_on low from next le
             (on.0.key_under refl),
         range_next low from high most rs leaf new None next on.0 refl on.1,
       )

@@ -2,6 +2,7 @@
 use Rattle.std.proofs.Common.{◌≡◌, ℕ, suc, ◌+◌, ◌<◌, ◌≤◌, Bool, true, false, ◌||◌, nat_le, List, [], ◌∷◌, ◌++◌, length, Option, Some, slice_index}
 use Rattle.std.proofs.Common.{slice_index_or, slice_set, refl, sym, ◌∙◌, ap, subst, arith, get_or-set_same, length-set}
 use Rattle.std.specs.List.{remove}
+use Rattle.std.proofs.lemmas.Option.{same_Some}
 use Rattle.quilt_record.specs.declared.key.Key.{Key}
 use Rattle.quilt_record.specs.declared.record.Record.{Record}
 use Rattle.quilt_node.specs.Pages.{Inner, inner_of}
@@ -12,11 +13,10 @@ use Rattle.quilt_btree.specs.declared.outcomes.Rebalanced.TheVariants as rebalan
 use Rattle.quilt_btree.specs.declared.outcomes.Removed.{Removed}
 use Rattle.quilt_btree.specs.declared.outcomes.Removed.TheVariants as removed
 use Rattle.quilt_btree.specs.Subtree.{Row, Subtree}
-use Rattle.quilt_btree.specs.Edits.{multiplicity, KeepsAccount, Becomes, IsNearlyFull, DidLeave}
+use Rattle.quilt_btree.specs.Edits.{KeepsAccount, Becomes, IsNearlyFull, DidLeave}
 use Rattle.quilt_btree.specs.Rebalancing.{HasRebalanced, DidRebalance, WritesInner, HasDropped}
-use Rattle.quilt_btree.proofs.lists.Counts.{times-append, times_here}
 use Rattle.quilt_btree.proofs.stores.Moves.{AreApart, apart_then, used_not_free}
-use Rattle.quilt_btree.proofs.rows.Splices.{parent_written, becomes_then}
+use Rattle.quilt_btree.proofs.rows.Splices.{parent_written, becomes_then, page_in}
 use Rattle.quilt_btree.proofs.rows.Places.{front, row_one, one_row}
 use Rattle.quilt_btree.proofs.removals.LeafRemovals.{few_root, not_root, many_enough, one_fewer}
 use Rattle.quilt_btree.proofs.rows.Middles.{rear, gap_bounds, bounded_one, bounded_two, StandsAround, middle_changed, row_two, remove_middle, remove_second, set_middle}
@@ -34,11 +34,8 @@ pub rebalances : {told mid : Option (List (List ℕ))} {free between : ℕ → B
     {rs : List Record} {used : List ℕ} {o : Rebalanced} → told ≡ Some pages → DidRebalance told mid free between height left right b rs used o
     → Rebalances told mid free between pages height left right b rs used o
 rebalances {free = free} {between = between} pages {height = height} {left = left} {right = right} {b = b} {rs = rs} {used = used} {o = o} e d =
-    let same : d.pages ≡ pages = some_same d.pages pages (sym d.was ∙ e) in
+    let same : d.pages ≡ pages = same_Some d.pages pages (sym d.was ∙ e) in
     record { news = d.news; is = d.is; done = subst (λ p. HasRebalanced p d.news free between height left right b rs used o) same d.done }
-  where
-    some_same : (x y : List (List ℕ)) → Some x ≡ Some y → x ≡ y
-    some_same x y e = cc
 
 -- the children of the page, rebalanced, with the page still as it was
 pub record ChildrenRebalanced (mid : Option (List (List ℕ))) (free between : ℕ → Bool) (page below : ℕ) (pages : List (List ℕ)) (inner : Inner)
@@ -51,10 +48,6 @@ pub record ChildrenRebalanced (mid : Option (List (List ℕ))) (free between : �
   pub apart : AreApart between (uses ++ page ∷ [])
   pub within : are_within b inner.keys ≡ true
   pub is_height : inner.height ≡ suc (suc below)
-
-same_subtree : (pages : List (List ℕ)) (h : ℕ) (c : ℕ × Bounds) (ss : List Record) (u : List ℕ) → Subtree pages (suc h) false c ss u
-    → Subtree pages (suc h) false c ss u
-same_subtree pages h c ss u s = s
 
 module _ (told mid : Option (List (List ℕ))) (free between : ℕ → Bool) (page below : ℕ) (inner : Inner) (j left : ℕ) (key : Key) (right : ℕ)
     (is_root : Bool) (b : Bounds) (rs : List Record) (used : List ℕ) where
@@ -75,7 +68,7 @@ module _ (told mid : Option (List (List ℕ))) (free between : ℕ → Bool) (pa
         is_under = n.is_under;
         apart = apart;
       } in
-      let changed = middle_changed S below (same_subtree m.news below) ((left, gap) ∷ []) n.here beside
+      let changed = middle_changed S below (λ c ss u s. s) ((left, gap) ∷ []) n.here beside
       (row_one S (left, gap) n.here m.done.uses m.done.subtree) m.done.moves in
       let kids : remove inner.children (suc j) ≡ n.cut.ca ++ left ∷ n.cut.cb =
       ap (λ x. remove x (suc j)) n.cut.children ∙ remove_second n.cut.ca left right n.cut.cb j (n.cut.before ∙ n.cut.place) in
@@ -143,7 +136,7 @@ module _ (told : Option (List (List ℕ))) (free : ℕ → Bool) (page below : �
           is_under = n.is_under;
           apart = apart;
         } in
-        let changed = middle_changed S below (same_subtree m.news below) (low ∷ high ∷ []) n.here beside two m.done.moves in
+        let changed = middle_changed S below (λ c ss u s. s) (low ∷ high ∷ []) n.here beside two m.done.moves in
         let keys = set_is in
         let fits = separated_ascends told mid free between page below inner j left key right is_root b rs used separator n d in
         let row = subst (λ x. Row S x (n.first ++ (n.here ++ n.last)) changed.uses)
@@ -168,9 +161,6 @@ pub record PageRebalanced (now_told : Option (List (List ℕ))) (free now : ℕ 
   pub is : now_told ≡ Some news
   pub becomes : Becomes pages news free now page (suc (suc below)) r b used rs
   pub page_is : inner_of (length news) (slice_index_or news page []) ≡ Some inner
-
-page_in : (p : ℕ) (under : List ℕ) → 1 ≤ multiplicity p (under ++ p ∷ [])
-page_in p under = let e = times_here p [] in let f = times-append p under (p ∷ []) in omega arith
 
 module _ (mid : Option (List (List ℕ))) (free between : ℕ → Bool) (page below : ℕ) (pages : List (List ℕ)) (inner : Inner) (b : Bounds)
     (rs : List Record) (used : List ℕ) where
@@ -231,15 +221,12 @@ module _ (told mid now_told : Option (List (List ℕ))) (free between now : ℕ 
       let fewer = one_fewer inner.children (suc j) there in
       let p = page_rebalanced mid free between page below n.pages (without_child inner j) b rs used now_told now true m d.1 f inside refl in
       let nearly : is_root ≡ false → IsNearlyFull p.news (suc (suc below)) page = λ root i is.
-      let same : i ≡ without_child inner j = some_same i (without_child inner j) (sym is ∙ p.page_is) in
+      let same : i ≡ without_child inner j = same_Some i (without_child inner j) (sym is ∙ p.page_is) in
       let full = not_root is_root 127 (length inner.children) n.enough root in
       subst (λ (x : Inner). 126 ≤ length x.children) (sym same) (less_one (length (remove inner.children (suc j))) (length inner.children) fewer full) in
       subst (λ h. DidLeave told now_told free now page h is_root b used rs removed.Underfull) (sym e)
       (record { pages = n.pages; news = p.news; was = n.is_told; is = p.is; left = (nearly, p.becomes) })
     where
-      some_same : (x y : Inner) → Some x ≡ Some y → x ≡ y
-      some_same x y e = cc
-
       less_one : (a c : ℕ) → suc a ≡ c → 127 ≤ c → 126 ≤ a
       less_one a c g h = omega arith
   left_joined (removed.Only child) e n m counts inside f d =

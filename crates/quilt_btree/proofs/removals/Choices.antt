@@ -18,6 +18,7 @@ use Rattle.quilt_btree.specs.Rebalancing.{CanRebalance, DidRebalance, HasUnderfu
 use Rattle.quilt_btree.proofs.rows.Middles.{gap_bounds}
 use Rattle.quilt_btree.proofs.removals.Underfulls.{Neighbours, neighbours}
 use Rattle.quilt_btree.proofs.removals.ChildRebalances.{joined_children, separated_children, separated_ascends, set_is, page_taken, left_joined, left_separated}
+use Rattle.quilt_btree.proofs.subtrees.Trees.{one_less}
 
 -- which two children are rebalanced
 pub record Choice (told : Option (List (List ℕ))) (page : ℕ) (inner : Inner) (i j next left : ℕ) (key : Key) (right : ℕ) : Type 0 where
@@ -36,9 +37,6 @@ module _ (told mid : Option (List (List ℕ))) (free between : ℕ → Bool) whe
   RebalancesAs o height left key right =
       (b : Bounds) (rs : List Record) (used : List ℕ) → CanRebalance told free height left key right b rs used
       → DidRebalance told mid free between height left right b rs used o
-
-one_less : (height below : ℕ) → height ≡ suc (suc below) → height - 1 ≡ suc below
-one_less height below e = omega arith
 
 module _ (told : Option (List (List ℕ))) (free : ℕ → Bool) (page height : ℕ) (inner : Inner) (i j next left : ℕ) (key : Key) (right : ℕ) where
   pub chosen : (is_root : Bool) (b : Bounds) (rs : List Record) (used : List ℕ) → Choice told page inner i j next left key right

@@ -22,7 +22,7 @@ use Rattle.quilt_btree.specs.Trees.{is_past}
 use Rattle.quilt_btree.proofs.growth.Below.{IsBelow, go_below}
 use Rattle.quilt_btree.proofs.subtrees.Descending.{head_high}
 use Rattle.quilt_btree.proofs.subtrees.Descents.{child_bounds, keys_behind, tail_past, tail_many}
-use Rattle.quilt_btree.proofs.growth.Fills.{nearer, one_less, below_past}
+use Rattle.quilt_btree.proofs.growth.Fills.{nearer}
 use Rattle.quilt_btree.proofs.ways.Leaves.{same_le}
 use Rattle.quilt_btree.proofs.lists.Lists.{IsAmong, filter_cond}
 use Rattle.quilt_btree.proofs.stores.Moves.{AreApart}
@@ -30,8 +30,9 @@ use Rattle.quilt_record.proofs.Orders.{lt_le, lt_to_le}
 use Rattle.quilt_btree.proofs.rows.Places.{from_keys, Rises, high_from}
 use Rattle.quilt_btree.proofs.lists.Rising.{all_follow}
 use Rattle.quilt_btree.proofs.removals.Takings.{key_at}
-use Rattle.quilt_btree.proofs.subtrees.Trees.{subtree_rises, ascending_first, ascending_rest}
+use Rattle.quilt_btree.proofs.subtrees.Trees.{subtree_rises, ascending_first, ascending_rest, one_less}
 use Rattle.quilt_btree.proofs.growth.UnderGrowth.{LeadsToChild}
+use Rattle.quilt_btree.proofs.cursors.Fingers.{under_past}
 
 -- what stays of a leaf is within its bounds
 kept_step : (p : Key → Bool) (q : Record → Bool) (r : Record) (rs : List Record) (b : Bool) → q r ≡ b → p r.key ≡ true
@@ -90,7 +91,7 @@ pub all_higher : (o : Option Key) (last : List Record) (xs : List Key) → list_
     → list_all (λ x. list_all (λ r. is_lt (key_cmp x r.key)) last) xs ≡ true
 all_higher o last xs l h =
     all_follow (is_below o) (λ x. list_all (λ (r : Record). is_lt (key_cmp x r.key)) last)
-    (λ x g. all_follow (λ (r : Record). is_past o r.key) (λ r. is_lt (key_cmp x r.key)) (λ r e. below_past o x r.key g e) last l) xs h
+    (λ x g. all_follow (λ (r : Record). is_past o r.key) (λ r. is_lt (key_cmp x r.key)) (λ r e. under_past o x r.key g e) last l) xs h
 
 -- what stands around the child to which a run leads
 pub record AtRun (told then_told : Option (List (List ℕ))) (free then_free : ℕ → Bool) (page height child i : ℕ) (k : Key) (inner : Inner)

@@ -6,6 +6,7 @@ use Rattle.quilt_record.specs.declared.key.Key.{Key}
 use Rattle.quilt_record.specs.declared.record.Record.{Record}
 use Rattle.quilt_record.specs.Records.{key_cmp}
 use Rattle.std.specs.Ordering.{is_le}
+use Rattle.std.proofs.lemmas.Option.{same_Some}
 use Rattle.quilt_node.specs.Pages.{Inner, inner_of, is_ascending}
 use Rattle.quilt_node.specs.Nodes.{are_pages}
 use Rattle.quilt_node.specs.Edits.{joined}
@@ -71,8 +72,8 @@ are_inners {free} {h} {left} {key} {right} {b} {rs} {used} m l r reads also =
     let t : Subtree m.pages (suc (suc h)) true (right, above) m.rest m.rest_used = m.is_right.subtree in
     let there = reads m.pages m.is_told in
     let other = also m.pages m.is_told in
-    let first : s.inner ≡ l = some_same s.inner l (sym s.page ∙ there) in
-    let rest : t.inner ≡ r = some_same t.inner r (sym t.page ∙ other) in
+    let first : s.inner ≡ l = same_Some s.inner l (sym s.page ∙ there) in
+    let rest : t.inner ≡ r = same_Some t.inner r (sym t.page ∙ other) in
     let list = inner_list (length m.pages) (slice_index_or m.pages left []) l there in
     let list_too = inner_list (length m.pages) (slice_index_or m.pages right []) r other in
     let row_l = subst (λ (i : Inner). Row S (bounded i.children i.keys below) m.first s.under) first s.children in
@@ -113,9 +114,6 @@ are_inners {free} {h} {left} {key} {right} {b} {rs} {used} m l r reads also =
       apart = pair_apart free left right (t.under ++ s.under) used pair m.apart;
     }
   where
-    some_same : (x y : Inner) → Some x ≡ Some y → x ≡ y
-    some_same x y e = cc
-
     one_more : (m n : ℕ) → m ≡ n + 1 → m ≡ suc n
     one_more m n e = omega arith
 

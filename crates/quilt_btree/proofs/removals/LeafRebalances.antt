@@ -2,6 +2,7 @@
 use Rattle.std.proofs.Common.{◌≡◌, ℕ, ◌+◌, ◌<◌, ◌≤◌, Bool, true, false, List, [], ◌∷◌, ◌++◌, length, Option, Some, IfSome, slice_index_or, slice_set, refl, sym}
 use Rattle.std.proofs.Common.{◌∙◌, ap, subst, arith, length-append}
 use Rattle.std.specs.Prelude.{slice_get}
+use Rattle.std.proofs.lemmas.Option.{same_Some}
 use Rattle.quilt_record.specs.declared.key.Key.{Key}
 use Rattle.quilt_record.specs.declared.record.Record.{Record}
 use Rattle.quilt_node.specs.Pages.{leaf_of, is_ascending}
@@ -20,6 +21,7 @@ use Rattle.quilt_btree.proofs.subtrees.Trees.{keys_append, subtree_rises}
 use Rattle.quilt_btree.proofs.stores.Pairs.{is_joined, are_written, left_taken, right_taken}
 use Rattle.quilt_btree.proofs.lists.RisingApart.{rises_apart}
 use Rattle.quilt_btree.proofs.removals.LeafRemovals.{tells_on, has_many, many_enough}
+use Rattle.quilt_btree.proofs.lists.Lists.{begins_with}
 
 -- the two leaves, as they were read
 pub record AreLeaves (told : Option (List (List ℕ))) (free : ℕ → Bool) (left : ℕ) (key : Key) (right : ℕ) (b : Bounds) (rs : List Record)
@@ -41,8 +43,8 @@ module _ (told : Option (List (List ℕ))) (free : ℕ → Bool) (left : ℕ) (k
       let t : Subtree m.pages 1 true (right, record { low = Some key; high = b.high }) m.rest m.rest_used = m.is_right.subtree in
       let there = reads m.pages m.is_told in
       let other = also m.pages m.is_told in
-      let first : l ≡ m.first = some_same l m.first (sym there ∙ s.page) in
-      let rest : r ≡ m.rest = some_same r m.rest (sym other ∙ t.page) in
+      let first : l ≡ m.first = same_Some l m.first (sym there ∙ s.page) in
+      let rest : r ≡ m.rest = same_Some r m.rest (sym other ∙ t.page) in
       let pages : used ≡ right ∷ left ∷ [] = m.is_used ∙ ap (λ u. u ++ m.first_used) t.is_used ∙ ap (λ u. right ∷ u) s.is_used in
       record {
         first = first;
@@ -57,9 +59,6 @@ module _ (told : Option (List (List ℕ))) (free : ℕ → Bool) (left : ℕ) (k
         pages = pages;
         apart = subst (AreApart free) pages m.apart;
       }
-    where
-      some_same : (x y : List Record) → Some x ≡ Some y → x ≡ y
-      some_same x y e = cc
 
   -- they ascend one behind the other
   pub leaves_ascend : is_ascending (keys_of (l ++ r)) ≡ true
@@ -104,11 +103,6 @@ pub record LeavesPart (told mid now_told : Option (List (List ℕ))) (free now :
   pub tells : Goes (λ old new. new ≡ slice_set (slice_set old left bytes) right others) mid now_told
   pub frees : now ≡ free
 
--- a list from its first record on
-begins : (rest : List Record) (x : Record) → slice_get rest 0 ≡ Some x → (more : List Record) × (rest ≡ x ∷ more)
-begins [] x h = cc
-begins (y ∷ ys) x h = let same : y ≡ x = cc in (ys, ap (λ z. z ∷ ys) same)
-
 module _ (told mid now_told : Option (List (List ℕ))) (free now : ℕ → Bool) (size left : ℕ) (key : Key) (right height : ℕ) (b : Bounds)
     (rs : List Record) (used : List ℕ) (l r : List Record) (bytes : List ℕ) where
   pub leaves_joined : (was : ℕ → Bool) (all : List Record) → height ≡ 1 → LeavesJoin told mid now_told free was now size left right l r all bytes
@@ -150,7 +144,7 @@ module _ (told mid now_told : Option (List (List ℕ))) (free now : ℕ → Bool
       let news = slice_set (slice_set m.pages left bytes) right others in
       let all : rs ≡ first ++ rest = a.records ∙ sym c.records in
       let enough = c.enough a.first_many a.rest_many in
-      let from = begins rest start c.starts in
+      let from = begins_with rest start c.starts in
       let rises : IsRising b (keys_of first ++ start.key ∷ keys_of from.0) =
       subst (IsRising b) (ap (λ x. keys_of first ++ keys_of x) from.1)
       (subst (IsRising b) (keys_append first rest) (subst (λ x. IsRising b (keys_of x)) all a.rises)) in

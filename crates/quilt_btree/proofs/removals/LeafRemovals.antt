@@ -3,6 +3,7 @@ use Rattle.std.proofs.Common.{◌≡◌, ℕ, zero, suc, ◌<◌, ◌≤◌, Boo
 use Rattle.std.proofs.lemmas.Bool.{leb-true, le-leb}
 use Rattle.std.proofs.Common.{IfSome, slice_index_or, slice_set, refl, sym, ◌∙◌, ap, subst, arith, get_or-set_same, take-append-drop}
 use Rattle.std.specs.List.{list_any, list_all, remove}
+use Rattle.std.proofs.lemmas.Option.{same_Some}
 use Rattle.quilt_record.specs.declared.key.Key.{Key}
 use Rattle.quilt_record.specs.declared.record.Record.{Record}
 use Rattle.quilt_node.specs.Pages.{leaf_of}
@@ -14,7 +15,7 @@ use Rattle.quilt_record.specs.Lists.{has_key, without}
 use Rattle.quilt_btree.specs.Subtree.{Subtree}
 use Rattle.quilt_btree.specs.Trees.{SpellsSubtree, ReadsLeaf}
 use Rattle.quilt_btree.specs.Edits.{multiplicity, Becomes, CanEdit, IsNearlyFull, DidRemove}
-use Rattle.quilt_btree.proofs.lists.Counts.{times_here}
+use Rattle.quilt_btree.proofs.lists.Counts.{times_here, once_here}
 use Rattle.quilt_btree.proofs.stores.Moves.{moves_written, used_account, used_not_free}
 use Rattle.quilt_btree.proofs.ways.Leaves.{gap_any, found_any, without_found}
 use Rattle.quilt_btree.proofs.lists.Rising.{all_parts, all_append}
@@ -78,11 +79,8 @@ leaf_becomes {pages} free {page} r {used} bytes s inside is enough within = reco
     within = within;
     is_used = s.is_used;
   };
-  moves = moves_written pages free used page bytes (used_account free used page (subst (λ l. 1 ≤ multiplicity page l) (sym s.is_used) (some page)));
+  moves = moves_written pages free used page bytes (used_account free used page (subst (λ l. 1 ≤ multiplicity page l) (sym s.is_used) (once_here page)));
 }
-  where
-    some : (page : ℕ) → 1 ≤ multiplicity page (page ∷ [])
-    some page = let e = times_here page [] in omega arith
 
 pub leaf_same : {told : Option (List (List ℕ))} {free : ℕ → Bool} {page : ℕ} {is_root : Bool} {b : Bounds} {rs leaf : List Record} {used : List ℕ}
     → CanEdit told free page 1 is_root b rs used → ReadsLeaf told page leaf → leaf ≡ rs
@@ -207,16 +205,13 @@ module _ (k : Key) (told mid now_told : Option (List (List ℕ))) (free now : �
       let fewer : suc (length all) ≡ length rs = ap (λ l. suc (length l)) c.all_is ∙ one_fewer leaf i c.found.in_range ∙ ap length same in
       let nearly : is_root ≡ false → IsNearlyFull a.news 1 page = λ r ss e.
       let many = not_root is_root 72 (length rs) s.enough r in
-      let is : ss ≡ all = some_same ss all (sym e ∙ a.page_is) in
+      let is : ss ≡ all = same_Some ss all (sym e ∙ a.page_is) in
       subst (λ l. 71 ≤ length l) (sym is) (less (length all) (length rs) fewer many) in
       subst (λ h. DidRemove k told now_told free now page h is_root b rs used removed.Underfull) (sym one)
       (a.had, record { pages = a.pages; news = a.news; was = a.was; is = a.is; left = (nearly, a.becomes) })
     where
       less : (m n : ℕ) → suc m ≡ n → 72 ≤ n → 71 ≤ m
       less m n e h = omega arith
-
-      some_same : (x y : List Record) → Some x ≡ Some y → x ≡ y
-      some_same x y e = cc
 
 module _ (told : Option (List (List ℕ))) (free : ℕ → Bool) (page height : ℕ) (is_root : Bool) (b : Bounds) (rs : List Record) (used : List ℕ) where
   -- the leaf is read, and is not free

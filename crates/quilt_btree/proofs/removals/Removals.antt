@@ -1,7 +1,8 @@
 -- A record is taken out of the child to which its key leads.
-use Rattle.std.proofs.Common.{◌≡◌, ◌≢◌, ℕ, suc, ◌+◌, ◌-◌, ◌<◌, ◌≤◌, Bool, true, false, ◌||◌, ◌==◌, nat_le, List, [], ◌∷◌, ◌++◌, length, take, drop, Option}
-use Rattle.std.proofs.Common.{Some, Result, Ok, Err, IfOk, IfErr, slice_index, slice_index_or, refl, sym, ◌∙◌, ap, subst, arith, take-append-drop}
+use Rattle.std.proofs.Common.{◌≡◌, ◌≢◌, ℕ, suc, ◌+◌, ◌-◌, ◌<◌, ◌≤◌, Bool, true, false, ◌||◌, ◌==◌, nat_le, List, [], ◌∷◌, ◌++◌, length, Option}
+use Rattle.std.proofs.Common.{Some, Result, Ok, Err, IfOk, IfErr, slice_index, slice_index_or, refl, sym, ◌∙◌, ap, subst, arith}
 use Rattle.std.specs.List.{list_any}
+use Rattle.std.proofs.lemmas.Option.{same_Some}
 use Rattle.quilt_record.specs.declared.key.Key.{Key}
 use Rattle.quilt_record.specs.declared.record.Record.{Record}
 use Rattle.quilt_node.specs.Pages.{Inner, inner_of}
@@ -20,12 +21,13 @@ use Rattle.quilt_btree.proofs.lists.Counts.{times-append, times-three, self_test
 use Rattle.quilt_btree.proofs.stores.Moves.{AreApart, apart_some, apart_then, moves_then}
 use Rattle.quilt_btree.proofs.rows.Splices.{parent_stays, becomes_then}
 use Rattle.quilt_btree.proofs.lists.Lists.{IsAmong, any_between, without_between}
-use Rattle.quilt_btree.proofs.subtrees.Trees.{IsInnerList, inner_list}
-use Rattle.quilt_btree.proofs.rows.Places.{front, from_keys, tail_places, bounded_at, row_one, one_row}
-use Rattle.quilt_btree.proofs.subtrees.Descents.{child_bounds, LeadsDown, leads_down, place_in, cut_children, as_long}
+use Rattle.quilt_btree.proofs.subtrees.Trees.{IsInnerList, inner_list, one_less}
+use Rattle.quilt_btree.proofs.rows.Places.{row_one, one_row}
+use Rattle.quilt_btree.proofs.subtrees.Descents.{child_bounds, LeadsDown, leads_down, place_in}
 use Rattle.quilt_btree.proofs.subtrees.Descending.{height_above}
 use Rattle.quilt_btree.proofs.rows.Middles.{around, middle_changed}
 use Rattle.quilt_btree.proofs.removals.Underfulls.{any_root}
+use Rattle.quilt_btree.proofs.growth.Below.{cut_at_child}
 
 -- a subtree above the leaves, with the child to which the key leads
 pub record AtInner (told : Option (List (List ℕ))) (free : ℕ → Bool) (page height : ℕ) (inner : Inner) (i : ℕ) (k : Key) (is_root : Bool)
@@ -45,20 +47,6 @@ pub record AtInner (told : Option (List (List ℕ))) (free : ℕ → Bool) (page
   pub is_used : used ≡ under ++ page ∷ []
   pub apart : AreApart free used
 
--- the places before, at and behind the child
-pub places_cut : (inner : Inner) (b : Bounds) (i : ℕ) → i < length inner.children → length inner.children ≡ length inner.keys + 1
-    → bounded inner.children inner.keys b ≡ front (take i inner.children) (take i inner.keys) b
-    ++ (((slice_index inner.children i, child_bounds inner b i) ∷ [])
-    ++ tail_places (drop (suc i) inner.children) (drop i inner.keys) (from_keys (take i inner.keys) b))
-places_cut inner b i lt n =
-    ap (λ l. bounded l inner.keys b) (cut_children inner.children i lt)
-    ∙ ap (λ l. bounded (take i inner.children ++ slice_index inner.children i ∷ drop (suc i) inner.children) l b) (sym (take-append-drop i inner.keys))
-    ∙ bounded_at (take i inner.children) (slice_index inner.children i) (drop (suc i) inner.children) (take i inner.keys) (drop i inner.keys) b
-    (as_long inner i lt n)
-
-one_less : (height below : ℕ) → height ≡ suc (suc below) → height - 1 ≡ suc below
-one_less height below e = omega arith
-
 total : (p : ℕ) {used under : List ℕ} (l h f : List ℕ) (page : ℕ) → used ≡ under ++ page ∷ [] → under ≡ (l ++ h) ++ f
     → multiplicity p used ≡ multiplicity p l + multiplicity p h + multiplicity p f + multiplicity p (page ∷ [])
 total p {under = under} l h f page e g = ap (multiplicity p) e ∙ times-append p under (page ∷ []) ∙ ap (λ n. n + multiplicity p (page ∷ [])) (ap (multiplicity p) g ∙ times-three p l h f)
@@ -71,7 +59,7 @@ module _ (told : Option (List (List ℕ))) (free : ℕ → Bool) (page height : 
       let e = height_above height some ne in
       let s = subst (λ n. Subtree can.pages n is_root (page, b) rs used) e.1 can.subtree in
       let there = reads can.pages can.is_told in
-      let same : s.inner ≡ inner = some_same s.inner inner (sym s.page ∙ there) in
+      let same : s.inner ≡ inner = same_Some s.inner inner (sym s.page ∙ there) in
       let list = inner_list (length can.pages) (slice_index_or can.pages page []) inner there in
       let within = subst (λ (x : Inner). are_within b x.keys ≡ true) same s.within in
       let row = subst (λ (x : Inner). Row (Subtree can.pages (suc e.0) false) (bounded x.children x.keys b) rs s.under) same s.children in
@@ -91,9 +79,6 @@ module _ (told : Option (List (List ℕ))) (free : ℕ → Bool) (page height : 
         is_used = s.is_used;
         apart = can.apart;
       }
-    where
-      some_same : (x y : Inner) → Some x ≡ Some y → x ≡ y
-      some_same x y e = cc
 
   -- the key is among the child's records
   pub among_child : (i : ℕ) (inner : Inner) (k : Key) (is_root : Bool) (b : Bounds) (rs : List Record) (used : List ℕ)
@@ -162,7 +147,7 @@ child_left : {k : Key} {told mid between : Option (List (List ℕ))} {free was t
     → Becomes pages news was then child (height - 1) r (child_bounds inner b i) a.down.at.here_used (without k a.down.at.here)
     → ChildLeft k between free then page height i inner is_root r b rs used told a
 child_left {k} {was} {then} {height} {child} {i} {inner} {r} {b} a t f c {pages} {news} e g becomes =
-    let same : pages ≡ a.pages = some_same pages a.pages (sym e ∙ t ∙ a.is_told) in
+    let same : pages ≡ a.pages = same_Some pages a.pages (sym e ∙ t ∙ a.is_told) in
     record {
       news = news;
       is = g;
@@ -173,13 +158,6 @@ child_left {k} {was} {then} {height} {child} {i} {inner} {r} {b} a t f c {pages}
       moves = subst (λ h. KeepsAccount a.pages news h then a.down.at.here_used becomes.uses) f
           (subst (λ p. KeepsAccount p news was then a.down.at.here_used becomes.uses) same becomes.moves);
     }
-  where
-    some_same : (x y : List (List ℕ)) → Some x ≡ Some y → x ≡ y
-    some_same x y e = cc
-
-same_subtree : (pages : List (List ℕ)) (h : ℕ) (c : ℕ × Bounds) (ss : List Record) (u : List ℕ) → Subtree pages (suc h) false c ss u
-    → Subtree pages (suc h) false c ss u
-same_subtree pages h c ss u s = s
 
 module _ (k : Key) (told mid between : Option (List (List ℕ))) (free was then : ℕ → Bool) (page height child i : ℕ) (inner : Inner)
     (c : ChildEdited k told mid free was page height child i inner) where
@@ -201,9 +179,9 @@ module _ (k : Key) (told mid between : Option (List (List ℕ))) (free was then 
       (child_edit told mid free was page height child i inner k is_root b rs used a c.is_mid c.is_free c.is_child) in
       let l = child_left a c.is_mid c.is_free c.is_child did.1.was did.1.is did.1.left in
       let S = Subtree l.news (suc a.below) false in
-      let changed = middle_changed S a.below (same_subtree l.news a.below) ((slice_index inner.children i, child_bounds inner b i) ∷ []) (without k at.here)
+      let changed = middle_changed S a.below (λ c ss u s. s) ((slice_index inner.children i, child_bounds inner b i) ∷ []) (without k at.here)
       (around free page at (subst (AreApart free) a.is_used a.apart)) (row_one S (slice_index inner.children i, child_bounds inner b i) (without k at.here) l.uses l.subtree) l.moves in
-      let row = subst (λ x. Row S x (at.first ++ (without k at.here ++ at.last)) changed.uses) (sym (places_cut inner b i a.in_range a.list.keys))
+      let row = subst (λ x. Row S x (at.first ++ (without k at.here ++ at.last)) changed.uses) (sym (cut_at_child inner b i a.in_range a.list.keys))
       changed.row in
       let becomes = parent_stays a.pages l.news
       a.page_is a.inner_height a.enough a.within
@@ -241,7 +219,7 @@ did_leave : (told : Option (List (List ℕ))) {between now_told : Option (List (
     → between ≡ Some mids → KeepsAccount pages mids free then used more → DidLeave between now_told then now page height is_root b more all o
     → DidLeave told now_told free now page height is_root b used all o
 did_leave told {free = free} {then = then} {now = now} {page = page} {height = height} {is_root = is_root} {b = b} {used = used} {more = more} {all = all} {o = o} {pages = pages} {mids = mids} ne e g m d =
-    let same : mids ≡ d.pages = some_same mids d.pages (sym g ∙ d.was) in
+    let same : mids ≡ d.pages = same_Some mids d.pages (sym g ∙ d.was) in
     record {
       pages = pages;
       news = d.news;
@@ -250,9 +228,6 @@ did_leave told {free = free} {then = then} {now = now} {page = page} {height = h
       left = left o (subst (λ p. KeepsAccount pages p free then used more) same m) d.left;
     }
   where
-    some_same : (x y : List (List ℕ)) → Some x ≡ Some y → x ≡ y
-    some_same x y e = cc
-
     left : (o : Removed) → KeepsAccount pages d.pages free then used more → HasLeft d.pages d.news then now page height is_root b more all o
         → HasLeft pages d.news free now page height is_root b used all o
     left removed.Missing k l = l
@@ -295,9 +270,9 @@ module _ (k : Key) (told mid between : Option (List (List ℕ))) (free was then 
       l.subtree in
       let changed = middle_changed T a.below (to_partly l.news a.below underfull) ((underfull, child_bounds inner b i) ∷ []) (without k at.here)
       (around free page at (subst (AreApart free) a.is_used a.apart)) (row_one T (underfull, child_bounds inner b i) (without k at.here) l.uses here) l.moves in
-      let row = subst (λ x. Row T x (at.first ++ (without k at.here ++ at.last)) changed.uses) (sym (places_cut inner b i a.in_range a.list.keys))
+      let row = subst (λ x. Row T x (at.first ++ (without k at.here ++ at.last)) changed.uses) (sym (cut_at_child inner b i a.in_range a.list.keys))
       changed.row in
-      let same : a.pages ≡ can.pages = some_same a.pages can.pages (sym a.is_told ∙ can.is_told) in
+      let same : a.pages ≡ can.pages = same_Some a.pages can.pages (sym a.is_told ∙ can.is_told) in
       let moves = subst (λ u. KeepsAccount a.pages l.news free then u (changed.uses ++ page ∷ [])) (sym a.is_used) changed.moves in
       record {
         more = changed.uses ++ page ∷ [];
@@ -322,9 +297,6 @@ module _ (k : Key) (told mid between : Option (List (List ℕ))) (free was then 
         };
         moves = subst (λ p. KeepsAccount p l.news free then used (changed.uses ++ page ∷ [])) same moves;
       }
-    where
-      some_same : (x y : List (List ℕ)) → Some x ≡ Some y → x ≡ y
-      some_same x y e = cc
 
   pub rebalanced_child : (r : Result Removed Stop) (now_told : Option (List (List ℕ))) (now : ℕ → Bool)
       → ChildEdited k told mid free was page height child i inner → Removes k mid between was then child (height - 1) removed.Underfull

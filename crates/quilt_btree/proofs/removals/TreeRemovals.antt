@@ -17,7 +17,7 @@ use Rattle.quilt_btree.specs.Subtree.{Subtree}
 use Rattle.quilt_btree.specs.Trees.{IsRooted}
 use Rattle.quilt_btree.specs.Edits.{multiplicity, account, Becomes, OnlyChild, CanEdit, DidRemove, IsWhole}
 use Rattle.quilt_btree.specs.Rebalancing.{HasGiven}
-use Rattle.quilt_btree.proofs.lists.Counts.{times-append, times_here, in_times}
+use Rattle.quilt_btree.proofs.lists.Counts.{times-append, times_here, in_times, some_not_none}
 use Rattle.quilt_btree.proofs.stores.Moves.{AreApart, moves_then, moves_given, moves_order, apart_then, used_not_free}
 use Rattle.quilt_btree.proofs.lists.Rows.{SameOn, subtree_stays}
 use Rattle.quilt_btree.proofs.subtrees.Trees.{subtree_rises}
@@ -25,7 +25,7 @@ use Rattle.quilt_btree.proofs.subtrees.Whole.{no_records}
 use Rattle.quilt_btree.proofs.removals.LeafRemovals.{tells_on}
 use Rattle.quilt_btree.proofs.subtrees.Holdings.{subtree_some}
 use Rattle.quilt_btree.proofs.removals.Underfulls.{any_root, page_used}
-use Rattle.quilt_btree.proofs.growth.TreeGrowth.{everywhere, FreeIn, IsRegrown, whole_from, whole_again}
+use Rattle.quilt_btree.proofs.growth.TreeGrowth.{everywhere, FreeIn, IsRegrown, whole_from, whole_again, some_height}
 use Rattle.quilt_btree.proofs.lists.Withouts.{without_missing, without_one_fewer, without_none}
 
 -- the tree and the store of a removal
@@ -34,9 +34,6 @@ pub record IsRemoving (free : ℕ → Bool) (size : ℕ) (t : Tree) : Type 0 whe
   pub least : 16 ≤ size
   pub inside : FreeIn free size
   pub above : t.height ≢ 0
-
-some_height : (h : ℕ) → h ≢ 0 → 1 ≤ h
-some_height h ne = omega arith
 
 -- what a removal below the root says
 abbrev pub UnderRoot : Key → (told now_told : Option (List (List ℕ))) (free now : ℕ → Bool) → Tree → Removed → Type 0
@@ -155,10 +152,7 @@ no_subtree pages height r at rs used e s = subst (λ h. Subtree pages h r at rs 
 
 given_same : (pages news : List (List ℕ)) (page : ℕ) (uses : List ℕ) → HasGiven page pages news → multiplicity page uses ≡ 0 → SameOn pages news uses
 given_same pages news page uses given none p inside =
-    given.others p (λ e. never (multiplicity page uses) (subst (λ q. 1 ≤ multiplicity q uses) e (in_times p uses inside)) none)
-  where
-    never : (n : ℕ) → 1 ≤ n → n ≡ 0 → ⊥
-    never n h g = omega arith
+    given.others p (λ e. some_not_none (multiplicity page uses) (subst (λ q. 1 ≤ multiplicity q uses) e (in_times p uses inside)) none)
 
 -- the one child that the root had is the root
 pub tall_above : (news : List (List ℕ)) (height child : ℕ) (rs : List Record) (below : ℕ) (uses : List ℕ) → height ≡ suc below

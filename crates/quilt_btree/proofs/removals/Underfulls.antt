@@ -5,6 +5,7 @@ use Rattle.std.proofs.Common.{Some, slice_index, slice_index_or, refl, sym, ◌�
 use Rattle.std.specs.Prelude.{slice_get}
 use Rattle.std.specs.List.{list_all}
 use Rattle.std.specs.Ordering.{is_lt}
+use Rattle.std.proofs.lemmas.Option.{same_Some}
 use Rattle.quilt_record.specs.declared.key.Key.{Key}
 use Rattle.quilt_record.specs.declared.record.Record.{Record}
 use Rattle.quilt_record.specs.Records.{key_cmp}
@@ -13,13 +14,14 @@ use Rattle.quilt_node.specs.Tree.{Bounds, bounded, is_above, is_below, are_withi
 use Rattle.quilt_btree.specs.Subtree.{Row, Subtree}
 use Rattle.quilt_btree.specs.Edits.{multiplicity, IsNearlyFull}
 use Rattle.quilt_btree.specs.Rebalancing.{IsNear, CanRebalance, Partly, HasUnderfull}
-use Rattle.quilt_btree.proofs.lists.Counts.{times-append, times-three, times_here, equal_pages}
+use Rattle.quilt_btree.proofs.lists.Counts.{times-append, times-three, equal_pages, once_here, some_not_none}
 use Rattle.quilt_btree.proofs.stores.Moves.{AreApart, apart_some}
 use Rattle.quilt_btree.proofs.removals.LeafRemovals.{not_root}
 use Rattle.quilt_btree.proofs.rows.Places.{front, from_keys, high_from, at_place}
 use Rattle.quilt_btree.proofs.subtrees.Descents.{keys_behind}
 use Rattle.quilt_btree.proofs.subtrees.Trees.{inner_list, ascending_first}
 use Rattle.quilt_btree.proofs.rows.Middles.{rear, gap_bounds, bounded_two, CutTwo, cut_two, two_rows}
+use Rattle.quilt_btree.proofs.rows.Splices.{page_in}
 
 pub weaker : (pages : List (List ℕ)) (height : ℕ) (r : Bool) (at : ℕ × Bounds) (rs : List Record) (used : List ℕ) → Subtree pages height r at rs used
     → Subtree pages height true at rs used
@@ -46,23 +48,17 @@ full_nearly : (pages : List (List ℕ)) (height : ℕ) (at : ℕ × Bounds) (rs 
     → IsNearlyFull pages height at.0
 full_nearly pages zero at rs used s = s
 full_nearly pages (suc zero) at rs used s = λ ss e.
-    let same : ss ≡ rs = some_leaf ss rs (sym e ∙ s.page) in
+    let same : ss ≡ rs = same_Some ss rs (sym e ∙ s.page) in
     let many = not_root false 72 (length rs) s.enough refl in
     subst (λ l. 71 ≤ length l) (sym same) (less (length rs) many)
   where
-    some_leaf : (x y : List Record) → Some x ≡ Some y → x ≡ y
-    some_leaf x y e = cc
-
     less : (n : ℕ) → 72 ≤ n → 71 ≤ n
     less n h = omega arith
 full_nearly pages (suc (suc h)) at rs used s = λ inner e.
-    let same : inner ≡ s.inner = some_inner inner s.inner (sym e ∙ s.page) in
+    let same : inner ≡ s.inner = same_Some inner s.inner (sym e ∙ s.page) in
     let many = not_root false 127 (length s.inner.children) s.enough refl in
     subst (λ (i : Inner). 126 ≤ length i.children) (sym same) (less_one (length s.inner.children) many)
   where
-    some_inner : (x y : Inner) → Some x ≡ Some y → x ≡ y
-    some_inner x y e = cc
-
     less_one : (n : ℕ) → 127 ≤ n → 126 ≤ n
     less_one n h = omega arith
 
@@ -82,24 +78,15 @@ module _ (pages : List (List ℕ)) (height underfull : ℕ) where
 pub page_used : (pages : List (List ℕ)) (height : ℕ) (r : Bool) (at : ℕ × Bounds) (rs : List Record) (used : List ℕ)
     → Subtree pages height r at rs used → 1 ≤ multiplicity at.0 used
 page_used pages zero r at rs used s = absurd s
-page_used pages (suc zero) r at rs used s = subst (λ u. 1 ≤ multiplicity at.0 u) (sym s.is_used) (one at.0)
-  where
-    one : (p : ℕ) → 1 ≤ multiplicity p (p ∷ [])
-    one p = let e = times_here p [] in omega arith
-page_used pages (suc (suc h)) r at rs used s = subst (λ u. 1 ≤ multiplicity at.0 u) (sym s.is_used) (last at.0 s.under)
-  where
-    last : (p : ℕ) (under : List ℕ) → 1 ≤ multiplicity p (under ++ p ∷ [])
-    last p under = let e = times_here p [] in let f = times-append p under (p ∷ []) in omega arith
+page_used pages (suc zero) r at rs used s = subst (λ u. 1 ≤ multiplicity at.0 u) (sym s.is_used) (once_here at.0)
+page_used pages (suc (suc h)) r at rs used s = subst (λ u. 1 ≤ multiplicity at.0 u) (sym s.is_used) (page_in at.0 s.under)
 
 module _ (pages : List (List ℕ)) (height underfull : ℕ) where
   whole_case : (at : ℕ × Bounds) (rs : List Record) (used : List ℕ) (r : Bool) → (at.0 == underfull) ≡ r → multiplicity underfull used ≡ 0
       → Subtree pages height r at rs used → Subtree pages height false at rs used
   whole_case at rs used true e none s =
       let some = page_used pages height true at rs used s in
-      absurd (never (multiplicity at.0 used) some (ap (λ p. multiplicity p used) (equal_pages at.0 underfull e) ∙ none))
-    where
-      never : (n : ℕ) → 1 ≤ n → n ≡ 0 → ⊥
-      never n h e = omega arith
+      absurd (some_not_none (multiplicity at.0 used) some (ap (λ p. multiplicity p used) (equal_pages at.0 underfull e) ∙ none))
   whole_case at rs used false e none s = s
 
   -- where the underfull page is not used, all is whole

@@ -1,5 +1,5 @@
 -- Two neighbouring children among the others of their page, and one or two in their stead.
-use Rattle.std.proofs.Common.{◌≡◌, ℕ, zero, suc, ◌+◌, ◌-◌, ◌<◌, ◌≤◌, Bool, true, false, List, [], ◌∷◌, ◌++◌, length, take, drop, Option, Some, slice_index}
+use Rattle.std.proofs.Common.{◌≡◌, ℕ, zero, suc, ◌+◌, ◌-◌, ◌<◌, ◌≤◌, Bool, false, List, [], ◌∷◌, ◌++◌, length, take, drop, Option, Some, slice_index}
 use Rattle.std.proofs.Common.{slice_index_or, slice_set, refl, sym, ◌∙◌, ap, arith, length-take-le, length-drop, drop-cons}
 use Rattle.std.specs.Prelude.{slice_get}
 use Rattle.std.specs.List.{remove}
@@ -11,9 +11,9 @@ use Rattle.quilt_btree.specs.Subtree.{Reading, InTurn, Row, Subtree}
 use Rattle.quilt_btree.specs.Edits.{multiplicity, KeepsAccount}
 use Rattle.quilt_btree.proofs.lists.Counts.{times-append, times-three}
 use Rattle.quilt_btree.proofs.stores.Moves.{AreApart, moves_among, stays_on}
-use Rattle.quilt_btree.proofs.lists.Rows.{is_in, SameOn, row_stays, subtree_stays}
+use Rattle.quilt_btree.proofs.lists.Rows.{SameOn, row_stays, subtree_stays, is_in_first}
 use Rattle.quilt_btree.proofs.ways.Leaves.{cut_at}
-use Rattle.quilt_btree.proofs.rows.Places.{AtPlace, front, from_keys, bounded_front, high_from, place_back}
+use Rattle.quilt_btree.proofs.rows.Places.{AtPlace, front, from_keys, bounded_front, high_from, place_back, fewer}
 use Rattle.quilt_btree.proofs.subtrees.Descents.{cut_children}
 
 -- the first of these keys, or else the bound
@@ -26,9 +26,6 @@ abbrev pub rear : List ℕ → List Key → Option Key → List (ℕ × Bounds)
 rear [] ks high = []
 rear (c ∷ cs) [] high = []
 rear (c ∷ cs) (k ∷ ks) high = (c, record { low = Some k; high = head_or ks high }) ∷ rear cs ks high
-
-fewer : (m n : ℕ) → suc m ≡ suc n → m ≡ n
-fewer m n h = omega arith
 
 pub bounded_rear : (c : ℕ) (cb : List ℕ) (kb : List Key) (b : Bounds) → length cb ≡ length kb
     → bounded (c ∷ cb) kb b ≡ (c, record { low = b.low; high = head_or kb b.high }) ∷ rear cb kb b.high
@@ -224,7 +221,7 @@ middle_changed T {pages} {news} {free} {now} h {page} embed {before} others {beh
           (λ p. multiplicity p lu + multiplicity p fu + multiplicity p (page ∷ []))
           (λ p. order (multiplicity p (under ++ page ∷ [])) (multiplicity p lu) (multiplicity p hu) (multiplicity p fu) (multiplicity p (page ∷ [])) (total p))
           (λ p. order (multiplicity p (((lu ++ uses) ++ fu) ++ page ∷ [])) (multiplicity p lu) (multiplicity p uses) (multiplicity p fu) (multiplicity p (page ∷ [])) (total_now p)) moves;
-      page_stays = same_page page (self page);
+      page_stays = same_page page (is_in_first page);
     }
   where
     in_first : (u l h f p : ℕ) → u ≡ l + h + f + p → h + f ≤ u
@@ -238,6 +235,3 @@ middle_changed T {pages} {news} {free} {now} h {page} embed {before} others {beh
 
     order : (u l h f p : ℕ) → u ≡ l + h + f + p → u ≡ l + f + p + h
     order u l h f p e = omega arith
-
-    self : (p : ℕ) → is_in p (p ∷ []) ≡ true
-    self p = grind arith

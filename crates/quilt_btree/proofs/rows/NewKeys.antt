@@ -16,7 +16,8 @@ use Rattle.quilt_btree.proofs.ways.Leaves.{same_le}
 use Rattle.quilt_btree.proofs.rows.Places.{from_keys}
 use Rattle.quilt_btree.proofs.rows.Middles.{head_or}
 use Rattle.quilt_btree.proofs.subtrees.Holdings.{low_strict, subtree_some}
-use Rattle.quilt_btree.proofs.lists.RisingApart.{ascending_front, ascending_back}
+use Rattle.quilt_btree.proofs.lists.RisingApart.{ascending_front}
+use Rattle.quilt_btree.proofs.lists.Separators.{ascending_behind}
 
 -- all keys before are below what the last of them is below
 under_next : (ka : List Key) (b : Bounds) (k : Key) → is_ascending ka ≡ true
@@ -61,7 +62,7 @@ module _ (ka : List Key) (old : Key) where
       let w_parts = all_parts (λ m. is_above b.low m && is_below b.high m) ka (old ∷ kb) w in
       let w_rest = (and_parts (is_above b.low old && is_below b.high old) (are_within b kb) w_parts.1).1 in
       let asc_ka = ascending_front ka (old ∷ kb) a in
-      let asc_kb = ascending_rest old kb (ascending_back ka (old ∷ kb) a) in
+      let asc_kb = ascending_rest old kb (ascending_behind ka (old ∷ kb) a) in
       let over = over_next kb b.high k asc_kb high in
       let ka_above : list_all (is_above b.low) ka ≡ true =
       all_follow (λ m. is_above b.low m && is_below b.high m) (is_above b.low) (λ m h. (and_parts (is_above b.low m) (is_below b.high m) h).0) ka

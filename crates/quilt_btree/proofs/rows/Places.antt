@@ -29,11 +29,15 @@ abbrev pub head_bounds : List Key → Bounds → Bounds
 head_bounds [] b = b
 head_bounds (k ∷ ks) b = record { low = b.low; high = Some k }
 
+pub head_low : (ks : List Key) (b : Bounds) → (head_bounds ks b).low ≡ b.low
+head_low [] b = refl
+head_low (k ∷ ks) b = refl
+
 abbrev pub tail_places : List ℕ → List Key → Bounds → List (ℕ × Bounds)
 tail_places cs [] b = bounded cs [] b
 tail_places cs (k ∷ ks) b = bounded cs ks (record { low = Some k; high = b.high })
 
-fewer : (m n : ℕ) → suc m ≡ suc n → m ≡ n
+pub fewer : (m n : ℕ) → suc m ≡ suc n → m ≡ n
 fewer m n h = omega arith
 
 pub bounded_front : (ca cs : List ℕ) (ka ks : List Key) (b : Bounds) → length ca ≡ length ka

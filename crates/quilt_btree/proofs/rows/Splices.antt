@@ -7,9 +7,9 @@ use Rattle.quilt_node.specs.Pages.{Inner, inner_of}
 use Rattle.quilt_node.specs.Tree.{Bounds, bounded, are_within}
 use Rattle.quilt_btree.specs.Subtree.{Row, Subtree}
 use Rattle.quilt_btree.specs.Edits.{multiplicity, account, KeepsAccount, Becomes}
-use Rattle.quilt_btree.proofs.lists.Counts.{times-append, times-three, times_here, in_times}
+use Rattle.quilt_btree.proofs.lists.Counts.{times-append, times-three, times_here, in_times, some_not_none}
 use Rattle.quilt_btree.proofs.stores.Moves.{AreApart, moves_among, moves_then, moves_written, used_account, stays_on}
-use Rattle.quilt_btree.proofs.lists.Rows.{is_in, SameOn, row_stays, subtree_stays}
+use Rattle.quilt_btree.proofs.lists.Rows.{SameOn, row_stays, subtree_stays, is_in_first}
 use Rattle.quilt_btree.proofs.rows.Places.{AtPlace, place_back}
 
 -- The children of two lists of children and keys, with a key between, are those of the first below the key, and then those of the second from it on.
@@ -84,7 +84,7 @@ module _ (pages news : List (List ℕ)) where
             (λ p. order (multiplicity p (under ++ page ∷ [])) (multiplicity p at.last_used) (multiplicity p at.here_used) (multiplicity p at.first_used) (multiplicity p (page ∷ [])) (total p))
             (λ p. order (multiplicity p (((at.last_used ++ uses) ++ at.first_used) ++ page ∷ [])) (multiplicity p at.last_used) (multiplicity p uses)
             (multiplicity p at.first_used) (multiplicity p (page ∷ [])) (total_now p)) moves;
-        page_stays = same_page page (self page);
+        page_stays = same_page page (is_in_first page);
       }
     where
       in_first : (u l h f p : ℕ) → u ≡ l + h + f + p → h + f ≤ u
@@ -98,9 +98,6 @@ module _ (pages news : List (List ℕ)) where
 
       order : (u l h f p : ℕ) → u ≡ l + h + f + p → u ≡ l + f + p + h
       order u l h f p e = omega arith
-
-      self : (p : ℕ) → is_in p (p ∷ []) ≡ true
-      self p = grind arith
 
   -- The page is as it was, and so a subtree whose children have become others.
   pub parent_stays : {free now : ℕ → Bool} {h page : ℕ} {is_root : Bool} {b : Bounds} {inner : Inner} {under : List ℕ} {all : List Record}
@@ -133,10 +130,7 @@ page_in p under = some (multiplicity p (under ++ p ∷ [])) (multiplicity p unde
 pub written_same : (pages : List (List ℕ)) (page : ℕ) (bytes : List ℕ) (used : List ℕ) → multiplicity page used ≡ 0
     → SameOn pages (slice_set pages page bytes) used
 written_same pages page bytes used none p inside =
-    get_or-set_other pages page p bytes [] (λ e. nothing (multiplicity page used) (subst (λ q. 1 ≤ multiplicity q used) e (in_times p used inside)) none)
-  where
-    nothing : (n : ℕ) → 1 ≤ n → n ≡ 0 → ⊥
-    nothing n h g = omega arith
+    get_or-set_other pages page p bytes [] (λ e. some_not_none (multiplicity page used) (subst (λ q. 1 ≤ multiplicity q used) e (in_times p used inside)) none)
 
 pub apart_above : (free : ℕ → Bool) (under : List ℕ) (page : ℕ) → AreApart free (under ++ page ∷ []) → multiplicity page under ≡ 0
 apart_above free under page apart =

@@ -8,6 +8,7 @@ use Rattle.std.proofs.lemmas.Bool.{and_from}
 use Rattle.quilt_store.specs.Store.{Touches, first_eight}
 use Rattle.quilt_world.specs.Tale.{Goes}
 use Rattle.quilt_btree.specs.Floors.{TouchesEach, AreAmongFirst}
+use Rattle.quilt_btree.proofs.lists.Counts.{self_test, other_pages}
 
 -- the page is one of these
 abbrev pub is_in : ℕ → List ℕ → Bool
@@ -76,12 +77,9 @@ stays p q (suc m) (x ∷ xs) ne hp hq = by_test (x == p) refl (stays p q m xs ne
 touched_take : (p n : ℕ) (old new : List ℕ) → n ≤ 8 → Touches p old new → take n new ≡ take n (p ∷ but p old)
 touched_take p n old new le t = sym (take-take n 8 new le) ∙ ap (take n) t ∙ take-take n 8 (p ∷ but p old) le
 
-same_page : (p : ℕ) → (p == p) ≡ true
-same_page p = grind (arith, nat_tests)
-
 -- a page that is read is the first
 pub front_first : (p : ℕ) (old new : List ℕ) → Touches p old new → is_in p (take 1 new) ≡ true
-front_first p old new t = subst (λ l. is_in p l ≡ true) (sym (touched_take p 1 old new (omega arith) t)) (either (p == p) (same_page p))
+front_first p old new t = subst (λ l. is_in p l ≡ true) (sym (touched_take p 1 old new (omega arith) t)) (either (p == p) (self_test p))
   where
     either : (a : Bool) → a ≡ true → (a || false) ≡ true
     either true h = refl
@@ -89,10 +87,7 @@ front_first p old new t = subst (λ l. is_in p l ≡ true) (sym (touched_take p 
 
 by_page : (p q : ℕ) (b c : Bool) → (p == q) ≡ b → (q ≢ p → c ≡ true) → (b || c) ≡ true
 by_page p q true c e f = refl
-by_page p q false c e f = f (other p q e)
-  where
-    other : (p q : ℕ) → (p == q) ≡ false → q ≢ p
-    other p q e = grind (arith, nat_tests)
+by_page p q false c e f = f (other_pages p q e)
 
 -- each page that is read puts a page farther behind by one place at most
 pub one_behind : (p q n : ℕ) (old new : List ℕ) → suc n ≤ 8 → Touches p old new → is_in q (take n old) ≡ true → is_in q (take (suc n) new) ≡ true

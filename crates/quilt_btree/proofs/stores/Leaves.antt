@@ -1,5 +1,5 @@
 -- What calls that look and calls that edit leave of a store, one behind the other.
-use Rattle.std.proofs.Common.{◌∙◌, ◌≡◌, ℕ, ◌+◌, ◌-◌, ◌*◌, ◌≤◌, ap, subst, Result, Ok, Err, arith}
+use Rattle.std.proofs.Common.{◌∙◌, ◌≡◌, ℕ, ◌+◌, ◌-◌, ◌*◌, ◌≤◌, ap, Result, Ok, Err, arith}
 use Rattle.std.specs.Prelude.{IsErrOf}
 use Rattle.quilt_types.specs.declared.stop.Stop.{Stop}
 use Rattle.quilt_types.specs.declared.stop.Stop.TheVariants.{Device}
@@ -9,11 +9,6 @@ use Rattle.quilt_store.specs.Store.{count_free}
 use Rattle.quilt_store.specs.Calls.{OnlyReads}
 use Rattle.quilt_store.proofs.Reading.{rose_since}
 use Rattle.quilt_btree.specs.Costs.{EditsWithin, EditsWithinOnOk}
-use Rattle.quilt_btree.specs.Inserts.{HasRight, LeavesInserted, LeavesPut}
-use Rattle.quilt_btree.specs.Rebalancing.{LeavesRemoved, LeavesRebalanced}
-use Rattle.quilt_btree.specs.Edits.{HasPageIn}
-use Rattle.quilt_btree.specs.declared.outcomes.Inserted.{Inserted}
-use Rattle.quilt_btree.specs.declared.outcomes.Removed.{Removed}
 use Rattle.quilt_world.proofs.ReadCounts.{reads_then, reads_more}
 
 module _ {S : Type 0} (g : Ghosts S) where
@@ -92,58 +87,7 @@ module _ {S : Type 0} (g : Ghosts S) where
       reads = tt;
     }
 
-  -- what an insertion below a page leaves, which was only read
-  pub leaves_below : {T : Type 0} {s t u : S} {first : Result T Stop} {result : Result Inserted Stop} (k l : ℕ) → k ≤ l → OnlyReads g s t first
-      → LeavesInserted g k t u result → LeavesInserted g l s u result
-  leaves_below {result = Err e} k l le a b = record { right = tt; room = tt; same = tt }
-  leaves_below {s = s} {t = t} {u = u} {result = Ok o} k l le a b = record {
-    right = subst (λ n. HasRight n o) a.size b.right;
-    room =
-        let r : count_free (g.free s) (g.size s) ≤ count_free (g.free u) (g.size s) + k =
-        subst (λ f. count_free f (g.size s) ≤ count_free (g.free u) (g.size s) + k) a.free
-        (subst (λ n. count_free (g.free t) n ≤ count_free (g.free u) n + k) a.size b.room) in
-        omega arith;
-    same = λ is.
-        let h = b.same is in
-        record { told = h.told ∙ a.told; free = h.free ∙ a.free; unchanged = let x = h.unchanged in let y = a.changed in omega arith };
-  }
-
-  -- and one page that was put something into behind it
-  pub leaves_put : {s t u : S} {result : Result Inserted Stop} (k l : ℕ) → k + 1 ≤ l → g.size t ≡ g.size s
-      → count_free (g.free s) (g.size s) ≤ count_free (g.free t) (g.size s) + k → LeavesPut g t u result → LeavesInserted g l s u result
-  leaves_put {result = Err e} k l le n few b = record { right = tt; room = tt; same = tt }
-  leaves_put {s = s} {t = t} {u = u} {result = Ok o} k l le n few b = record {
-    right = subst (λ n. HasRight n o) n b.right;
-    room =
-        let r : count_free (g.free t) (g.size s) ≤ count_free (g.free u) (g.size s) + 1 =
-        subst (λ n. count_free (g.free t) n ≤ count_free (g.free u) n + 1) n b.room in
-        omega arith;
-    same = λ is. absurd (b.new is);
-  }
-
   -- where nothing was taken
   pub none_taken : {T : Type 0} {s t : S} {first : Result T Stop} → OnlyReads g s t first
       → count_free (g.free s) (g.size s) ≤ count_free (g.free t) (g.size s) + 0
   none_taken {s = s} a = let e = ap (λ f. count_free f (g.size s)) a.free in omega arith
-
-  -- what a removal below a page leaves, which was only read
-  pub remains_below : {T : Type 0} {s t u : S} {first : Result T Stop} {result : Result Removed Stop} (k l : ℕ) → k ≤ l → OnlyReads g s t first
-      → LeavesRemoved g k t u result → LeavesRemoved g l s u result
-  remains_below {result = Err e} k l le a b = record { same = tt; child = tt; less = tt }
-  remains_below {result = Ok o} k l le a b = record {
-    same = λ is.
-        let h = b.same is in
-        record { told = h.told ∙ a.told; free = h.free ∙ a.free; unchanged = let x = h.unchanged in let y = a.changed in omega arith };
-    child = subst (λ n. HasPageIn n o) a.size b.child;
-    less = λ ne. let x = b.less ne in let y = a.changed in omega arith;
-  }
-
-  -- and a child that was rebalanced behind it
-  pub remains_rebalanced : {s t u : S} {result : Result Removed Stop} (k l : ℕ) → k + 2 ≤ l → g.size t ≡ g.size s
-      → g.changed t + 1 ≤ g.changed s + k → LeavesRebalanced g 3 t u result → LeavesRemoved g l s u result
-  remains_rebalanced {result = Err e} k l le n few b = record { same = tt; child = tt; less = tt }
-  remains_rebalanced {result = Ok o} k l le n few b = record {
-    same = λ is. absurd (b.some is);
-    child = subst (λ n. HasPageIn n o) n b.child;
-    less = λ ne. let x = b.less ne in omega arith;
-  }

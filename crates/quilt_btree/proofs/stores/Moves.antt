@@ -3,7 +3,7 @@ use Rattle.std.proofs.Common.{◌≡◌, ◌≢◌, ℕ, ◌+◌, ◌≤◌, Boo
 use Rattle.std.proofs.Common.{subst, arith, length-set, get_or-set_other}
 use Rattle.quilt_store.specs.Store.{FreesOnly}
 use Rattle.quilt_btree.specs.Edits.{multiplicity, account, KeepsAccount}
-use Rattle.quilt_btree.proofs.lists.Counts.{times_here, equal_pages, other_pages, in_times}
+use Rattle.quilt_btree.proofs.lists.Counts.{times_here, equal_pages, other_pages, in_times, some_not_none}
 use Rattle.quilt_btree.proofs.lists.Rows.{SameOn}
 
 -- no page is used twice, and none that is used is free
@@ -18,10 +18,7 @@ none_if b e = ap (λ c. cond {A = ℕ} c 1 0) e
 
 -- a page that is spoken for is another than one that is not
 pub is_other : (free : ℕ → Bool) (used : List ℕ) (p q : ℕ) → 1 ≤ account free used q → account free used p ≡ 0 → p ≢ q
-is_other free used p q some none = λ e. nothing (account free used q) some (subst (λ n. account free used n ≡ 0) e none)
-  where
-    nothing : (n : ℕ) → 1 ≤ n → n ≡ 0 → ⊥
-    nothing n h g = omega arith
+is_other free used p q some none = λ e. some_not_none (account free used q) some (subst (λ n. account free used n ≡ 0) e none)
 
 -- a page that is spoken for is written
 pub moves_written : (pages : List (List ℕ)) (free : ℕ → Bool) (used : List ℕ) (page : ℕ) (bytes : List ℕ) → 1 ≤ account free used page

@@ -126,6 +126,9 @@ inner_is_dense pages at rs used s =
     dense : {u v : ℕ} (r : ℕ) {p c : ℕ} → u ≡ v + 1 → v ≡ p → p * 72 ≤ r → p ≡ c → 127 ≤ c → 9144 * u ≤ 128 * r
     dense r a b d e f = omega arith
 
+but_one : (u v r : ℕ) → u ≡ v + 1 → 9144 * v ≤ 128 * r → 9144 * (u - 1) ≤ 128 * r
+but_one u v r p h = omega arith
+
 -- a whole tree: all but its root are dense
 pub root_is_dense : (pages : List (List ℕ)) (height : ℕ) (at : ℕ × Bounds) (rs : List Record) (used : List ℕ) → height ≤ 3
     → Subtree pages height true at rs used → 9144 * (length used - 1) ≤ 128 * length rs
@@ -140,16 +143,10 @@ root_is_dense pages (suc (suc zero)) at rs used low s =
     let row = row_is_dense (Subtree pages 1 false) (leaf_is_dense pages) (bounded s.inner.children s.inner.keys at.1) rs s.under s.children in
     let all : length used ≡ length s.under + 1 = ap length s.is_used ∙ length-append s.under (at.0 ∷ []) in
     but_one (length used) (length s.under) (length rs) all row
-  where
-    but_one : (u v r : ℕ) → u ≡ v + 1 → 9144 * v ≤ 128 * r → 9144 * (u - 1) ≤ 128 * r
-    but_one u v r p h = omega arith
 root_is_dense pages (suc (suc (suc zero))) at rs used low s =
     let row = row_is_dense (Subtree pages 2 false) (inner_is_dense pages) (bounded s.inner.children s.inner.keys at.1) rs s.under s.children in
     let all : length used ≡ length s.under + 1 = ap length s.is_used ∙ length-append s.under (at.0 ∷ []) in
     but_one (length used) (length s.under) (length rs) all row
-  where
-    but_one : (u v r : ℕ) → u ≡ v + 1 → 9144 * v ≤ 128 * r → 9144 * (u - 1) ≤ 128 * r
-    but_one u v r p h = omega arith
 root_is_dense pages (suc (suc (suc (suc h)))) at rs used low s = absurd (omega arith)
 
 -- A tree within the quota leaves more than six pages.

@@ -21,7 +21,7 @@ use Rattle.quilt_btree.specs.declared.step.Found.{Found}
 use Rattle.quilt_btree.specs.Trees.{SpellsSubtree, ReadsLeaf, ReadsInner, LeadsToLeaf, is_past}
 use Rattle.quilt_btree.proofs.lists.Rising.{all_append, all_follow, all_map}
 use Rattle.quilt_btree.proofs.subtrees.Trees.{SpellsRow, IsInnerList, inner_list, subtree_rises}
-use Rattle.quilt_btree.proofs.rows.Places.{front, from_keys, head_bounds, tail_places, Rises, one_row, high_from}
+use Rattle.quilt_btree.proofs.rows.Places.{front, from_keys, head_bounds, tail_places, Rises, one_row, high_from, head_low}
 use Rattle.quilt_btree.proofs.lists.Lists.{IsAmong, floor_between, last_append}
 use Rattle.quilt_btree.proofs.subtrees.Descents.{child_bounds, AtChild, at_child, leads_down, keys_behind, tail_past, head_nearer, tail_many, place_in}
 
@@ -127,16 +127,12 @@ front_last {S} (c ∷ cs) (k ∷ ks) b (suc j) lt lk r =
     nearer : (i n : ℕ) → suc i < suc n → i < n
     nearer i n h = omega arith
 
-head_low : (ks : List Key) (b : Bounds) → (head_bounds ks b).low ≡ b.low
-head_low [] b = refl
-head_low (k ∷ ks) b = refl
-
 low_from : (ks : List Key) (j : ℕ) (d : Key) (b : Bounds) → slice_get ks j ≡ Some d → (from_keys (take (suc j) ks) b).low ≡ Some d
 low_from [] j d b h = cc
 low_from (k ∷ ks) zero d b h = h
 low_from (k ∷ ks) (suc j) d b h = low_from ks j d (record { low = Some k; high = b.high }) h
 
-key_below : (ks : List Key) (b : Bounds) (k : Key) → list_all (λ l. is_lt (key_cmp k l)) ks ≡ true → is_below b.high k ≡ true
+pub key_below : (ks : List Key) (b : Bounds) (k : Key) → list_all (λ l. is_lt (key_cmp k l)) ks ≡ true → is_below b.high k ≡ true
     → is_below (head_bounds ks b).high k ≡ true
 key_below [] b k p h = h
 key_below (l ∷ ks) b k p h = (and_parts (is_lt (key_cmp k l)) (list_all (λ m. is_lt (key_cmp k m)) ks) p).0

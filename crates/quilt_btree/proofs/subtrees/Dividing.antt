@@ -15,7 +15,7 @@ use Rattle.quilt_node.specs.Tree.{is_below}
 use Rattle.quilt_btree.specs.Subtree.{Subtree}
 use Rattle.quilt_btree.specs.Trees.{SpellsSubtree, LeadsToLeaf, Divides, IsBound, IsCut}
 use Rattle.quilt_record.proofs.Orders.{lt_le, le_le, lt_to_le}
-use Rattle.quilt_btree.proofs.subtrees.Trees.{ascending_first, ascending_rest}
+use Rattle.quilt_btree.proofs.subtrees.Trees.{ascending_first, ascending_rest, one_less}
 use Rattle.quilt_btree.proofs.lists.Rising.{all_follow, all_parts, below_on}
 use Rattle.quilt_btree.proofs.lists.Lists.{gt_not_le}
 use Rattle.quilt_btree.proofs.ways.Leaves.{same_le}
@@ -134,9 +134,6 @@ module _ (pages : List (List ℕ)) (h page i : ℕ) (inner : Inner) (start high 
         },
         below_start inner.keys i start d w q.3,
       )
-
-one_less : (height h : ℕ) → height ≡ suc (suc h) → height - 1 ≡ suc h
-one_less height h e = omega arith
 
 pub cut_up : {old : Option (List (List ℕ))} {new : Option (List (List ℕ))} {page height : ℕ} {child : ℕ} {i : ℕ} {k : Key} {inner : Inner}
     (start : Option Key) {next : Option Key} {leaf : List Record} {high : Option Key} → AtFloor old new page height child i k inner

@@ -18,6 +18,10 @@ use Rattle.quilt_btree.specs.Subtree.{Reading, Row, Subtree}
 use Rattle.quilt_record.proofs.Orders.{lt_le, lt_to_le}
 use Rattle.quilt_btree.proofs.lists.Rising.{IsRising, rising_join, all_follow}
 
+-- the height of a page's children
+pub one_less : (height below : ℕ) → height ≡ suc (suc below) → height - 1 ≡ suc below
+one_less height below e = omega arith
+
 -- what a well formed leaf is
 pub record IsLeafList (bytes : List ℕ) (rs : List Record) : Type 0 where
   pub least : 1 ≤ length rs

@@ -22,7 +22,7 @@ use Rattle.quilt_btree.specs.Stops.{unnamed, NamesPage}
 use Rattle.quilt_btree.proofs.lists.Counts.{other_test}
 use Rattle.quilt_btree.proofs.subtrees.Descending.{height_above}
 use Rattle.quilt_btree.proofs.stores.Writes.{tells_at}
-use Rattle.quilt_btree.proofs.subtrees.Trees.{inner_list}
+use Rattle.quilt_btree.proofs.subtrees.Trees.{inner_list, one_less}
 use Rattle.quilt_btree.proofs.ways.Forks.{IsRead, leaf_has_last, child_page}
 
 not_some : {A : Type 0} (o : Option A) → ((x : A) → o ≡ Some x → ⊥) → o ≡ None
@@ -52,9 +52,6 @@ pub bad_last : (told : Option (List (List ℕ))) (page height : ℕ) (bytes : Li
     → ((rs : List Record) → leaf_of bytes ≡ Some rs → None ≡ last_or None rs) → NamesBad told height page (Damaged page)
 bad_last told page height bytes one are f = bad_leaf told page height bytes one are (not_some (leaf_of bytes) (leaf_has_last bytes f))
 
-one_less : (height h : ℕ) → height ≡ suc (suc h) → height - 1 ≡ suc h
-one_less height h e = omega arith
-
 pub child_at : (size : ℕ) (bytes : List ℕ) (o : Option ℕ) (child : ℕ) → o ≡ Some child → IfSome o (HasChild size bytes) → HasChild size bytes child
 child_at size bytes o child e h = subst (λ p. IfSome p (HasChild size bytes)) e h
 
@@ -74,14 +71,14 @@ module _ (told : Option (List (List ℕ))) (height page : ℕ) where
 not_none : {A : Type 0} (o : Option A) → o ≡ None → (x : A) → o ≡ Some x → ⊥
 not_none o none x is = none-some x (sym none ∙ is)
 
+none_below_one : (q : ℕ) → q < 1 → q ≡ 0
+none_below_one q lt = omega arith
+
 -- what names no page over 0 names no good one
 pub zero_names : (told : Option (List (List ℕ))) (height page : ℕ) (e : Stop) → NamesPage 1 e → e ≢ Damaged 0 → NamesBad told height page e
 zero_names told height page Device h ne = tt
 zero_names told height page Memory h ne = tt
-zero_names told height page (Damaged q) h ne = absurd (ne (ap Damaged (zero q h)))
-  where
-    zero : (q : ℕ) → q < 1 → q ≡ 0
-    zero q h = omega arith
+zero_names told height page (Damaged q) h ne = absurd (ne (ap Damaged (none_below_one q h)))
 
 pub zero_named : {T : Type 0} (r : Result T Stop) (told : Option (List (List ℕ))) (height page : ℕ) → IfErr r (NamesPage 1)
     → IfErr r (λ e. e ≢ Damaged 0 → NamesBad told height page e)
@@ -230,10 +227,6 @@ pub named_along : {T : Type 0} (r : Result T Stop) (told now : Option (List (Lis
     → IfErr r (λ e. e ≢ Damaged 0 → NamesBad now height page e) → IfErr r (λ e. e ≢ Damaged 0 → NamesBad told height page e)
 named_along r told now height page same f = subst (λ t. IfErr r (λ e. e ≢ Damaged 0 → NamesBad t height page e)) same f
 
--- what is named of two pages of which one was only read
-spare_above : (q named page : ℕ) → named ≡ page → page < 1 → q < named + 1 → q ≡ 0
-spare_above q named page same lt le = omega arith
-
 module _ (told now : Option (List (List ℕ))) (height page : ℕ) (e : Stop) (same : now ≡ told) where
   -- where the store tells the same
   pub names_along : (e ≢ Damaged 0 → NamesBad now height page e) → e ≢ Damaged 0 → NamesBad told height page e
@@ -255,10 +248,7 @@ module _ (told now : Option (List (List ℕ))) (height page : ℕ) (e : Stop) (s
       over m n e le = λ z. omega arith
 
 pub no_spare : (told : Option (List (List ℕ))) (height spare : ℕ) (e : Stop) → NamesPage 1 e → NamesSpare told height spare e
-no_spare told height spare e n = λ q is ne. absurd (ne (zero q (subst (NamesPage 1) is n)))
-  where
-    zero : (q : ℕ) → q < 1 → q ≡ 0
-    zero q lt = omega arith
+no_spare told height spare e n = λ q is ne. absurd (ne (none_below_one q (subst (NamesPage 1) is n)))
 
 pub no_spares : {T : Type 0} (r : Result T Stop) (told : Option (List (List ℕ))) (height spare : ℕ) → IfErr r (NamesPage 1)
     → IfErr r (NamesSpare told height spare)
@@ -270,11 +260,8 @@ pub no_besides : {T : Type 0} (r : Result T Stop) (told : Option (List (List ℕ
 no_besides (Ok v) told height inner i f = f
 no_besides (Err e) told height inner i f = no_beside told height inner i e f
   where
-    zero : (q : ℕ) → q < 1 → q ≡ 0
-    zero q lt = omega arith
-
     no_beside : (told : Option (List (List ℕ))) (height : ℕ) (inner : Inner) (i : ℕ) (e : Stop) → NamesPage 1 e → NamesBeside told height inner i e
-    no_beside told height inner i e n = λ q is ne. absurd (ne (zero q (subst (NamesPage 1) is n)))
+    no_beside told height inner i e n = λ q is ne. absurd (ne (none_below_one q (subst (NamesPage 1) is n)))
 
 -- two neighbours among the children of a page, and one of its children
 pub record AreNeighbours (inner : Inner) (i j left right child : ℕ) : Type 0 where

@@ -6,9 +6,7 @@ use Rattle.quilt_record.specs.declared.key.Key.{Key}
 use Rattle.quilt_node.specs.Pages.{Inner, inner_of}
 use Rattle.quilt_btree.specs.Floors.{last_pages, last_below, finds_floor, finds_below, floor_pages, floor_below, before_child, child_place}
 use Rattle.quilt_btree.proofs.subtrees.Descending.{height_above}
-
-one_less : (height h : ℕ) → height ≡ suc (suc h) → suc h ≡ height - 1
-one_less height h e = omega arith
+use Rattle.quilt_btree.proofs.subtrees.Trees.{one_less}
 
 module _ (pages : List (List ℕ)) (k : Key) (height page child i : ℕ) (inner : Inner) (some : 1 ≤ height) (ne : height ≢ 1)
     (here : inner_of (length pages) (slice_index_or pages page []) ≡ Some inner) (place : i ≡ child_place k inner)
@@ -22,7 +20,7 @@ module _ (pages : List (List ℕ)) (k : Key) (height page child i : ℕ) (inner 
       ∙ ap (λ j. page ∷ (floor_pages pages k (suc up.0) (slice_index inner.children j)
       ++ before_child (finds_floor pages k (suc up.0)) (last_pages pages (suc up.0)) inner j)) (sym place)
       ∙ ap (λ c. page ∷ (floor_pages pages k (suc up.0) c ++ before_child (finds_floor pages k (suc up.0)) (last_pages pages (suc up.0)) inner i)) (sym is)
-      ∙ ap (λ m. page ∷ (floor_pages pages k m child ++ before_child (finds_floor pages k m) (last_pages pages m) inner i)) (one_less height up.0 up.1)
+      ∙ ap (λ m. page ∷ (floor_pages pages k m child ++ before_child (finds_floor pages k m) (last_pages pages m) inner i)) (sym (one_less height up.0 up.1))
 
   pub finds_splits : finds_floor pages k height page ≡ (nat_lt 0 i || finds_floor pages k (height - 1) child)
   finds_splits =
@@ -30,7 +28,7 @@ module _ (pages : List (List ℕ)) (k : Key) (height page child i : ℕ) (inner 
       ap (λ m. finds_floor pages k m page) up.1 ∙ ap (λ o. finds_below (finds_floor pages k (suc up.0)) k o) here
       ∙ ap (λ j. nat_lt 0 j || finds_floor pages k (suc up.0) (slice_index inner.children j)) (sym place)
       ∙ ap (λ c. nat_lt 0 i || finds_floor pages k (suc up.0) c) (sym is)
-      ∙ ap (λ m. nat_lt 0 i || finds_floor pages k m child) (one_less height up.0 up.1)
+      ∙ ap (λ m. nat_lt 0 i || finds_floor pages k m child) (sym (one_less height up.0 up.1))
 
 module _ (pages : List (List ℕ)) (height child : ℕ) (inner : Inner) where
   -- an inner page, with the child to which the last record leads
@@ -41,7 +39,7 @@ module _ (pages : List (List ℕ)) (height child : ℕ) (inner : Inner) where
       let up = height_above height some ne in
       let same : child ≡ slice_index inner.children (length inner.children - 1) = is ∙ ap (λ m. slice_index inner.children (m - 1)) many in
       ap (λ m. last_pages pages m page) up.1 ∙ ap (λ o. page ∷ last_below (last_pages pages (suc up.0)) o) here
-      ∙ ap (λ c. page ∷ last_pages pages (suc up.0) c) (sym same) ∙ ap (λ m. page ∷ last_pages pages m child) (one_less height up.0 up.1)
+      ∙ ap (λ c. page ∷ last_pages pages (suc up.0) c) (sym same) ∙ ap (λ m. page ∷ last_pages pages m child) (sym (one_less height up.0 up.1))
 
   -- no more is read where the child has the record, or none stands before it
   pub found_here : (k : Key) (i : ℕ) → child ≡ slice_index inner.children i → finds_floor pages k height child ≡ true

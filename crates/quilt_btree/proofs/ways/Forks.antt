@@ -5,6 +5,7 @@ use Rattle.std.proofs.Common.{Ok, Err, IfOk, IfErr, IfSome, OnOk, slice_index, s
 use Rattle.std.specs.List.{last_or}
 use Rattle.std.specs.Ordering.{is_lt}
 use Rattle.std.proofs.lemmas.List.{append-nil}
+use Rattle.std.proofs.lemmas.Option.{same_Some}
 use Rattle.quilt_record.specs.declared.key.Key.{Key}
 use Rattle.quilt_record.specs.declared.record.Record.{Record}
 use Rattle.quilt_record.specs.Records.{key_cmp}
@@ -52,14 +53,11 @@ page_here {page = page} {height = height} {size = size} {bytes = bytes} {rs = rs
     let long : length s.pages ≡ size = subst (λ o. IfSome o (λ pages. length pages ≡ size)) s.is_told r.many in
     record {
       inner = t.inner;
-      reads = λ pages is. subst (λ ps. inner_of (length ps) (slice_index_or ps page []) ≡ Some t.inner) (one s.pages pages (sym s.is_told ∙ is))
+      reads = λ pages is. subst (λ ps. inner_of (length ps) (slice_index_or ps page []) ≡ Some t.inner) (same_Some s.pages pages (sym s.is_told ∙ is))
           t.page;
       is = ap (inner_of size) same ∙ ap (λ m. inner_of m (slice_index_or s.pages page [])) (sym long) ∙ t.page;
       is_height = t.is_height ∙ sym n.1;
     }
-  where
-    one : (ps qs : List (List ℕ)) → Some ps ≡ Some qs → ps ≡ qs
-    one ps qs h = cc
 
 pub leaf_here : (told : Option (List (List ℕ))) (page height : ℕ) (bytes : List ℕ) (rs : List Record) → height ≡ 1 → AreOf told page bytes
     → SpellsSubtree told page height rs → leaf_of bytes ≡ Some rs
@@ -171,9 +169,6 @@ pub record Ended (old new : Option (List (List ℕ))) (page height child : ℕ) 
   pub here : List Record
   pub spells : SpellsSubtree new child (height - 1) here
 
-some_same : (c d : ℕ) → Some c ≡ Some d → c ≡ d
-some_same c d h = cc
-
 module _ (page height : ℕ) (bytes : List ℕ) where
   pub leaf_led : (told : Option (List (List ℕ))) (k : Key) → height ≡ 1 → AreOf told page bytes → (rs : List Record) → SpellsSubtree told page height rs
       → IsLeafFor k rs bytes
@@ -192,7 +187,7 @@ module _ (page height : ℕ) (bytes : List ℕ) where
       → SpellsSubtree old page height rs → Ended old new page height child
   ended old new size child rs r f s =
       let h = page_here r s in
-      let is = some_same child (slice_index h.inner.children (length h.inner.children - 1)) (f h.inner h.is) in
+      let is = same_Some child (slice_index h.inner.children (length h.inner.children - 1)) (f h.inner h.is) in
       let e = ends_below page height child (length h.inner.children) h.inner r.some r.above refl is old h.reads rs s in
       record {
         inner = h.inner;
@@ -291,7 +286,7 @@ module _ (k : Key) (inner : Inner) (i child : ℕ) where
     number = n;
     child_is = e;
     first = λ h. absurd (differ prior h);
-    later = λ q h. (ne, sym (some_same prior q h) ∙ is);
+    later = λ q h. (ne, sym (same_Some prior q h) ∙ is);
   }
     where
       differ : (q : ℕ) → Some q ≡ None → ⊥

@@ -1,11 +1,12 @@
 -- The way down to a leaf in the bytes of pages, with the bound below which the leaf's keys stay.
-use Rattle.std.proofs.Common.{◌≡◌, ℕ, zero, suc, ◌+◌, ◌-◌, ◌<◌, ◌≤◌, Bool, true, false, List, [], ◌∷◌, drop, length, Option, Some, None, Result, Ok, Err}
+use Rattle.std.proofs.Common.{◌≡◌, ℕ, zero, suc, ◌+◌, ◌-◌, ◌<◌, ◌≤◌, true, false, List, [], ◌∷◌, drop, length, Option, Some, Result, Ok, Err}
 use Rattle.std.proofs.lemmas.Bool.{and_parts}
-use Rattle.std.proofs.Common.{IfOk, IfErr, slice_index, refl, sym, ◌∙◌, ap, subst, arith}
+use Rattle.std.proofs.Common.{IfOk, IfErr, slice_index, sym, ◌∙◌, ap, subst, arith}
 use Rattle.std.specs.Prelude.{slice_get}
 use Rattle.std.specs.List.{list_all}
 use Rattle.std.specs.Option.{option_or}
 use Rattle.std.specs.Ordering.{is_lt}
+use Rattle.std.proofs.lemmas.Option.{same_Some}
 use Rattle.quilt_types.specs.declared.stop.Stop.{Stop}
 use Rattle.quilt_record.specs.declared.key.Key.{Key}
 use Rattle.quilt_record.specs.declared.record.Record.{Record}
@@ -23,6 +24,8 @@ use Rattle.quilt_btree.proofs.subtrees.Descending.{leads_below, along_told, lead
 use Rattle.quilt_btree.proofs.subtrees.Dividing.{cut_up, leaf_cut}
 use Rattle.quilt_btree.proofs.ways.Forks.{IsRead, page_here, leaf_here}
 use Rattle.quilt_btree.proofs.subtrees.Trees.{inner_list, leaf_list}
+use Rattle.quilt_btree.proofs.lists.Ascents.{no_more}
+use Rattle.quilt_btree.proofs.lists.Lists.{true_false}
 
 -- the step down from an inner page
 abbrev pub StepsTo : ℕ → List ℕ → Key → Option Key → ℕ → Option Key → Type 0
@@ -138,14 +141,6 @@ here_arrives told page height bytes k high one are = record {
 }
 
 -- the step in the bytes of a well formed page
-key_missing : (ks : List Key) (i : ℕ) → length ks ≤ i → slice_get ks i ≡ None
-key_missing [] i le = refl
-key_missing (k ∷ ks) zero le = absurd (omega arith)
-key_missing (k ∷ ks) (suc i) le = key_missing ks i (fewer (length ks) i le)
-  where
-    fewer : (n i : ℕ) → suc n ≤ suc i → n ≤ i
-    fewer n i h = omega arith
-
 pub keys_many : (pages : ℕ) (bytes : List ℕ) (inner : Inner) (i n : ℕ) → inner_of pages bytes ≡ Some inner → n ≡ length inner.children
     → i + 1 < n → i < length inner.keys
 keys_many pages bytes inner i n is many more = let e = (inner_list pages bytes inner is).keys in omega arith
@@ -156,7 +151,7 @@ module _ (inner : Inner) (k : Key) (i child : ℕ) (high : Option Key) where
   last_step pages bytes n is p many le c =
       let l = inner_list pages bytes inner is in
       let few : length inner.keys ≤ i = let e = l.keys in omega arith in
-      record { place = i; is_place = p; child_is = c; next_is = sym (ap (λ o. option_or o high) (key_missing inner.keys i few)) }
+      record { place = i; is_place = p; child_is = c; next_is = sym (ap (λ o. option_or o high) (no_more inner.keys i few)) }
 
   pub next_step : (next : Key) → IsPlace inner.keys k i → child ≡ slice_index inner.children i → slice_get inner.keys i ≡ Some next
       → IsStepDown k inner high child (Some next)
@@ -166,16 +161,9 @@ first_over : (k next : Key) (ks : List Key) (i : ℕ) → list_all (λ l. is_lt 
     → is_lt (key_cmp k next) ≡ true
 first_over k next [] i h is = cc
 first_over k next (l ∷ ks) zero h is =
-    subst (λ m. is_lt (key_cmp k m) ≡ true) (one l next is) (and_parts (is_lt (key_cmp k l)) (list_all (λ l. is_lt (key_cmp k l)) ks) h).0
-  where
-    one : (l next : Key) → Some l ≡ Some next → l ≡ next
-    one l next h = cc
+    subst (λ m. is_lt (key_cmp k m) ≡ true) (same_Some l next is) (and_parts (is_lt (key_cmp k l)) (list_all (λ l. is_lt (key_cmp k l)) ks) h).0
 first_over k next (l ∷ ks) (suc i) h is = first_over k next ks i h is
 
 pub next_is_above : (inner : Inner) (k next : Key) (i : ℕ) → IsPlace inner.keys k i → slice_get inner.keys i ≡ Some next
     → is_lt (key_cmp k next) ≡ false → ⊥
-next_is_above inner k next i p is not = let h = first_over k next inner.keys i p.behind is in no (is_lt (key_cmp k next)) h not
-  where
-    no : (b : Bool) → b ≡ true → b ≡ false → ⊥
-    no true h g = cc
-    no false h g = cc
+next_is_above inner k next i p is not = let h = first_over k next inner.keys i p.behind is in true_false (is_lt (key_cmp k next)) h not

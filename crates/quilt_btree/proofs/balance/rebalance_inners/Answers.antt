@@ -1,20 +1,18 @@
 use Rattle.std.proofs.Common.{◌∙◌}
-use Rattle.std.proofs.lemmas.Result.{err_from_is_err_and}
 use Rattle.quilt_btree.proofs.subtrees.Descending.{along_told}
 use Rattle.quilt_btree.proofs.removals.LeafRebalances.{left_spells, right_spells}
 use Rattle.quilt_btree.proofs.removals.InnerRebalances.{inners_joined, inners_separated, inners_taken, not_inners}
+use Rattle.quilt_btree.proofs.Handed.{handed_on}
 use Rattle.quilt_btree.proofs.balance.rebalance_inners.Goals as goal
 
 pub returns-in_err-first-clause-sound : goal.returns-in_err-first-clause-sound
 returns-in_err-first-clause-sound g c =
-    let p = err_from_is_err_and c.from_residual.result c.from_residual.ensures.1 in
-    rw (p.1, p.2) (λ b rs used m. c.in_err-first.ensures.sound m.first
+    rw (handed_on c.from_residual.result c.from_residual.ensures.1) (λ b rs used m. c.in_err-first.ensures.sound m.first
     (left_spells (g.S.PageStore.told c.args.store.now) (g.S.PageStore.free c.args.store.now) c.args.height c.args.left c.args.key.now c.args.right b rs used m))
 
 pub returns-in_err-rest-clause-sound : goal.returns-in_err-rest-clause-sound
 returns-in_err-rest-clause-sound g c =
-    let p = err_from_is_err_and c.from_residual-in_err-rest.result c.from_residual-in_err-rest.ensures.1 in
-    rw (p.1, p.2) (λ b rs used m. c.in_err-rest.ensures.sound m.rest
+    rw (handed_on c.from_residual-in_err-rest.result c.from_residual-in_err-rest.ensures.1) (λ b rs used m. c.in_err-rest.ensures.sound m.rest
     (along_told (g.S.PageStore.told c.args.store.now) (g.S.PageStore.told c.read_inner.new.store) c.args.right c.args.height m.rest
     c.in_ok-first.ensures.looks.left.told
     (right_spells (g.S.PageStore.told c.args.store.now) (g.S.PageStore.free c.args.store.now) c.args.height c.args.left c.args.key.now
@@ -51,8 +49,7 @@ returns-then-len-le-MOST_CHILDREN-clause-rebalanced g c = λ b rs used m.
 
 pub returns-in_err-write_and_give-clause-sound : goal.returns-in_err-write_and_give-clause-sound
 returns-in_err-write_and_give-clause-sound g c =
-    let p = err_from_is_err_and c.from_residual-in_err-write_and_give.result c.from_residual-in_err-write_and_give.ensures.1 in
-    rw (p.1, p.2) (λ b rs used m.
+    rw (handed_on c.from_residual-in_err-write_and_give.result c.from_residual-in_err-write_and_give.ensures.1) (λ b rs used m.
     let t = inners_taken (g.S.PageStore.told c.args.store.now) (g.S.PageStore.free c.args.store.now) c.args.height c.args.left c.args.key.now
     c.args.right b rs used c.in_ok-first.first c.in_ok-rest.rest (g.S.PageStore.free c.read_inner-2.new.store) c.requires.height
     c.in_ok-first.ensures.inner (λ pages t. c.in_ok-rest.ensures.inner pages (c.in_ok-first.ensures.looks.left.told ∙ t))
@@ -61,8 +58,7 @@ returns-in_err-write_and_give-clause-sound g c =
 
 pub returns-in_err-write_both-clause-sound : goal.returns-in_err-write_both-clause-sound
 returns-in_err-write_both-clause-sound g c =
-    let p = err_from_is_err_and c.from_residual-in_err-write_both.result c.from_residual-in_err-write_both.ensures.1 in
-    rw (p.1, p.2) (λ b rs used m.
+    rw (handed_on c.from_residual-in_err-write_both.result c.from_residual-in_err-write_both.ensures.1) (λ b rs used m.
     let t = inners_taken (g.S.PageStore.told c.args.store.now) (g.S.PageStore.free c.args.store.now) c.args.height c.args.left c.args.key.now
     c.args.right b rs used c.in_ok-first.first c.in_ok-rest.rest (g.S.PageStore.free c.read_inner-2.new.store) c.requires.height
     c.in_ok-first.ensures.inner (λ pages t. c.in_ok-rest.ensures.inner pages (c.in_ok-first.ensures.looks.left.told ∙ t))

@@ -1,20 +1,19 @@
 use Rattle.std.proofs.Common.{◌∙◌, ◌+◌, refl, arith}
-use Rattle.std.proofs.lemmas.Result.{err_from_is_err_and}
 use Rattle.quilt_btree.proofs.subtrees.Descending.{along_told}
 use Rattle.quilt_btree.proofs.removals.LeafRebalances.{leaves_joined, leaves_separated, leaves_taken, not_leaves, left_spells, right_spells}
 use Rattle.quilt_btree.proofs.ways.Damage.{names_spare, no_spare, names_more}
+use Rattle.quilt_btree.proofs.Handed.{handed_on}
 use Rattle.quilt_btree.proofs.balance.rebalance_leaves.Goals as goal
 
 pub returns-in_err-first-clause-sound : goal.returns-in_err-first-clause-sound
 returns-in_err-first-clause-sound g c =
-    let p = err_from_is_err_and c.from_residual.result c.from_residual.ensures.1 in
-    rw (p.1, p.2) (λ height b rs used one m. c.in_err-first.ensures.sound height m.first one
+    rw (handed_on c.from_residual.result c.from_residual.ensures.1) (λ height b rs used one m. c.in_err-first.ensures.sound height m.first one
     (left_spells (g.S.PageStore.told c.args.store.now) (g.S.PageStore.free c.args.store.now) height c.args.left c.args.key.now c.args.right b rs used m))
 
 pub returns-in_err-rest-clause-sound : goal.returns-in_err-rest-clause-sound
 returns-in_err-rest-clause-sound g c =
-    let p = err_from_is_err_and c.from_residual-in_err-rest.result c.from_residual-in_err-rest.ensures.1 in
-    rw (p.1, p.2) (λ height b rs used one m. c.in_err-rest.ensures.sound height m.rest one
+    rw (handed_on c.from_residual-in_err-rest.result c.from_residual-in_err-rest.ensures.1)
+    (λ height b rs used one m. c.in_err-rest.ensures.sound height m.rest one
     (along_told (g.S.PageStore.told c.args.store.now) (g.S.PageStore.told c.read_leaf.new.store) c.args.right height m.rest c.in_ok-first.ensures.left.told
     (right_spells (g.S.PageStore.told c.args.store.now) (g.S.PageStore.free c.args.store.now) height c.args.left c.args.key.now c.args.right b rs used m)))
 
@@ -43,16 +42,14 @@ returns-then-len-le-MOST_RECORDS-clause-rebalanced g c = λ height b rs used one
 
 pub returns-in_err-write_and_give-clause-sound : goal.returns-in_err-write_and_give-clause-sound
 returns-in_err-write_and_give-clause-sound g c =
-    let p = err_from_is_err_and c.from_residual-in_err-write_and_give.result c.from_residual-in_err-write_and_give.ensures.1 in
-    rw (p.1, p.2) (λ height b rs used one m.
+    rw (handed_on c.from_residual-in_err-write_and_give.result c.from_residual-in_err-write_and_give.ensures.1) (λ height b rs used one m.
     let t = leaves_taken (g.S.PageStore.told c.args.store.now) (g.S.PageStore.free c.args.store.now) one
     (c.in_ok-rest.ensures.left.free ∙ c.in_ok-first.ensures.left.free) m in
     c.in_err-write_and_give.ensures.sound t.0 t.1)
 
 pub returns-in_err-write_both-clause-sound : goal.returns-in_err-write_both-clause-sound
 returns-in_err-write_both-clause-sound g c =
-    let p = err_from_is_err_and c.from_residual-in_err-write_both.result c.from_residual-in_err-write_both.ensures.1 in
-    rw (p.1, p.2) (λ height b rs used one m.
+    rw (handed_on c.from_residual-in_err-write_both.result c.from_residual-in_err-write_both.ensures.1) (λ height b rs used one m.
     let t = leaves_taken (g.S.PageStore.told c.args.store.now) (g.S.PageStore.free c.args.store.now) one
     (c.in_ok-rest.ensures.left.free ∙ c.in_ok-first.ensures.left.free) m in
     c.in_err-write_both.ensures.sound t.0 t.1)
@@ -80,44 +77,41 @@ returns-clause-rebalanced g c = λ height b rs used one m.
 
 pub returns-in_err-first-clause-names : goal.returns-in_err-first-clause-names
 returns-in_err-first-clause-names g c =
-    let p = err_from_is_err_and c.from_residual.result c.from_residual.ensures.1 in
-    rw (p.1, p.2) (names_more (c.named_of.result + 1) (g.S.PageStore.size c.args.store.now) _
+    rw (handed_on c.from_residual.result c.from_residual.ensures.1) (names_more (c.named_of.result + 1) (g.S.PageStore.size c.args.store.now) _
     (let m = c.named_of.ensures.most in let lt = c.requires.left.1 in omega arith) c.in_err-first.ensures.names)
 
 pub returns-in_err-first-clause-bad : goal.returns-in_err-first-clause-bad
 returns-in_err-first-clause-bad g c =
-    let p = err_from_is_err_and c.from_residual.result c.from_residual.ensures.1 in
-    rw (p.1, p.2)
+    rw (handed_on c.from_residual.result c.from_residual.ensures.1)
     (λ height one. names_spare (g.S.PageStore.told c.args.store.now) (g.S.PageStore.told c.args.store.now) height c.args.left _ refl c.named_of.result c.args.spare c.requires.left.0 c.named_of.ensures.named c.in_err-first.ensures.names c.in_err-first.ensures.bad one)
 
 pub returns-in_err-rest-clause-names : goal.returns-in_err-rest-clause-names
 returns-in_err-rest-clause-names g c =
-    let p = err_from_is_err_and c.from_residual-in_err-rest.result c.from_residual-in_err-rest.ensures.1 in
-    rw (p.1, p.2) (names_more (c.named_of-2.result + 1) (g.S.PageStore.size c.args.store.now) _
+    rw (handed_on c.from_residual-in_err-rest.result c.from_residual-in_err-rest.ensures.1)
+    (names_more (c.named_of-2.result + 1) (g.S.PageStore.size c.args.store.now) _
     (let m = c.named_of-2.ensures.most in let lt = c.requires.right.1 in omega arith) c.in_err-rest.ensures.names)
 
 pub returns-in_err-rest-clause-bad : goal.returns-in_err-rest-clause-bad
 returns-in_err-rest-clause-bad g c =
-    let p = err_from_is_err_and c.from_residual-in_err-rest.result c.from_residual-in_err-rest.ensures.1 in
-    rw (p.1, p.2)
+    rw (handed_on c.from_residual-in_err-rest.result c.from_residual-in_err-rest.ensures.1)
     (λ height one. names_spare (g.S.PageStore.told c.args.store.now) (g.S.PageStore.told c.read_leaf.new.store) height c.args.right _ c.in_ok-first.ensures.left.told c.named_of-2.result c.args.spare c.requires.right.0 c.named_of-2.ensures.named c.in_err-rest.ensures.names c.in_err-rest.ensures.bad one)
 
 pub returns-in_err-write_and_give-clause-names : goal.returns-in_err-write_and_give-clause-names
 returns-in_err-write_and_give-clause-names g c =
-    let p = err_from_is_err_and c.from_residual-in_err-write_and_give.result c.from_residual-in_err-write_and_give.ensures.1 in
-    rw (p.1, p.2) (names_more 1 (g.S.PageStore.size c.args.store.now) _ (let lt = c.requires.left.1 in omega arith) c.in_err-write_and_give.ensures.names)
+    rw (handed_on c.from_residual-in_err-write_and_give.result c.from_residual-in_err-write_and_give.ensures.1)
+    (names_more 1 (g.S.PageStore.size c.args.store.now) _ (let lt = c.requires.left.1 in omega arith) c.in_err-write_and_give.ensures.names)
 
 pub returns-in_err-write_and_give-clause-bad : goal.returns-in_err-write_and_give-clause-bad
 returns-in_err-write_and_give-clause-bad g c =
-    let p = err_from_is_err_and c.from_residual-in_err-write_and_give.result c.from_residual-in_err-write_and_give.ensures.1 in
-    rw (p.1, p.2) (λ height one. no_spare (g.S.PageStore.told c.args.store.now) height c.args.spare _ c.in_err-write_and_give.ensures.names)
+    rw (handed_on c.from_residual-in_err-write_and_give.result c.from_residual-in_err-write_and_give.ensures.1)
+    (λ height one. no_spare (g.S.PageStore.told c.args.store.now) height c.args.spare _ c.in_err-write_and_give.ensures.names)
 
 pub returns-in_err-write_both-clause-names : goal.returns-in_err-write_both-clause-names
 returns-in_err-write_both-clause-names g c =
-    let p = err_from_is_err_and c.from_residual-in_err-write_both.result c.from_residual-in_err-write_both.ensures.1 in
-    rw (p.1, p.2) (names_more 1 (g.S.PageStore.size c.args.store.now) _ (let lt = c.requires.left.1 in omega arith) c.in_err-write_both.ensures.names)
+    rw (handed_on c.from_residual-in_err-write_both.result c.from_residual-in_err-write_both.ensures.1)
+    (names_more 1 (g.S.PageStore.size c.args.store.now) _ (let lt = c.requires.left.1 in omega arith) c.in_err-write_both.ensures.names)
 
 pub returns-in_err-write_both-clause-bad : goal.returns-in_err-write_both-clause-bad
 returns-in_err-write_both-clause-bad g c =
-    let p = err_from_is_err_and c.from_residual-in_err-write_both.result c.from_residual-in_err-write_both.ensures.1 in
-    rw (p.1, p.2) (λ height one. no_spare (g.S.PageStore.told c.args.store.now) height c.args.spare _ c.in_err-write_both.ensures.names)
+    rw (handed_on c.from_residual-in_err-write_both.result c.from_residual-in_err-write_both.ensures.1)
+    (λ height one. no_spare (g.S.PageStore.told c.args.store.now) height c.args.spare _ c.in_err-write_both.ensures.names)

@@ -1,5 +1,4 @@
 use Rattle.std.proofs.Common.{◌≡◌, true, false, ◌≤◌, ◌<◌, ◌+◌, ◌-◌, ◌*◌, Some, refl, sym, subst, ◌∙◌, arith}
-use Rattle.std.proofs.lemmas.Result.{err_from_is_err_and}
 use Rattle.quilt_node.specs.Pages.{inner_of}
 use Rattle.quilt_btree.specs.Searches.{IsHigh}
 use Rattle.quilt_btree.proofs.ways.Forks.{place_inside, read_ok}
@@ -10,6 +9,7 @@ use Rattle.quilt_btree.proofs.growth.UnderGrowth.{sound_leaf, sound_under, under
 use Rattle.quilt_btree.proofs.stores.Leaves.{looked, edits_then}
 use Rattle.quilt_btree.proofs.growth.Below.{edit_spells}
 use Rattle.quilt_btree.proofs.growth.Finding.{there_in_leaf, finds_below, new_finds}
+use Rattle.quilt_btree.proofs.Handed.{handed_on}
 use Rattle.quilt_btree.proofs.insertion.+insert_under.Goals as goal
 
 pub returns-then-height-eq1-clause-sound : goal.returns-then-height-eq1-clause-sound
@@ -19,14 +19,14 @@ returns-then-height-eq1-clause-sound g t c =
 
 pub returns-in_err-path-clause-sound : goal.returns-in_err-path-clause-sound
 returns-in_err-path-clause-sound g t c =
-    let p = err_from_is_err_and c.from_residual.result c.from_residual.ensures.1 in
-    rw (p.1, p.2) (λ is_root b rs used can few. c.in_err-path.ensures.sound c.args.height rs c.requires.height c.if-height-eq1.false
+    rw (handed_on c.from_residual.result c.from_residual.ensures.1)
+    (λ is_root b rs used can few. c.in_err-path.ensures.sound c.args.height rs c.requires.height c.if-height-eq1.false
     (edit_spells (g.S.PageStore.told c.args.store.now) (g.S.PageStore.free c.args.store.now) c.args.page c.args.height is_root b rs used can.can_edit))
 
 pub returns-in_err-insert_under-clause-sound : goal.returns-in_err-insert_under-clause-sound
 returns-in_err-insert_under-clause-sound g t c =
-    let p = err_from_is_err_and c.from_residual-in_err-insert_under.result c.from_residual-in_err-insert_under.ensures.1 in
-    rw (p.1, p.2) (λ is_root b rs used can few. let h = c.in_ok-path.ensures.here c.args.height rs c.requires.height c.if-height-eq1.false
+    rw (handed_on c.from_residual-in_err-insert_under.result c.from_residual-in_err-insert_under.ensures.1)
+    (λ is_root b rs used can few. let h = c.in_ok-path.ensures.here c.args.height rs c.requires.height c.if-height-eq1.false
     (edit_spells (g.S.PageStore.told c.args.store.now) (g.S.PageStore.free c.args.store.now) c.args.page c.args.height is_root b rs used can.can_edit) in
     let w = c.in_ok-path.ensures.path h.inner h.is in
     sound_under _
@@ -194,13 +194,11 @@ returns-then-height-eq1-clause-bad g t c =
 
 pub returns-in_err-path-clause-bad : goal.returns-in_err-path-clause-bad
 returns-in_err-path-clause-bad g t c =
-    let p = err_from_is_err_and c.from_residual.result c.from_residual.ensures.1 in
-    rw (p.1, p.2) (λ ne. c.in_err-path.ensures.bad c.args.height c.requires.height c.if-height-eq1.false)
+    rw (handed_on c.from_residual.result c.from_residual.ensures.1) (λ ne. c.in_err-path.ensures.bad c.args.height c.requires.height c.if-height-eq1.false)
 
 pub returns-in_err-insert_under-clause-bad : goal.returns-in_err-insert_under-clause-bad
 returns-in_err-insert_under-clause-bad g t c =
-    let p = err_from_is_err_and c.from_residual-in_err-insert_under.result c.from_residual-in_err-insert_under.ensures.1 in
-    rw (p.1, p.2) (λ ne.
+    rw (handed_on c.from_residual-in_err-insert_under.result c.from_residual-in_err-insert_under.ensures.1) (λ ne.
     bad_below (g.S.PageStore.told c.args.store.now) (g.S.PageStore.told c.read_path.new.store) c.args.page c.args.height
     (g.S.PageStore.size c.args.store.now) c.read_path.new.bytes c.in_ok-path.path.child _
     (read_ok (g.S.PageStore.told c.args.store.now) (g.S.PageStore.told c.read_path.new.store) c.args.page c.args.height

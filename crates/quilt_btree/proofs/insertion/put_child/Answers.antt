@@ -1,14 +1,13 @@
 use Rattle.std.proofs.Common.{◌≡◌, refl, sym, ◌∙◌, subst, arith}
 use Rattle.quilt_node.specs.Pages.{Inner}
 use Rattle.std.proofs.lemmas.Result.{IfErr-weaker}
-use Rattle.std.proofs.lemmas.Result.{err_from_is_err_and}
 use Rattle.quilt_btree.proofs.growth.InnerGrowth.{IsWritten, pending_taken, put_done}
+use Rattle.quilt_btree.proofs.Handed.{handed_on}
 use Rattle.quilt_btree.proofs.insertion.put_child.Goals as goal
 
 pub returns-in_err-write_page-clause-sound : goal.returns-in_err-write_page-clause-sound
 returns-in_err-write_page-clause-sound g c =
-    let p = err_from_is_err_and c.from_residual.result c.from_residual.ensures.1 in
-    rw (p.1, p.2) (λ is_root b all under p room low. c.in_err-write_page.ensures.sound (pending_taken p))
+    rw (handed_on c.from_residual.result c.from_residual.ensures.1) (λ is_root b all under p room low. c.in_err-write_page.ensures.sound (pending_taken p))
 
 pub returns-then-len-lt-MOST_CHILDREN-clause-put : goal.returns-then-len-lt-MOST_CHILDREN-clause-put
 returns-then-len-lt-MOST_CHILDREN-clause-put g c is_root b all under p =

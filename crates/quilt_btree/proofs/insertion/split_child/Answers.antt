@@ -2,14 +2,13 @@ use Rattle.std.proofs.Common.{◌≡◌, suc, ◌≤◌, length, refl, subst, ar
 use Rattle.quilt_node.specs.Pages.{Inner}
 use Rattle.std.specs.List.{insert}
 use Rattle.std.proofs.lemmas.List.Edits.{length-insert}
-use Rattle.std.proofs.lemmas.Result.{err_from_is_err_and}
 use Rattle.quilt_btree.proofs.growth.InnerGrowth.{IsWritten, pending_taken, put_split}
+use Rattle.quilt_btree.proofs.Handed.{handed_on}
 use Rattle.quilt_btree.proofs.insertion.split_child.Goals as goal
 
 pub returns-in_err-new-clause-sound : goal.returns-in_err-new-clause-sound
 returns-in_err-new-clause-sound g c =
-    let p = err_from_is_err_and c.from_residual.result c.from_residual.ensures.1 in
-    rw (p.1, p.2) (λ is_root b all under p room. c.in_err-new.ensures.sound (pending_taken p) room)
+    rw (handed_on c.from_residual.result c.from_residual.ensures.1) (λ is_root b all under p room. c.in_err-new.ensures.sound (pending_taken p) room)
 
 pub returns-clause-put : goal.returns-clause-put
 returns-clause-put g c is_root b all under p =

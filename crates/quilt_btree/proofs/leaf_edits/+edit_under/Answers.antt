@@ -1,22 +1,21 @@
 use Rattle.std.proofs.Common.{◌-◌, arith}
-use Rattle.std.proofs.lemmas.Result.{err_from_is_err_and}
 use Rattle.quilt_btree.proofs.stores.Leaves.{edits_behind}
 use Rattle.quilt_btree.proofs.batches.Below.{fails_leaf, step_edited, step_fails, least_first}
 use Rattle.quilt_btree.proofs.growth.Below.{edit_spells}
 use Rattle.quilt_btree.proofs.ways.Damage.{named_leaf, named_below}
 use Rattle.quilt_btree.proofs.ways.Looked.{read_of}
+use Rattle.quilt_btree.proofs.Handed.{handed_on}
 use Rattle.quilt_btree.proofs.leaf_edits.+edit_under.Goals as goal
 
 pub returns-in_err-step-clause-fails : goal.returns-in_err-step-clause-fails
 returns-in_err-step-clause-fails g t c =
-    let p = err_from_is_err_and c.from_residual.result c.from_residual.ensures.1 in
-    rw (p.1, p.2) (λ b rs used top can page is. absurd (c.in_err-step.ensures.sound c.args.height rs c.requires.height c.if-height-eq1.false (edit_spells (g.S.PageStore.told c.args.store.now)
+    rw (handed_on c.from_residual.result c.from_residual.ensures.1)
+    (λ b rs used top can page is. absurd (c.in_err-step.ensures.sound c.args.height rs c.requires.height c.if-height-eq1.false (edit_spells (g.S.PageStore.told c.args.store.now)
     (g.S.PageStore.free c.args.store.now) c.args.page c.args.height c.args.is_root b rs used can) page is))
 
 pub returns-in_err-step-clause-bad : goal.returns-in_err-step-clause-bad
 returns-in_err-step-clause-bad g t c =
-    let p = err_from_is_err_and c.from_residual.result c.from_residual.ensures.1 in
-    rw (p.1, p.2) (λ ne. c.in_err-step.ensures.bad c.args.height c.requires.height c.if-height-eq1.false)
+    rw (handed_on c.from_residual.result c.from_residual.ensures.1) (λ ne. c.in_err-step.ensures.bad c.args.height c.requires.height c.if-height-eq1.false)
 
 pub returns-clause-edited : goal.returns-clause-edited
 returns-clause-edited g t c =

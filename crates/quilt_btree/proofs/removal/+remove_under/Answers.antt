@@ -1,5 +1,4 @@
 use Rattle.std.proofs.Common.{◌≡◌, ◌-◌, ◌*◌, true, false, Some, refl, sym, subst, ◌∙◌, arith}
-use Rattle.std.proofs.lemmas.Result.{err_from_is_err_and}
 use Rattle.quilt_node.specs.Pages.{inner_of}
 use Rattle.quilt_btree.specs.Searches.{IsHigh}
 use Rattle.quilt_btree.proofs.ways.Forks.{place_inside, read_ok}
@@ -11,6 +10,7 @@ use Rattle.quilt_btree.proofs.growth.Finding.{finds_below, found_in_leaf, found_
 use Rattle.quilt_btree.proofs.removals.LeafRemovals.{leaf_reads}
 use Rattle.quilt_btree.proofs.removals.Removals.{sound_child, missing_child, done_child, rebalanced_child}
 use Rattle.quilt_btree.proofs.removals.Removals.{rebalanced_sound, emptied_child, only_child, leaf_sound}
+use Rattle.quilt_btree.proofs.Handed.{handed_on}
 use Rattle.quilt_btree.proofs.removal.+remove_under.Goals as goal
 
 pub returns-then-height-eq1-clause-sound : goal.returns-then-height-eq1-clause-sound
@@ -20,14 +20,13 @@ returns-then-height-eq1-clause-sound g t c =
 
 pub returns-in_err-path-clause-sound : goal.returns-in_err-path-clause-sound
 returns-in_err-path-clause-sound g t c =
-    let p = err_from_is_err_and c.from_residual.result c.from_residual.ensures.1 in
-    rw (p.1, p.2) (λ is_root b rs used can. c.in_err-path.ensures.sound c.args.height rs c.requires.height c.if-height-eq1.false
+    rw (handed_on c.from_residual.result c.from_residual.ensures.1)
+    (λ is_root b rs used can. c.in_err-path.ensures.sound c.args.height rs c.requires.height c.if-height-eq1.false
     (leaf_reads (g.S.PageStore.told c.args.store.now) (g.S.PageStore.free c.args.store.now) c.args.page c.args.height is_root b rs used can))
 
 pub returns-in_err-remove_under-clause-sound : goal.returns-in_err-remove_under-clause-sound
 returns-in_err-remove_under-clause-sound g t c =
-    let p = err_from_is_err_and c.from_residual-in_err-remove_under.result c.from_residual-in_err-remove_under.ensures.1 in
-    rw (p.1, p.2) (λ is_root b rs used can.
+    rw (handed_on c.from_residual-in_err-remove_under.result c.from_residual-in_err-remove_under.ensures.1) (λ is_root b rs used can.
     let h = c.in_ok-path.ensures.here c.args.height rs c.requires.height c.if-height-eq1.false
     (leaf_reads (g.S.PageStore.told c.args.store.now) (g.S.PageStore.free c.args.store.now) c.args.page c.args.height is_root b rs used can) in
     let w = c.in_ok-path.ensures.path h.inner h.is in
@@ -242,13 +241,11 @@ returns-then-height-eq1-clause-bad g t c =
 
 pub returns-in_err-path-clause-bad : goal.returns-in_err-path-clause-bad
 returns-in_err-path-clause-bad g t c =
-    let p = err_from_is_err_and c.from_residual.result c.from_residual.ensures.1 in
-    rw (p.1, p.2) (λ ne. c.in_err-path.ensures.bad c.args.height c.requires.height c.if-height-eq1.false)
+    rw (handed_on c.from_residual.result c.from_residual.ensures.1) (λ ne. c.in_err-path.ensures.bad c.args.height c.requires.height c.if-height-eq1.false)
 
 pub returns-in_err-remove_under-clause-bad : goal.returns-in_err-remove_under-clause-bad
 returns-in_err-remove_under-clause-bad g t c =
-    let p = err_from_is_err_and c.from_residual-in_err-remove_under.result c.from_residual-in_err-remove_under.ensures.1 in
-    rw (p.1, p.2) (λ ne.
+    rw (handed_on c.from_residual-in_err-remove_under.result c.from_residual-in_err-remove_under.ensures.1) (λ ne.
     bad_below (g.S.PageStore.told c.args.store.now) (g.S.PageStore.told c.read_path.new.store) c.args.page c.args.height
     (g.S.PageStore.size c.args.store.now) c.read_path.new.bytes c.in_ok-path.path.child _
     (read_ok (g.S.PageStore.told c.args.store.now) (g.S.PageStore.told c.read_path.new.store) c.args.page c.args.height
@@ -301,8 +298,8 @@ returns-in-Some-clause-left g t c =
 
 pub returns-in_err-remove_under-clause-left : goal.returns-in_err-remove_under-clause-left
 returns-in_err-remove_under-clause-left g t c =
-    let p = err_from_is_err_and c.from_residual-in_err-remove_under.result c.from_residual-in_err-remove_under.ensures.1 in
-    rw (p.1, p.2) (removes_below _ g.met.S.PageStore.goes_on c.args.height c.requires.height c.in_ok-path.ensures.left c.in_ok-path.ensures.reads
+    rw (handed_on c.from_residual-in_err-remove_under.result c.from_residual-in_err-remove_under.ensures.1)
+    (removes_below _ g.met.S.PageStore.goes_on c.args.height c.requires.height c.in_ok-path.ensures.left c.in_ok-path.ensures.reads
     c.in_err-remove_under.ensures.left)
 
 pub returns-in-Missing-clause-left : goal.returns-in-Missing-clause-left

@@ -1,14 +1,14 @@
 use Rattle.std.proofs.Common.{◌+◌, ◌<◌, ◌∙◌, sym, subst, arith}
-use Rattle.std.proofs.lemmas.Result.{err_from_is_err_and}
 use Rattle.quilt_btree.proofs.removals.LeafRemovals.{has_many}
 use Rattle.quilt_btree.proofs.removals.Choices.{sound_rebalance, joined_sound, joined_left, separated_sound, separated_left}
 use Rattle.quilt_btree.proofs.ways.Damage.{names_beside, no_besides, named_more}
+use Rattle.quilt_btree.proofs.Handed.{handed_on}
 use Rattle.quilt_btree.proofs.removal.rebalance_child.Goals as goal
 
 pub returns-in_err-rebalance_pages-clause-sound : goal.returns-in_err-rebalance_pages-clause-sound
 returns-in_err-rebalance_pages-clause-sound g c =
-    let p = err_from_is_err_and c.from_residual.result c.from_residual.ensures.1 in
-    rw (p.1, p.2) (sound_rebalance (g.S.PageStore.told c.args.store.now) (g.S.PageStore.free c.args.store.now) c.args.page c.args.height c.args.inner.now c.args.i
+    rw (handed_on c.from_residual.result c.from_residual.ensures.1)
+    (sound_rebalance (g.S.PageStore.told c.args.store.now) (g.S.PageStore.free c.args.store.now) c.args.page c.args.height c.args.inner.now c.args.i
     c.pair_at-j.result (c.pair_at-j.result + 1) c.child-left.result c.key-key.result c.child-right.result _ (record {
       in_range = subst (λ n. c.pair_at-j.result + 1 < n) c.len.ensures.length c.pair_at-j.ensures.both;
       one = c.pair_at-j.ensures.one;
@@ -58,8 +58,8 @@ returns-in-Joined-clause-sound g c =
 
 pub returns-in_err-renew_key-in-Redistributed-clause-sound : goal.returns-in_err-renew_key-in-Redistributed-clause-sound
 returns-in_err-renew_key-in-Redistributed-clause-sound g c =
-    let p = err_from_is_err_and c.from_residual-in_err-renew_key-in-Redistributed.result c.from_residual-in_err-renew_key-in-Redistributed.ensures.1 in
-    rw (p.1, p.2) (let found = rw c.in-Redistributed.is at c.in_ok-rebalance_pages.ensures in
+    rw (handed_on c.from_residual-in_err-renew_key-in-Redistributed.result c.from_residual-in_err-renew_key-in-Redistributed.ensures.1)
+    (let found = rw c.in-Redistributed.is at c.in_ok-rebalance_pages.ensures in
     separated_sound (g.S.PageStore.told c.args.store.now) (g.S.PageStore.told c.rebalance_pages.new.store)
     (g.S.PageStore.free c.args.store.now) (g.S.PageStore.free c.rebalance_pages.new.store)
     c.args.page c.args.height c.args.inner.now c.args.i c.pair_at-j.result c.child-left.result c.key-key.result c.child-right.result
@@ -95,8 +95,7 @@ returns-in_ok-renew_key-in-Redistributed-clause-leaves g c =
 
 pub returns-in_err-rebalance_pages-clause-bad : goal.returns-in_err-rebalance_pages-clause-bad
 returns-in_err-rebalance_pages-clause-bad g c =
-    let p = err_from_is_err_and c.from_residual.result c.from_residual.ensures.1 in
-    rw (p.1, p.2) (names_beside c.other_of-spare.result _ c.requires.height
+    rw (handed_on c.from_residual.result c.from_residual.ensures.1) (names_beside c.other_of-spare.result _ c.requires.height
     (record {
       in_range = subst (λ n. c.pair_at-j.result + 1 < n) c.len.ensures.length c.pair_at-j.ensures.both;
       is_left = c.child-left.ensures.child;

@@ -1,14 +1,13 @@
 use Rattle.std.proofs.Common.{◌+◌, ◌∙◌, refl, sym, arith}
-use Rattle.std.proofs.lemmas.Result.{err_from_is_err_and}
 use Rattle.quilt_btree.proofs.ways.Damage.{zero_names, names_more, same_others, wrote_others}
 use Rattle.quilt_btree.proofs.growth.Finding.{finds_here, finds_none}
 use Rattle.quilt_btree.proofs.removals.LeafRemovals.{leaf_missing, leaf_emptied, leaf_underfull, leaf_done, leaf_reads}
+use Rattle.quilt_btree.proofs.Handed.{handed_on}
 use Rattle.quilt_btree.proofs.removal.remove_in_leaf.Goals as goal
 
 pub returns-in_err-leaf-clause-sound : goal.returns-in_err-leaf-clause-sound
 returns-in_err-leaf-clause-sound g c =
-    let p = err_from_is_err_and c.from_residual.result c.from_residual.ensures.1 in
-    rw (p.1, p.2) (λ height is_root b rs used one can. c.in_err-leaf.ensures.sound height rs one
+    rw (handed_on c.from_residual.result c.from_residual.ensures.1) (λ height is_root b rs used one can. c.in_err-leaf.ensures.sound height rs one
     (leaf_reads (g.S.PageStore.told c.args.store.now) (g.S.PageStore.free c.args.store.now) c.args.page height is_root b rs used can))
 
 pub returns-in-Err-clause-removed : goal.returns-in-Err-clause-removed
@@ -81,24 +80,22 @@ returns-else-left-lt-LEAST_RECORDS-clause-finds g c = λ height rs one s.
 
 pub returns-in_err-leaf-clause-names : goal.returns-in_err-leaf-clause-names
 returns-in_err-leaf-clause-names g c =
-    let p = err_from_is_err_and c.from_residual.result c.from_residual.ensures.1 in
-    rw (p.1, p.2)
+    rw (handed_on c.from_residual.result c.from_residual.ensures.1)
     (names_more (c.args.page + 1) (g.S.PageStore.size c.args.store.now) _ (let q = c.requires.1 in omega arith) c.in_err-leaf.ensures.names)
 
 pub returns-in_err-leaf-clause-bad : goal.returns-in_err-leaf-clause-bad
 returns-in_err-leaf-clause-bad g c =
-    let p = err_from_is_err_and c.from_residual.result c.from_residual.ensures.1 in
-    rw (p.1, p.2) (λ ne. c.in_err-leaf.ensures.bad refl)
+    rw (handed_on c.from_residual.result c.from_residual.ensures.1) (λ ne. c.in_err-leaf.ensures.bad refl)
 
 pub returns-in_err-write_page-in-Ok-2-clause-names : goal.returns-in_err-write_page-in-Ok-2-clause-names
 returns-in_err-write_page-in-Ok-2-clause-names g c =
-    let p = err_from_is_err_and c.from_residual-in_err-write_page-in-Ok-2.result c.from_residual-in_err-write_page-in-Ok-2.ensures.1 in
-    rw (p.1, p.2) (names_more 1 (g.S.PageStore.size c.args.store.now) _ (let q = c.requires.1 in omega arith) c.in_err-write_page-in-Ok-2.ensures.names)
+    rw (handed_on c.from_residual-in_err-write_page-in-Ok-2.result c.from_residual-in_err-write_page-in-Ok-2.ensures.1)
+    (names_more 1 (g.S.PageStore.size c.args.store.now) _ (let q = c.requires.1 in omega arith) c.in_err-write_page-in-Ok-2.ensures.names)
 
 pub returns-in_err-write_page-in-Ok-2-clause-bad : goal.returns-in_err-write_page-in-Ok-2-clause-bad
 returns-in_err-write_page-in-Ok-2-clause-bad g c =
-    let p = err_from_is_err_and c.from_residual-in_err-write_page-in-Ok-2.result c.from_residual-in_err-write_page-in-Ok-2.ensures.1 in
-    rw (p.1, p.2) (zero_names (g.S.PageStore.told c.args.store.now) 1 c.args.page _ c.in_err-write_page-in-Ok-2.ensures.names)
+    rw (handed_on c.from_residual-in_err-write_page-in-Ok-2.result c.from_residual-in_err-write_page-in-Ok-2.ensures.1)
+    (zero_names (g.S.PageStore.told c.args.store.now) 1 c.args.page _ c.in_err-write_page-in-Ok-2.ensures.names)
 
 pub returns-in-Err-clause-others : goal.returns-in-Err-clause-others
 returns-in-Err-clause-others g c = same_others c.args.page _ _ c.in_ok-leaf.ensures.left.told

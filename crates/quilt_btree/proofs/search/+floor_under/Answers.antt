@@ -1,17 +1,16 @@
 use Rattle.std.proofs.Common.{◌∙◌, ◌-◌}
-use Rattle.std.proofs.lemmas.Result.{err_from_is_err_and}
 use Rattle.quilt_store.proofs.Reading.{only_reads_then, only_reads_ok, only_reads_err}
 use Rattle.quilt_btree.proofs.subtrees.Descending.{along_told, floor_here, floor_none, floor_before}
 use Rattle.quilt_btree.proofs.ways.Floors.{found_here, none_before}
 use Rattle.quilt_btree.proofs.ways.Turns.{floor_touched, floor_again, floor_touched_more, floor_again_more, finds_here, finds_none, finds_before}
 use Rattle.quilt_btree.proofs.ways.Looked.{read_of, fork_shown}
 use Rattle.quilt_btree.proofs.ways.Damage.{bad_below, child_at}
+use Rattle.quilt_btree.proofs.Handed.{handed_on}
 use Rattle.quilt_btree.proofs.search.+floor_under.Goals as goal
 
 pub returns-in_err-r-clause-sound : goal.returns-in_err-r-clause-sound
 returns-in_err-r-clause-sound g t c =
-    let p = err_from_is_err_and c.from_residual-in_err-r.result c.from_residual-in_err-r.ensures.1 in
-    rw (p.1, p.2) (λ rs s.
+    rw (handed_on c.from_residual-in_err-r.result c.from_residual-in_err-r.ensures.1) (λ rs s.
     let a = fork_shown _ (g.S.PageStore.told c.fork_at.new.store) c.args.page c.args.height _ c.args.k.now c.in_ok-fork.fork.child c.in_ok-fork.fork.prior rs
     (record {
       some = c.requires.height;
@@ -150,8 +149,7 @@ returns-in-None-prior-clause-again g t c = λ rs s.
 
 pub returns-in_err-last_under-in-Some-prior-clause-sound : goal.returns-in_err-last_under-in-Some-prior-clause-sound
 returns-in_err-last_under-in-Some-prior-clause-sound g t c =
-    let p = err_from_is_err_and c.from_residual-in_err-last_under-in-Some-prior.result c.from_residual-in_err-last_under-in-Some-prior.ensures.1 in
-    rw (p.1, p.2) (λ rs s.
+    rw (handed_on c.from_residual-in_err-last_under-in-Some-prior.result c.from_residual-in_err-last_under-in-Some-prior.ensures.1) (λ rs s.
     let a = fork_shown _ (g.S.PageStore.told c.fork_at.new.store) c.args.page c.args.height _ c.args.k.now c.in_ok-fork.fork.child c.in_ok-fork.fork.prior rs
     (record {
       some = c.requires.height;
@@ -275,18 +273,17 @@ returns-in_ok-last_under-in-Some-prior-clause-again g t c = λ rs s.
 
 pub returns-in_err-fork-clause-sound : goal.returns-in_err-fork-clause-sound
 returns-in_err-fork-clause-sound g t c =
-    let p = err_from_is_err_and c.from_residual.result c.from_residual.ensures.1 in
-    rw (p.1, p.2) (λ rs s. c.in_err-fork.ensures.sound c.args.height rs c.requires.height c.if-height-eq1.false s)
+    rw (handed_on c.from_residual.result c.from_residual.ensures.1)
+    (λ rs s. c.in_err-fork.ensures.sound c.args.height rs c.requires.height c.if-height-eq1.false s)
 
 pub returns-in_err-fork-clause-bad : goal.returns-in_err-fork-clause-bad
 returns-in_err-fork-clause-bad g t c =
-    let p = err_from_is_err_and c.from_residual.result c.from_residual.ensures.1 in
-    rw (p.1, p.2) (c.in_err-fork.ensures.bad c.args.height c.requires.height c.if-height-eq1.false)
+    rw (handed_on c.from_residual.result c.from_residual.ensures.1) (c.in_err-fork.ensures.bad c.args.height c.requires.height c.if-height-eq1.false)
 
 pub returns-in_err-r-clause-bad : goal.returns-in_err-r-clause-bad
 returns-in_err-r-clause-bad g t c =
-    let p = err_from_is_err_and c.from_residual-in_err-r.result c.from_residual-in_err-r.ensures.1 in
-    rw (p.1, p.2) (bad_below (g.S.PageStore.told c.args.store.now) (g.S.PageStore.told c.fork_at.new.store)
+    rw (handed_on c.from_residual-in_err-r.result c.from_residual-in_err-r.ensures.1)
+    (bad_below (g.S.PageStore.told c.args.store.now) (g.S.PageStore.told c.fork_at.new.store)
     c.args.page c.args.height (g.S.PageStore.size c.args.store.now) c.in_ok-fork.ensures.shows.bytes c.in_ok-fork.fork.child _
     (read_of _ _ _ _ _ _ (record {
       some = c.requires.height;
@@ -298,8 +295,8 @@ returns-in_err-r-clause-bad g t c =
 
 pub returns-in_err-last_under-in-Some-prior-clause-bad : goal.returns-in_err-last_under-in-Some-prior-clause-bad
 returns-in_err-last_under-in-Some-prior-clause-bad g t c =
-    let p = err_from_is_err_and c.from_residual-in_err-last_under-in-Some-prior.result c.from_residual-in_err-last_under-in-Some-prior.ensures.1 in
-    rw (p.1, p.2) (bad_below (g.S.PageStore.told c.args.store.now) (g.S.PageStore.told c.floor_under.new.store)
+    rw (handed_on c.from_residual-in_err-last_under-in-Some-prior.result c.from_residual-in_err-last_under-in-Some-prior.ensures.1)
+    (bad_below (g.S.PageStore.told c.args.store.now) (g.S.PageStore.told c.floor_under.new.store)
     c.args.page c.args.height (g.S.PageStore.size c.args.store.now) c.in_ok-fork.ensures.shows.bytes c.in-Some-prior.prior _
     (read_of _ _ _ _ _ _ (record {
       some = c.requires.height;
@@ -312,8 +309,8 @@ returns-in_err-last_under-in-Some-prior-clause-bad g t c =
 
 pub returns-in_err-last_under-in-Some-prior-clause-left : goal.returns-in_err-last_under-in-Some-prior-clause-left
 returns-in_err-last_under-in-Some-prior-clause-left g t c =
-    let p = err_from_is_err_and c.from_residual-in_err-last_under-in-Some-prior.result c.from_residual-in_err-last_under-in-Some-prior.ensures.1 in
-    rw (p.1, p.2) (only_reads_err _ (only_reads_then _ g.met.S.PageStore.goes_on _ _ _ c.in_ok-fork.ensures.looks.left
+    rw (handed_on c.from_residual-in_err-last_under-in-Some-prior.result c.from_residual-in_err-last_under-in-Some-prior.ensures.1)
+    (only_reads_err _ (only_reads_then _ g.met.S.PageStore.goes_on _ _ _ c.in_ok-fork.ensures.looks.left
     (only_reads_then _ g.met.S.PageStore.goes_on _ _ _ c.in_ok-r.ensures.left c.in_err-last_under-in-Some-prior.ensures.left)))
 
 pub returns-in_ok-last_under-in-Some-prior-clause-left : goal.returns-in_ok-last_under-in-Some-prior-clause-left
@@ -323,8 +320,8 @@ returns-in_ok-last_under-in-Some-prior-clause-left g t c =
 
 pub returns-in_err-r-clause-left : goal.returns-in_err-r-clause-left
 returns-in_err-r-clause-left g t c =
-    let p = err_from_is_err_and c.from_residual-in_err-r.result c.from_residual-in_err-r.ensures.1 in
-    rw (p.1, p.2) (only_reads_then _ g.met.S.PageStore.goes_on _ _ _ c.in_ok-fork.ensures.looks.left c.in_err-r.ensures.left)
+    rw (handed_on c.from_residual-in_err-r.result c.from_residual-in_err-r.ensures.1)
+    (only_reads_then _ g.met.S.PageStore.goes_on _ _ _ c.in_ok-fork.ensures.looks.left c.in_err-r.ensures.left)
 
 pub returns-in-Some-clause-left : goal.returns-in-Some-clause-left
 returns-in-Some-clause-left g t c =

@@ -1,8 +1,8 @@
-use Rattle.std.proofs.lemmas.Result.{err_from_is_err_and}
 use Rattle.quilt_store.proofs.Reading.{only_reads_then}
 use Rattle.quilt_btree.proofs.ways.Looked.{read_of, leaf_sound}
 use Rattle.quilt_btree.proofs.ways.Forks.{last_on, sound_last, touched_last, again_last}
 use Rattle.quilt_btree.proofs.ways.Damage.{names_below}
+use Rattle.quilt_btree.proofs.Handed.{handed_on}
 use Rattle.quilt_btree.proofs.search.+last_under.Goals as goal
 
 pub returns-then-height-eq1-clause-sound : goal.returns-then-height-eq1-clause-sound
@@ -11,13 +11,12 @@ returns-then-height-eq1-clause-sound g t c =
 
 pub returns-in_err-child-clause-sound : goal.returns-in_err-child-clause-sound
 returns-in_err-child-clause-sound g t c =
-    let p = err_from_is_err_and c.from_residual.result c.from_residual.ensures.1 in
-    rw (p.1, p.2) (λ rs s. c.in_err-child.ensures.sound c.args.height rs c.requires.height c.if-height-eq1.false s)
+    rw (handed_on c.from_residual.result c.from_residual.ensures.1)
+    (λ rs s. c.in_err-child.ensures.sound c.args.height rs c.requires.height c.if-height-eq1.false s)
 
 pub returns-in_err-child-clause-bad : goal.returns-in_err-child-clause-bad
 returns-in_err-child-clause-bad g t c =
-    let p = err_from_is_err_and c.from_residual.result c.from_residual.ensures.1 in
-    rw (p.1, p.2) (c.in_err-child.ensures.bad c.args.height c.requires.height c.if-height-eq1.false)
+    rw (handed_on c.from_residual.result c.from_residual.ensures.1) (c.in_err-child.ensures.bad c.args.height c.requires.height c.if-height-eq1.false)
 
 pub returns-clause-last : goal.returns-clause-last
 returns-clause-last g t c =

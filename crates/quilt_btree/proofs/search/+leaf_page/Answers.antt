@@ -1,8 +1,8 @@
-use Rattle.std.proofs.lemmas.Result.{err_from_is_err_and}
 use Rattle.quilt_store.proofs.Reading.{only_reads_then}
 use Rattle.quilt_btree.proofs.ways.Forks.{leaf_led, led_page, sound_on}
 use Rattle.quilt_btree.proofs.ways.Damage.{names_below}
 use Rattle.quilt_btree.proofs.ways.Looked.{read_of}
+use Rattle.quilt_btree.proofs.Handed.{handed_on}
 use Rattle.quilt_btree.proofs.search.+leaf_page.Goals as goal
 
 pub returns-then-height-eq1-clause-leads : goal.returns-then-height-eq1-clause-leads
@@ -11,13 +11,12 @@ returns-then-height-eq1-clause-leads g t c = λ rs s bytes are.
 
 pub returns-in_err-fork-clause-sound : goal.returns-in_err-fork-clause-sound
 returns-in_err-fork-clause-sound g t c =
-    let p = err_from_is_err_and c.from_residual.result c.from_residual.ensures.1 in
-    rw (p.1, p.2) (λ rs s. c.in_err-fork.ensures.sound c.args.height rs c.requires.height c.if-height-eq1.false s)
+    rw (handed_on c.from_residual.result c.from_residual.ensures.1)
+    (λ rs s. c.in_err-fork.ensures.sound c.args.height rs c.requires.height c.if-height-eq1.false s)
 
 pub returns-in_err-fork-clause-bad : goal.returns-in_err-fork-clause-bad
 returns-in_err-fork-clause-bad g t c =
-    let p = err_from_is_err_and c.from_residual.result c.from_residual.ensures.1 in
-    rw (p.1, p.2) (c.in_err-fork.ensures.bad c.args.height c.requires.height c.if-height-eq1.false)
+    rw (handed_on c.from_residual.result c.from_residual.ensures.1) (c.in_err-fork.ensures.bad c.args.height c.requires.height c.if-height-eq1.false)
 
 pub returns-clause-leads : goal.returns-clause-leads
 returns-clause-leads g t c =

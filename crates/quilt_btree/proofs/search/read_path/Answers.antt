@@ -1,16 +1,15 @@
 use Rattle.std.proofs.Common.{◌≡◌, Some, refl, sym, ◌∙◌, subst}
-use Rattle.std.proofs.lemmas.Result.{err_from_is_err_and}
 use Rattle.quilt_node.specs.Pages.{inner_of}
 use Rattle.quilt_btree.proofs.ways.Forks.{read_ok}
 use Rattle.quilt_btree.specs.Damage.{HasChild}
 use Rattle.quilt_btree.proofs.ways.Damage.{sound_names, bad_inner}
 use Rattle.quilt_btree.proofs.ways.Ways.{is_path, is_high}
+use Rattle.quilt_btree.proofs.Handed.{handed_on}
 use Rattle.quilt_btree.proofs.search.read_path.Goals as goal
 
 pub returns-in_err-read_into-clause-sound : goal.returns-in_err-read_into-clause-sound
 returns-in_err-read_into-clause-sound g c =
-    let p = err_from_is_err_and c.from_residual.result c.from_residual.ensures.1 in
-    rw (p.1, p.2) (λ height rs some above s. c.in_err-read_into.ensures.sound)
+    rw (handed_on c.from_residual.result c.from_residual.ensures.1) (λ height rs some above s. c.in_err-read_into.ensures.sound)
 
 pub returns-in-None-clause-sound : goal.returns-in-None-clause-sound
 returns-in-None-clause-sound g c = λ height rs some above s.
@@ -40,8 +39,7 @@ returns-in-Some-clause-stands g c =
 
 pub returns-in_err-read_into-clause-bad : goal.returns-in_err-read_into-clause-bad
 returns-in_err-read_into-clause-bad g c =
-    let p = err_from_is_err_and c.from_residual.result c.from_residual.ensures.1 in
-    rw (p.1, p.2) (λ height some above.
+    rw (handed_on c.from_residual.result c.from_residual.ensures.1) (λ height some above.
     sound_names (g.S.PageStore.told c.args.store.now) height c.args.page _ c.in_err-read_into.ensures.sound)
 
 pub returns-in-None-clause-bad : goal.returns-in-None-clause-bad

@@ -1,8 +1,8 @@
-use Rattle.std.proofs.lemmas.Result.{err_from_is_err_and}
 use Rattle.quilt_store.proofs.Reading.{only_reads_then}
 use Rattle.quilt_btree.proofs.ways.Looked.{read_of}
 use Rattle.quilt_btree.proofs.ways.Steps.{step_arrives, step_sound, step_above, here_arrives}
 use Rattle.quilt_btree.proofs.ways.Damage.{bad_leaf, names_below, spoilt_below}
+use Rattle.quilt_btree.proofs.Handed.{handed_on}
 use Rattle.quilt_btree.proofs.step.+leaf_at.Goals as goal
 
 pub returns-then-height-eq1-clause-arrives : goal.returns-then-height-eq1-clause-arrives
@@ -15,13 +15,12 @@ returns-then-height-eq1-clause-spoilt g t c = λ bytes are.
 
 pub returns-in_err-step-clause-sound : goal.returns-in_err-step-clause-sound
 returns-in_err-step-clause-sound g t c =
-    let p = err_from_is_err_and c.from_residual.result c.from_residual.ensures.1 in
-    rw (p.1, p.2) (λ rs s. c.in_err-step.ensures.sound c.args.height rs c.requires.height c.if-height-eq1.false s)
+    rw (handed_on c.from_residual.result c.from_residual.ensures.1)
+    (λ rs s. c.in_err-step.ensures.sound c.args.height rs c.requires.height c.if-height-eq1.false s)
 
 pub returns-in_err-step-clause-bad : goal.returns-in_err-step-clause-bad
 returns-in_err-step-clause-bad g t c =
-    let p = err_from_is_err_and c.from_residual.result c.from_residual.ensures.1 in
-    rw (p.1, p.2) (c.in_err-step.ensures.bad c.args.height c.requires.height c.if-height-eq1.false)
+    rw (handed_on c.from_residual.result c.from_residual.ensures.1) (c.in_err-step.ensures.bad c.args.height c.requires.height c.if-height-eq1.false)
 
 pub returns-clause-arrives : goal.returns-clause-arrives
 returns-clause-arrives g t c = step_arrives (record {

@@ -1,5 +1,4 @@
 use Rattle.std.proofs.Common.{rules, sym, ◌∙◌, ◌≢◌, arith}
-use Rattle.std.proofs.lemmas.Result.{err_from_is_err_and}
 use Rattle.quilt_btree.specs.Looks.{IsSpoilt}
 use Rattle.quilt_btree.proofs.ranges.Spans.{added_most, added_within, above_bound}
 use Rattle.quilt_node.specs.Nodes.{page_records}
@@ -7,12 +6,12 @@ use Rattle.quilt_btree.proofs.subtrees.Whole.{tree_spells}
 use Rattle.quilt_btree.proofs.ranges.Rests.{rest_ends, rest_fills, rest_adds, rest_next, none_over}
 use Rattle.quilt_btree.proofs.ways.Damage.{fault_named}
 use Rattle.quilt_btree.proofs.ways.Steps.{told_before}
+use Rattle.quilt_btree.proofs.Handed.{handed_on}
 use Rattle.quilt_btree.proofs.tree.Tree.add_next.Goals as goal
 
 pub returns-in_err-found-clause-sound : goal.returns-in_err-found-clause-sound
 returns-in_err-found-clause-sound g c =
-    let p = err_from_is_err_and c.from_residual.result c.from_residual.ensures.1 in
-    rw (p.1, p.2) (let ne : c.args.self.now.height ≢ 0 = let h = c.requires.height in omega arith in
+    rw (handed_on c.from_residual.result c.from_residual.ensures.1) (let ne : c.args.self.now.height ≢ 0 = let h = c.requires.height in omega arith in
     λ low rs is b. c.in_err-found.ensures.sound rs (tree_spells (g.S.PageStore.told c.args.store.now) c.args.self.now rs ne is).0)
 
 pub returns-then-now-most-clause-goes_on : goal.returns-then-now-most-clause-goes_on
@@ -149,8 +148,7 @@ returns-in_default-2-clause-grows g c = record {
 
 pub returns-in_err-found-clause-bad : goal.returns-in_err-found-clause-bad
 returns-in_err-found-clause-bad g c =
-    let p = err_from_is_err_and c.from_residual.result c.from_residual.ensures.1 in
-    rw (p.1, p.2) (λ ne. c.in_err-found.ensures.bad)
+    rw (handed_on c.from_residual.result c.from_residual.ensures.1) (λ ne. c.in_err-found.ensures.bad)
 
 pub returns-in_ok-page-in-Some-clause-bad : goal.returns-in_ok-page-in-Some-clause-bad
 returns-in_ok-page-in-Some-clause-bad g c = fault_named (g.S.PageStore.told c.args.store.now) c.args.self.now.height c.args.self.now.root c.in_ok-found.found.page

@@ -1,17 +1,17 @@
 use Rattle.std.proofs.Common.{◌≡◌, true, ◌<◌, vec_len, arith}
-use Rattle.std.proofs.lemmas.Result.{err_from_is_err_and}
 use Rattle.std.specs.Ordering.{is_lt}
 use Rattle.quilt_store.proofs.Reading.{only_reads_then, only_reads_ok}
 use Rattle.quilt_record.specs.Records.{key_cmp}
 use Rattle.quilt_btree.proofs.ranges.Spans.{le_on, at_some}
 use Rattle.quilt_btree.proofs.ranges.Rests.{if_some, none_is, loop_goes_on, loop_ends, loop_sound, loop_reads, more_reads}
 use Rattle.quilt_btree.proofs.ways.Damage.{names_along}
+use Rattle.quilt_btree.proofs.Handed.{handed_on}
 use Rattle.quilt_btree.proofs.tree.Tree.add_rest.Goals as goal
 
 pub returns-in_err-k-clause-sound : goal.returns-in_err-k-clause-sound
 returns-in_err-k-clause-sound g c =
-    let p = err_from_is_err_and c.from_residual.result c.from_residual.ensures.1 in
-    rw (p.1, p.2) (loop_sound _ c.loop-k.invariant.left.told c.loop-k.invariant.goes_on c.in_err-k.ensures.sound)
+    rw (handed_on c.from_residual.result c.from_residual.ensures.1)
+    (loop_sound _ c.loop-k.invariant.left.told c.loop-k.invariant.goes_on c.in_err-k.ensures.sound)
 
 pub loop-k-preserved : goal.loop-k-preserved
 loop-k-preserved g c =
@@ -49,6 +49,6 @@ returns-clause-grows g c = record {
 
 pub returns-in_err-k-clause-bad : goal.returns-in_err-k-clause-bad
 returns-in_err-k-clause-bad g c =
-    let p = err_from_is_err_and c.from_residual.result c.from_residual.ensures.1 in
-    rw (p.1, p.2) (names_along (g.S.PageStore.told c.args.store.now) (g.S.PageStore.told c.loop-k.store) c.args.self.now.height c.args.self.now.root
+    rw (handed_on c.from_residual.result c.from_residual.ensures.1)
+    (names_along (g.S.PageStore.told c.args.store.now) (g.S.PageStore.told c.loop-k.store) c.args.self.now.height c.args.self.now.root
     _ c.loop-k.invariant.left.told c.in_err-k.ensures.bad)

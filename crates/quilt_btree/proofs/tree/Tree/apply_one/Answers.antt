@@ -1,17 +1,17 @@
 use Rattle.std.proofs.Common.{◌≡◌, Bool, false, not, sym, ◌∙◌, ap, subst}
 use Rattle.std.specs.Prelude.{if◌then◌else◌}
-use Rattle.std.proofs.lemmas.Result.{err_from_is_err_and}
 use Rattle.quilt_record.specs.Lists.{put, without}
 use Rattle.quilt_btree.specs.Batches.{is_due, edited}
 use Rattle.quilt_btree.specs.Edits.{IsWhole}
 use Rattle.quilt_btree.proofs.ways.Damage.{stops_behind, run_zero}
-use Rattle.quilt_btree.proofs.batches.Whole.{gone, true_false}
+use Rattle.quilt_btree.proofs.batches.Whole.{gone}
+use Rattle.quilt_btree.proofs.Handed.{handed_on}
+use Rattle.quilt_btree.proofs.lists.Lists.{true_false}
 use Rattle.quilt_btree.proofs.tree.Tree.apply_one.Goals as goal
 
 pub returns-in_err-is_out-in-Remove-clause-fails : goal.returns-in_err-is_out-in-Remove-clause-fails
 returns-in_err-is_out-in-Remove-clause-fails g c =
-    let p = err_from_is_err_and c.from_residual.result c.from_residual.ensures.1 in
-    rw (p.1, p.2) (λ rs w page is. absurd (c.in_err-is_out-in-Remove.ensures.sound rs w page is))
+    rw (handed_on c.from_residual.result c.from_residual.ensures.1) (λ rs w page is. absurd (c.in_err-is_out-in-Remove.ensures.sound rs w page is))
 
 pub returns-then-is_out-clause-edited : goal.returns-then-is_out-clause-edited
 returns-then-is_out-clause-edited g c rs w =
@@ -23,8 +23,8 @@ returns-then-is_out-clause-edited g c rs w =
 
 pub returns-in_err-is_new-in-Put-clause-fails : goal.returns-in_err-is_new-in-Put-clause-fails
 returns-in_err-is_new-in-Put-clause-fails g c =
-    let p = err_from_is_err_and c.from_residual-in_err-is_new-in-Put.result c.from_residual-in_err-is_new-in-Put.ensures.1 in
-    rw (p.1, p.2) (λ rs w page is. absurd (c.in_err-is_new-in-Put.ensures.sound rs w page is))
+    rw (handed_on c.from_residual-in_err-is_new-in-Put.result c.from_residual-in_err-is_new-in-Put.ensures.1)
+    (λ rs w page is. absurd (c.in_err-is_new-in-Put.ensures.sound rs w page is))
 
 pub returns-then-is_new-clause-edited : goal.returns-then-is_new-clause-edited
 returns-then-is_new-clause-edited g c rs w =
@@ -38,8 +38,8 @@ returns-then-is_new-clause-edited g c rs w =
 
 pub returns-in_err-is_out-in-Replace-clause-fails : goal.returns-in_err-is_out-in-Replace-clause-fails
 returns-in_err-is_out-in-Replace-clause-fails g c =
-    let p = err_from_is_err_and c.from_residual-in_err-is_out-in-Replace.result c.from_residual-in_err-is_out-in-Replace.ensures.1 in
-    rw (p.1, p.2) (λ rs w page is. absurd (c.in_err-is_out-in-Replace.ensures.sound rs w page is))
+    rw (handed_on c.from_residual-in_err-is_out-in-Replace.result c.from_residual-in_err-is_out-in-Replace.ensures.1)
+    (λ rs w page is. absurd (c.in_err-is_out-in-Replace.ensures.sound rs w page is))
 
 pub returns-in-Err-clause-fails : goal.returns-in-Err-clause-fails
 returns-in-Err-clause-fails g c rs w =

@@ -1,17 +1,17 @@
 use Rattle.std.proofs.Common.{◌≤◌, take, drop, arith}
-use Rattle.std.proofs.lemmas.Result.{err_from_is_err_and}
 use Rattle.quilt_types.specs.Facts.{quota}
 use Rattle.quilt_btree.specs.Batches.{more, fewer}
 use Rattle.quilt_btree.proofs.batches.Whole.{whole_edited, whole_fails, some_left, stays_edited, stays_failed, more_take, some_cost, few_enough, first_room, still_rooted}
 use Rattle.quilt_btree.proofs.batches.Costs.{first_spared, first_behind, first_made, first_stopped, some_taken, damaged_device}
 use Rattle.quilt_btree.proofs.batches.Whole.{some_looks}
 use Rattle.quilt_btree.proofs.ways.Damage.{named_along}
+use Rattle.quilt_btree.proofs.Handed.{handed_on}
 use Rattle.quilt_btree.proofs.tree.Tree.apply_some.Goals as goal
 
 pub returns-in_err-n-clause-fails : goal.returns-in_err-n-clause-fails
 returns-in_err-n-clause-fails g c =
-    let p = err_from_is_err_and c.from_residual.result c.from_residual.ensures.1 in
-    rw (p.1, p.2) (λ rs w page is. whole_fails (g.S.PageStore.told c.args.store.now) (g.S.PageStore.free c.args.store.now) (g.S.PageStore.size c.args.store.now) c.args.self.now
+    rw (handed_on c.from_residual.result c.from_residual.ensures.1)
+    (λ rs w page is. whole_fails (g.S.PageStore.told c.args.store.now) (g.S.PageStore.free c.args.store.now) (g.S.PageStore.size c.args.store.now) c.args.self.now
     c.args.run.now _ rs
     (record {
       rooted = c.requires.rooted;
@@ -35,8 +35,7 @@ returns-then-n-eq0-clause-fails g c =
 
 pub returns-in_err-n-clause-bad : goal.returns-in_err-n-clause-bad
 returns-in_err-n-clause-bad g c =
-    let p = err_from_is_err_and c.from_residual.result c.from_residual.ensures.1 in
-    rw (p.1, p.2) (c.in_err-n.ensures.bad)
+    rw (handed_on c.from_residual.result c.from_residual.ensures.1) (c.in_err-n.ensures.bad)
 
 pub returns-then-n-eq0-clause-bad : goal.returns-then-n-eq0-clause-bad
 returns-then-n-eq0-clause-bad g c =
@@ -45,8 +44,8 @@ returns-then-n-eq0-clause-bad g c =
 
 pub returns-in_err-n-clause-left : goal.returns-in_err-n-clause-left
 returns-in_err-n-clause-left g c =
-    let p = err_from_is_err_and c.from_residual.result c.from_residual.ensures.1 in
-    rw (p.1, p.2) (first_stopped _ c.args.run.now c.args.self.now.height _ (some_cost c.args.run.now c.requires.some) (λ is. is) c.in_err-n.ensures.left)
+    rw (handed_on c.from_residual.result c.from_residual.ensures.1)
+    (first_stopped _ c.args.run.now c.args.self.now.height _ (some_cost c.args.run.now c.requires.some) (λ is. is) c.in_err-n.ensures.left)
 
 pub returns-in-None-clause-left : goal.returns-in-None-clause-left
 returns-in-None-clause-left g c =

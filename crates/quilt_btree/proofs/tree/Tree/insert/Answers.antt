@@ -1,18 +1,17 @@
 use Rattle.std.proofs.Common.{◌≡◌, refl, true, false, not, suc, ◌-◌, ◌≤◌, ◌<◌, Some, ap, subst, ◌∙◌, arith}
 use Rattle.std.proofs.lemmas.Bool.{false≢true}
-use Rattle.std.proofs.lemmas.Result.{err_from_is_err_and}
 use Rattle.quilt_node.specs.Pages.{Inner}
 use Rattle.quilt_btree.proofs.ways.Damage.{zero_names, names_more}
 use Rattle.quilt_btree.proofs.growth.Finding.{finds_root, finds_empty}
 use Rattle.quilt_btree.proofs.growth.InnerGrowth.{IsWritten}
 use Rattle.quilt_btree.proofs.growth.KeptPages.{kept_first, kept_low, sound_kept, same_tree, kept_done, room_left, kept_split}
 use Rattle.quilt_btree.proofs.growth.TreeGrowth.{few_records, sound_root, whole_there, whole_done, not_split, root_room, whole_split, empty_room, whole_first}
+use Rattle.quilt_btree.proofs.Handed.{handed_on}
 use Rattle.quilt_btree.proofs.tree.Tree.insert.Goals as goal
 
 pub returns-in_err-root-clause-sound : goal.returns-in_err-root-clause-sound
 returns-in_err-root-clause-sound g c =
-    let p = err_from_is_err_and c.from_residual.result c.from_residual.ensures.1 in
-    rw (p.1, p.2) (λ rs w. let range = g.met.S.PageStore.in_range c.args.store.now in
+    rw (handed_on c.from_residual.result c.from_residual.ensures.1) (λ rs w. let range = g.met.S.PageStore.in_range c.args.store.now in
     c.in_err-root.ensures.sound (empty_room (g.S.PageStore.told c.args.store.now) (g.S.PageStore.free c.args.store.now)
     (g.S.PageStore.size c.args.store.now) c.args.self.now rs
     (record {
@@ -68,8 +67,8 @@ returns-then-self-eq3-clause-sound g c rs w =
 
 pub returns-in_err-insert_under-clause-sound : goal.returns-in_err-insert_under-clause-sound
 returns-in_err-insert_under-clause-sound g c =
-    let p = err_from_is_err_and c.from_residual-in_err-insert_under.result c.from_residual-in_err-insert_under.ensures.1 in
-    rw (p.1, p.2) (λ rs w. let range = g.met.S.PageStore.in_range c.args.store.now in
+    rw (handed_on c.from_residual-in_err-insert_under.result c.from_residual-in_err-insert_under.ensures.1)
+    (λ rs w. let range = g.met.S.PageStore.in_range c.args.store.now in
     sound_root _
     c.args.r.now.key
     (record {
@@ -142,8 +141,8 @@ returns-in-Done-clause-inserts g c = record {
 
 pub returns-in_err-root-in-Split-clause-sound : goal.returns-in_err-root-in-Split-clause-sound
 returns-in_err-root-in-Split-clause-sound g c =
-    let p = err_from_is_err_and c.from_residual-in_err-root-in-Split.result c.from_residual-in_err-root-in-Split.ensures.1 in
-    rw (p.1, p.2) (λ rs w. let range = g.met.S.PageStore.in_range c.args.store.now in
+    rw (handed_on c.from_residual-in_err-root-in-Split.result c.from_residual-in_err-root-in-Split.ensures.1)
+    (λ rs w. let range = g.met.S.PageStore.in_range c.args.store.now in
     c.in_err-root-in-Split.ensures.sound (root_room c.args.r.now (g.S.PageStore.told c.args.store.now) (g.S.PageStore.told c.insert_under.new.store)
     (g.S.PageStore.free c.args.store.now) (g.S.PageStore.free c.insert_under.new.store) (g.S.PageStore.size c.args.store.now)
     (g.S.PageStore.size c.insert_under.new.store) c.args.self.now rs
@@ -210,8 +209,7 @@ returns-in_ok-root-in-Split-clause-inserts g c = record {
 
 pub returns-in_err-root-clause-goes : goal.returns-in_err-root-clause-goes
 returns-in_err-root-clause-goes g c =
-    let p = err_from_is_err_and c.from_residual.result c.from_residual.ensures.1 in
-    rw (p.1, p.2) (λ rs w n room. c.in_err-root.ensures.sound (let r = room in omega arith))
+    rw (handed_on c.from_residual.result c.from_residual.ensures.1) (λ rs w n room. c.in_err-root.ensures.sound (let r = room in omega arith))
 
 pub returns-then-self-eq3-clause-goes : goal.returns-then-self-eq3-clause-goes
 returns-then-self-eq3-clause-goes g c rs w n room =
@@ -220,41 +218,40 @@ returns-then-self-eq3-clause-goes g c rs w n room =
 
 pub returns-in_err-insert_under-clause-goes : goal.returns-in_err-insert_under-clause-goes
 returns-in_err-insert_under-clause-goes g c =
-    let p = err_from_is_err_and c.from_residual-in_err-insert_under.result c.from_residual-in_err-insert_under.ensures.1 in
-    rw (p.1, p.2) (λ rs w n room. sound_kept (g.S.PageStore.told c.args.store.now) (g.S.PageStore.free c.args.store.now) c.args.self.now rs _
+    rw (handed_on c.from_residual-in_err-insert_under.result c.from_residual-in_err-insert_under.ensures.1)
+    (λ rs w n room. sound_kept (g.S.PageStore.told c.args.store.now) (g.S.PageStore.free c.args.store.now) c.args.self.now rs _
     (g.S.PageStore.size c.args.store.now) c.args.r.now.key c.if-self-eq0.false c.in_err-insert_under.ensures.sound
     (few_records (g.S.PageStore.size c.args.store.now) c.args.self.now.records rs n c.requires.room (g.met.S.PageStore.in_range c.args.store.now).1) room w)
 
 pub returns-in_err-root-in-Split-clause-goes : goal.returns-in_err-root-in-Split-clause-goes
 returns-in_err-root-in-Split-clause-goes g c =
-    let p = err_from_is_err_and c.from_residual-in_err-root-in-Split.result c.from_residual-in_err-root-in-Split.ensures.1 in
-    rw (p.1, p.2) (λ rs w n room. c.in_err-root-in-Split.ensures.sound
+    rw (handed_on c.from_residual-in_err-root-in-Split.result c.from_residual-in_err-root-in-Split.ensures.1)
+    (λ rs w n room. c.in_err-root-in-Split.ensures.sound
     (room_left (g.S.PageStore.free c.args.store.now) (g.S.PageStore.free c.insert_under.new.store) (g.S.PageStore.size c.args.store.now)
     (g.S.PageStore.size c.insert_under.new.store) c.args.self.now.height c.in_ok-insert_under.ensures.left.size c.in_ok-insert_under.ensures.leaves.room room))
 
 pub returns-in_err-root-clause-names : goal.returns-in_err-root-clause-names
 returns-in_err-root-clause-names g c =
-    let p = err_from_is_err_and c.from_residual.result c.from_residual.ensures.1 in
-    rw (p.1, p.2) (names_more 1 (g.S.PageStore.size c.args.store.now) _ (let q = (g.met.S.PageStore.in_range c.args.store.now).0 in omega arith)
+    rw (handed_on c.from_residual.result c.from_residual.ensures.1)
+    (names_more 1 (g.S.PageStore.size c.args.store.now) _ (let q = (g.met.S.PageStore.in_range c.args.store.now).0 in omega arith)
     c.in_err-root.ensures.names)
 
 pub returns-in_err-root-clause-bad : goal.returns-in_err-root-clause-bad
 returns-in_err-root-clause-bad g c =
-    let p = err_from_is_err_and c.from_residual.result c.from_residual.ensures.1 in
-    rw (p.1, p.2) (zero_names (g.S.PageStore.told c.args.store.now) c.args.self.now.height c.args.self.now.root _ c.in_err-root.ensures.names)
+    rw (handed_on c.from_residual.result c.from_residual.ensures.1)
+    (zero_names (g.S.PageStore.told c.args.store.now) c.args.self.now.height c.args.self.now.root _ c.in_err-root.ensures.names)
 
 pub returns-in_err-root-in-Split-clause-names : goal.returns-in_err-root-in-Split-clause-names
 returns-in_err-root-in-Split-clause-names g c =
-    let p = err_from_is_err_and c.from_residual-in_err-root-in-Split.result c.from_residual-in_err-root-in-Split.ensures.1 in
-    rw (p.1, p.2) (names_more 1 (g.S.PageStore.size c.args.store.now) _ (let q = (g.met.S.PageStore.in_range c.args.store.now).0 in omega arith)
+    rw (handed_on c.from_residual-in_err-root-in-Split.result c.from_residual-in_err-root-in-Split.ensures.1)
+    (names_more 1 (g.S.PageStore.size c.args.store.now) _ (let q = (g.met.S.PageStore.in_range c.args.store.now).0 in omega arith)
     c.in_err-root-in-Split.ensures.names)
 
 pub returns-in_err-root-in-Split-clause-bad : goal.returns-in_err-root-in-Split-clause-bad
 returns-in_err-root-in-Split-clause-bad g c =
-    let p = err_from_is_err_and c.from_residual-in_err-root-in-Split.result c.from_residual-in_err-root-in-Split.ensures.1 in
-    rw (p.1, p.2) (zero_names (g.S.PageStore.told c.args.store.now) c.args.self.now.height c.args.self.now.root _ c.in_err-root-in-Split.ensures.names)
+    rw (handed_on c.from_residual-in_err-root-in-Split.result c.from_residual-in_err-root-in-Split.ensures.1)
+    (zero_names (g.S.PageStore.told c.args.store.now) c.args.self.now.height c.args.self.now.root _ c.in_err-root-in-Split.ensures.names)
 
 pub returns-in_err-insert_under-clause-bad : goal.returns-in_err-insert_under-clause-bad
 returns-in_err-insert_under-clause-bad g c =
-    let p = err_from_is_err_and c.from_residual-in_err-insert_under.result c.from_residual-in_err-insert_under.ensures.1 in
-    rw (p.1, p.2) (c.in_err-insert_under.ensures.bad)
+    rw (handed_on c.from_residual-in_err-insert_under.result c.from_residual-in_err-insert_under.ensures.1) (c.in_err-insert_under.ensures.bad)

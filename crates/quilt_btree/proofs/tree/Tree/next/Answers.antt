@@ -1,13 +1,12 @@
 use Rattle.std.proofs.Common.{◌≤◌, ◌++◌, length, arith}
-use Rattle.std.proofs.lemmas.Result.{err_from_is_err_and}
 use Rattle.quilt_node.specs.Nodes.{page_records}
 use Rattle.quilt_btree.proofs.cursors.Stands.{stands_further}
+use Rattle.quilt_btree.proofs.Handed.{handed_on}
 use Rattle.quilt_btree.proofs.tree.Tree.next.Goals as goal
 
 pub returns-in_err-enter-clause-sound : goal.returns-in_err-enter-clause-sound
 returns-in_err-enter-clause-sound g c =
-    let p = err_from_is_err_and c.from_residual.result c.from_residual.ensures.1 in
-    rw (p.1, p.2) (λ before after is s. c.in_err-enter.ensures.sound (before ++ after) is)
+    rw (handed_on c.from_residual.result c.from_residual.ensures.1) (λ before after is s. c.in_err-enter.ensures.sound (before ++ after) is)
 
 pub returns-then-c-2-clause-next : goal.returns-then-c-2-clause-next
 returns-then-c-2-clause-next g c before after is s =

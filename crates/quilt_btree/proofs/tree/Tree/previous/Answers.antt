@@ -1,16 +1,15 @@
 use Rattle.std.proofs.Common.{◌≡◌, ◌≢◌, subst, arith}
-use Rattle.std.proofs.lemmas.Result.{err_from_is_err_and}
 use Rattle.quilt_btree.specs.Cursors.{IsSought}
 use Rattle.quilt_btree.proofs.subtrees.Whole.{tree_spells}
 use Rattle.quilt_btree.proofs.ranges.Rests.{along_tree}
 use Rattle.quilt_btree.proofs.cursors.Lowers.{none_back, back_over}
+use Rattle.quilt_btree.proofs.Handed.{handed_on}
 use Rattle.quilt_btree.proofs.tree.Tree.previous.Goals as goal
 use Rattle.quilt_btree.proofs.tree.Tree.previous.Goals.{else-c-gt0-via-then-c-gt0+else-c-records_in, else-c-gt0-via-else-c-gt0}
 
 pub returns-in_err-lower_under-clause-sound : goal.returns-in_err-lower_under-clause-sound
 returns-in_err-lower_under-clause-sound g c =
-    let p = err_from_is_err_and c.from_residual.result c.from_residual.ensures.1 in
-    rw (p.1, p.2) (λ rs is. let ne : c.args.self.now.height ≢ 0 = let h = c.requires.some in omega arith in
+    rw (handed_on c.from_residual.result c.from_residual.ensures.1) (λ rs is. let ne : c.args.self.now.height ≢ 0 = let h = c.requires.some in omega arith in
     c.in_err-lower_under.ensures.sound rs (tree_spells (g.S.PageStore.told c.args.store.now) c.args.self.now rs ne is).0)
 
 pub returns-in-None-clause-previous : goal.returns-in-None-clause-previous

@@ -1,6 +1,5 @@
 use Rattle.std.proofs.Common.{sym, ◌++◌, List, take, filter, ◌∙◌, ap, arith}
 use Rattle.std.specs.List.{list_all}
-use Rattle.std.proofs.lemmas.Result.{err_from_is_err_and}
 use Rattle.quilt_record.specs.declared.record.Record.{Record}
 use Rattle.quilt_record.specs.Records.{key_cmp}
 use Rattle.quilt_store.proofs.Reading.{only_reads_then, only_reads_ok, only_reads_err}
@@ -11,6 +10,7 @@ use Rattle.quilt_node.specs.Nodes.{page_records}
 use Rattle.quilt_btree.proofs.subtrees.Whole.{sound_whole}
 use Rattle.quilt_btree.proofs.ranges.Rests.{first_ends, first_fills, first_sound, first_result, no_range}
 use Rattle.quilt_btree.proofs.ways.Steps.{told_before}
+use Rattle.quilt_btree.proofs.Handed.{handed_on}
 use Rattle.quilt_btree.proofs.tree.Tree.range.Goals as goal
 
 pub returns-then-self-eq0-clause-range : goal.returns-then-self-eq0-clause-range
@@ -19,8 +19,8 @@ returns-then-self-eq0-clause-range g c = λ rs is. c.new-records.ensures.items
 
 pub returns-in_err-found-clause-sound : goal.returns-in_err-found-clause-sound
 returns-in_err-found-clause-sound g c =
-    let p = err_from_is_err_and c.from_residual.result c.from_residual.ensures.1 in
-    rw (p.1, p.2) (sound_whole _ (g.S.PageStore.told c.args.store.now) c.args.self.now c.if-self-eq0.false c.in_err-found.ensures.sound)
+    rw (handed_on c.from_residual.result c.from_residual.ensures.1)
+    (sound_whole _ (g.S.PageStore.told c.args.store.now) c.args.self.now c.if-self-eq0.false c.in_err-found.ensures.sound)
 
 pub returns-then-now-most-clause-range : goal.returns-then-now-most-clause-range
 returns-then-now-most-clause-range g c = λ rs is. first_fills (g.S.PageStore.told c.args.store.now) c.args.self.now c.args.low.now c.args.high.now
@@ -55,8 +55,8 @@ returns-in-None-clause-range g c = λ rs is. first_ends (g.S.PageStore.told c.ar
 
 pub returns-in_err-add_rest-in-Some-clause-sound : goal.returns-in_err-add_rest-in-Some-clause-sound
 returns-in_err-add_rest-in-Some-clause-sound g c =
-    let p = err_from_is_err_and c.from_residual-in_err-add_rest-in-Some.result c.from_residual-in_err-add_rest-in-Some.ensures.1 in
-    rw (p.1, p.2) (first_sound (g.S.PageStore.told c.args.store.now) (g.S.PageStore.told c.add_at.new.store) c.args.self.now c.args.low.now c.args.high.now
+    rw (handed_on c.from_residual-in_err-add_rest-in-Some.result c.from_residual-in_err-add_rest-in-Some.ensures.1)
+    (first_sound (g.S.PageStore.told c.args.store.now) (g.S.PageStore.told c.add_at.new.store) c.args.self.now c.args.low.now c.args.high.now
     c.in-Some.next c.args.most (page_records c.in_ok-now.ensures.adds.bytes) c.add_at.new.records.items c.in_ok-found.found.high _
     (c.in_ok-now.ensures.looks.left.told ∙ c.in_ok-found.ensures.left.told) (record {
       some = c.if-self-eq0.false;
@@ -124,13 +124,12 @@ returns-in_ok-add_rest-in-Some-clause-within g c =
 
 pub returns-in_err-found-clause-bad : goal.returns-in_err-found-clause-bad
 returns-in_err-found-clause-bad g c =
-    let p = err_from_is_err_and c.from_residual.result c.from_residual.ensures.1 in
-    rw (p.1, p.2) (λ ne. c.in_err-found.ensures.bad)
+    rw (handed_on c.from_residual.result c.from_residual.ensures.1) (λ ne. c.in_err-found.ensures.bad)
 
 pub returns-in_err-add_rest-in-Some-clause-left : goal.returns-in_err-add_rest-in-Some-clause-left
 returns-in_err-add_rest-in-Some-clause-left g c =
-    let p = err_from_is_err_and c.from_residual-in_err-add_rest-in-Some.result c.from_residual-in_err-add_rest-in-Some.ensures.1 in
-    rw (p.1, p.2) (only_reads_err _ (only_reads_then _ g.met.S.PageStore.goes_on _ _ _ c.in_ok-found.ensures.left
+    rw (handed_on c.from_residual-in_err-add_rest-in-Some.result c.from_residual-in_err-add_rest-in-Some.ensures.1)
+    (only_reads_err _ (only_reads_then _ g.met.S.PageStore.goes_on _ _ _ c.in_ok-found.ensures.left
     (only_reads_then _ g.met.S.PageStore.goes_on _ _ _ c.in_ok-now.ensures.looks.left c.in_err-add_rest-in-Some.ensures.left)))
 
 pub returns-in_ok-add_rest-in-Some-clause-left : goal.returns-in_ok-add_rest-in-Some-clause-left

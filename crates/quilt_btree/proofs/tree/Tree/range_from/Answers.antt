@@ -1,5 +1,4 @@
 use Rattle.std.proofs.Common.{sym, ◌∙◌, ◌++◌, List, take, filter, ap, subst, arith}
-use Rattle.std.proofs.lemmas.Result.{err_from_is_err_and}
 use Rattle.quilt_record.specs.declared.record.Record.{Record}
 use Rattle.quilt_record.specs.Records.{key_cmp}
 use Rattle.quilt_record.proofs.Orders.{lt_to_le}
@@ -9,6 +8,7 @@ use Rattle.quilt_btree.specs.Spots.{IsSpot}
 use Rattle.quilt_btree.proofs.Spots.{spot_ends, spot_fills, spot_sound, spot_rest, under_next, never_on, placed_at}
 use Rattle.quilt_btree.proofs.ranges.Rests.{no_range}
 use Rattle.quilt_btree.proofs.ranges.Spans.{first_within, first_few}
+use Rattle.quilt_btree.proofs.Handed.{handed_on}
 use Rattle.quilt_btree.proofs.tree.Tree.range_from.Goals as goal
 
 pub returns-then-self-eq0-clause-range : goal.returns-then-self-eq0-clause-range
@@ -28,8 +28,8 @@ returns-in-None-clause-range g c = spot_ends (g.S.PageStore.told c.args.store.no
 
 pub returns-in_err-add_rest-in-Some-clause-sound : goal.returns-in_err-add_rest-in-Some-clause-sound
 returns-in_err-add_rest-in-Some-clause-sound g c =
-    let p = err_from_is_err_and c.from_residual-in_err-add_rest-in-Some.result c.from_residual-in_err-add_rest-in-Some.ensures.1 in
-    rw (p.1, p.2) (spot_sound (g.S.PageStore.told c.args.store.now) _ c.args.self.now c.in_ok-found.found.page c.in_ok-found.found.low c.in_ok-found.found.high c.args.low.now
+    rw (handed_on c.from_residual-in_err-add_rest-in-Some.result c.from_residual-in_err-add_rest-in-Some.ensures.1)
+    (spot_sound (g.S.PageStore.told c.args.store.now) _ c.args.self.now c.in_ok-found.found.page c.in_ok-found.found.low c.in_ok-found.found.high c.args.low.now
     c.args.high.now c.args.most _ c.add_in.new.records.items c.in_ok-found.ensures.leads.spot c.in_ok-found.ensures.leads.keys.0 c.in_ok-found.ensures.leads.keys.1 c.in_ok-found.ensures.left.told
     c.in_ok-wide.ensures.adds c.new-records.ensures.items
     (g.S.PageStore.told c.add_in.new.store) c.in-Some.next _ (c.in_ok-wide.ensures.looks.left.told ∙ c.in_ok-found.ensures.left.told)
@@ -93,8 +93,8 @@ returns-in_ok-add_rest-in-Some-clause-fits g c = record {
 
 pub returns-in_err-add_rest-in-Some-clause-left : goal.returns-in_err-add_rest-in-Some-clause-left
 returns-in_err-add_rest-in-Some-clause-left g c =
-    let p = err_from_is_err_and c.from_residual-in_err-add_rest-in-Some.result c.from_residual-in_err-add_rest-in-Some.ensures.1 in
-    rw (p.1, p.2) (only_reads_err _ (only_reads_then _ g.met.S.PageStore.goes_on _ _ _ c.in_ok-found.ensures.left
+    rw (handed_on c.from_residual-in_err-add_rest-in-Some.result c.from_residual-in_err-add_rest-in-Some.ensures.1)
+    (only_reads_err _ (only_reads_then _ g.met.S.PageStore.goes_on _ _ _ c.in_ok-found.ensures.left
     (only_reads_then _ g.met.S.PageStore.goes_on _ _ _ c.in_ok-wide.ensures.looks.left c.in_err-add_rest-in-Some.ensures.left)))
 
 pub returns-in_ok-add_rest-in-Some-clause-left : goal.returns-in_ok-add_rest-in-Some-clause-left
@@ -104,8 +104,7 @@ returns-in_ok-add_rest-in-Some-clause-left g c =
 
 pub returns-in_err-add_rest-in-Some-clause-from : goal.returns-in_err-add_rest-in-Some-clause-from
 returns-in_err-add_rest-in-Some-clause-from g c =
-    let p = err_from_is_err_and c.from_residual-in_err-add_rest-in-Some.result c.from_residual-in_err-add_rest-in-Some.ensures.1 in
-    rw (p.1, p.2) (record {
+    rw (handed_on c.from_residual-in_err-add_rest-in-Some.result c.from_residual-in_err-add_rest-in-Some.ensures.1) (record {
       here = λ at last. absurd (never_on _ c.args.high.now c.in-Some.next (c.in_ok-found.ensures.here at).0 last c.in-Some.ensures.0 c.in-Some.ensures.1);
       placed = tt;
     })

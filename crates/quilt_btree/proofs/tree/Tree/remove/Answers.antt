@@ -1,5 +1,4 @@
 use Rattle.std.proofs.Common.{◌≡◌, true, false, ◌-◌, ◌≤◌, refl, arith}
-use Rattle.std.proofs.lemmas.Result.{err_from_is_err_and}
 use Rattle.quilt_btree.proofs.ways.Damage.{zero_names, zero_named, names_more}
 use Rattle.quilt_btree.proofs.growth.Finding.{finds_root, finds_empty, shrunk_answer}
 use Rattle.quilt_btree.proofs.growth.KeptPages.{out_none, sound_out, out_missing, out_done, out_underfull}
@@ -7,6 +6,7 @@ use Rattle.quilt_btree.proofs.growth.KeptPages.{out_emptied, out_only, out_shrun
 use Rattle.quilt_btree.proofs.growth.KeptPages.{two_underfull, one_empty, two_only}
 use Rattle.quilt_btree.proofs.removals.TreeRemovals.{sound_root, whole_none, whole_missing, whole_done, whole_underfull, whole_emptied, whole_only, many_done}
 use Rattle.quilt_btree.proofs.removals.TreeRemovals.{many_underfull, one_emptied, one_only, shrunk, shrunk_sound}
+use Rattle.quilt_btree.proofs.Handed.{handed_on}
 use Rattle.quilt_btree.proofs.tree.Tree.remove.Goals as goal
 
 pub returns-then-self-eq0-clause-removes : goal.returns-then-self-eq0-clause-removes
@@ -24,8 +24,8 @@ returns-then-self-eq0-clause-removes g c = record {
 
 pub returns-in_err-remove_under-clause-sound : goal.returns-in_err-remove_under-clause-sound
 returns-in_err-remove_under-clause-sound g c =
-    let p = err_from_is_err_and c.from_residual.result c.from_residual.ensures.1 in
-    rw (p.1, p.2) (λ rs w. sound_root (g.S.PageStore.told c.args.store.now) (g.S.PageStore.free c.args.store.now) (g.S.PageStore.size c.args.store.now)
+    rw (handed_on c.from_residual.result c.from_residual.ensures.1)
+    (λ rs w. sound_root (g.S.PageStore.told c.args.store.now) (g.S.PageStore.free c.args.store.now) (g.S.PageStore.size c.args.store.now)
     c.args.self.now _ rs
     (record {
       rooted = c.requires.rooted;
@@ -153,8 +153,8 @@ returns-in-Underfull-clause-sound g c =
 
 pub returns-in_err-give_back-in-Emptied-clause-sound : goal.returns-in_err-give_back-in-Emptied-clause-sound
 returns-in_err-give_back-in-Emptied-clause-sound g c =
-    let p = err_from_is_err_and c.from_residual-in_err-give_back-in-Emptied.result c.from_residual-in_err-give_back-in-Emptied.ensures.1 in
-    rw (p.1, p.2) (let found = rw c.in-Emptied.is at c.in_ok-remove_under.ensures in
+    rw (handed_on c.from_residual-in_err-give_back-in-Emptied.result c.from_residual-in_err-give_back-in-Emptied.ensures.1)
+    (let found = rw c.in-Emptied.is at c.in_ok-remove_under.ensures in
     λ rs w. c.in_err-give_back-in-Emptied.ensures.sound
     (one_emptied c.args.k.now (g.S.PageStore.told c.args.store.now) (g.S.PageStore.told c.remove_under.new.store)
     (g.S.PageStore.free c.args.store.now) (g.S.PageStore.free c.remove_under.new.store) (g.S.PageStore.size c.args.store.now) c.args.self.now rs
@@ -218,8 +218,8 @@ returns-in_ok-give_back-in-Emptied-clause-sound g c =
 
 pub returns-in_err-give_back-in-Only-clause-sound : goal.returns-in_err-give_back-in-Only-clause-sound
 returns-in_err-give_back-in-Only-clause-sound g c =
-    let p = err_from_is_err_and c.from_residual-in_err-give_back-in-Only.result c.from_residual-in_err-give_back-in-Only.ensures.1 in
-    rw (p.1, p.2) (let found = rw c.in-Only.is at c.in_ok-remove_under.ensures in
+    rw (handed_on c.from_residual-in_err-give_back-in-Only.result c.from_residual-in_err-give_back-in-Only.ensures.1)
+    (let found = rw c.in-Only.is at c.in_ok-remove_under.ensures in
     λ rs w. c.in_err-give_back-in-Only.ensures.sound
     (one_only (g.S.PageStore.told c.args.store.now) (g.S.PageStore.free c.args.store.now) (g.S.PageStore.size c.args.store.now) c.args.self.now c.args.k.now (g.S.PageStore.told c.remove_under.new.store) (g.S.PageStore.free c.remove_under.new.store) c.in-Only.child rs
     (record {
@@ -290,8 +290,8 @@ returns-in_ok-give_back-in-Only-clause-sound g c =
 
 pub returns-in_err-remove_under-clause-goes : goal.returns-in_err-remove_under-clause-goes
 returns-in_err-remove_under-clause-goes g c =
-    let p = err_from_is_err_and c.from_residual.result c.from_residual.ensures.1 in
-    rw (p.1, p.2) (λ rs w n. sound_out (g.S.PageStore.told c.args.store.now) (g.S.PageStore.free c.args.store.now) c.args.self.now _ rs c.if-self-eq0.false
+    rw (handed_on c.from_residual.result c.from_residual.ensures.1)
+    (λ rs w n. sound_out (g.S.PageStore.told c.args.store.now) (g.S.PageStore.free c.args.store.now) c.args.self.now _ rs c.if-self-eq0.false
     c.in_err-remove_under.ensures.sound w)
 
 pub returns-in-Done-clause-goes : goal.returns-in-Done-clause-goes
@@ -319,8 +319,8 @@ returns-in-Underfull-clause-goes g c =
 
 pub returns-in_err-give_back-in-Emptied-clause-goes : goal.returns-in_err-give_back-in-Emptied-clause-goes
 returns-in_err-give_back-in-Emptied-clause-goes g c =
-    let p = err_from_is_err_and c.from_residual-in_err-give_back-in-Emptied.result c.from_residual-in_err-give_back-in-Emptied.ensures.1 in
-    rw (p.1, p.2) (λ rs w n. c.in_err-give_back-in-Emptied.ensures.sound
+    rw (handed_on c.from_residual-in_err-give_back-in-Emptied.result c.from_residual-in_err-give_back-in-Emptied.ensures.1)
+    (λ rs w n. c.in_err-give_back-in-Emptied.ensures.sound
     (one_empty c.args.k.now (g.S.PageStore.told c.args.store.now) (g.S.PageStore.told c.remove_under.new.store) (g.S.PageStore.free c.args.store.now)
     (g.S.PageStore.free c.remove_under.new.store) c.args.self.now rs c.if-self-eq0.false
     (rw c.in-Emptied.is at c.in_ok-remove_under.ensures.removed) n w).0)
@@ -341,8 +341,8 @@ returns-in_ok-give_back-in-Emptied-clause-goes g c =
 
 pub returns-in_err-give_back-in-Only-clause-goes : goal.returns-in_err-give_back-in-Only-clause-goes
 returns-in_err-give_back-in-Only-clause-goes g c =
-    let p = err_from_is_err_and c.from_residual-in_err-give_back-in-Only.result c.from_residual-in_err-give_back-in-Only.ensures.1 in
-    rw (p.1, p.2) (λ rs w n. c.in_err-give_back-in-Only.ensures.sound
+    rw (handed_on c.from_residual-in_err-give_back-in-Only.result c.from_residual-in_err-give_back-in-Only.ensures.1)
+    (λ rs w n. c.in_err-give_back-in-Only.ensures.sound
     (two_only c.args.k.now (g.S.PageStore.told c.args.store.now) (g.S.PageStore.told c.remove_under.new.store) (g.S.PageStore.free c.args.store.now)
     (g.S.PageStore.free c.remove_under.new.store) c.in-Only.child c.args.self.now rs c.if-self-eq0.false
     (rw c.in-Only.is at c.in_ok-remove_under.ensures.removed) n w).0)
@@ -360,30 +360,29 @@ returns-in_ok-give_back-in-Only-clause-goes g c =
 
 pub returns-in_err-remove_under-clause-bad : goal.returns-in_err-remove_under-clause-bad
 returns-in_err-remove_under-clause-bad g c =
-    let p = err_from_is_err_and c.from_residual.result c.from_residual.ensures.1 in
-    rw (p.1, p.2) (c.in_err-remove_under.ensures.bad)
+    rw (handed_on c.from_residual.result c.from_residual.ensures.1) (c.in_err-remove_under.ensures.bad)
 
 pub returns-in_err-give_back-in-Emptied-clause-names : goal.returns-in_err-give_back-in-Emptied-clause-names
 returns-in_err-give_back-in-Emptied-clause-names g c =
-    let p = err_from_is_err_and c.from_residual-in_err-give_back-in-Emptied.result c.from_residual-in_err-give_back-in-Emptied.ensures.1 in
-    rw (p.1, p.2) (names_more 1 (g.S.PageStore.size c.args.store.now) _ (let q = (g.met.S.PageStore.in_range c.args.store.now).0 in omega arith)
+    rw (handed_on c.from_residual-in_err-give_back-in-Emptied.result c.from_residual-in_err-give_back-in-Emptied.ensures.1)
+    (names_more 1 (g.S.PageStore.size c.args.store.now) _ (let q = (g.met.S.PageStore.in_range c.args.store.now).0 in omega arith)
     c.in_err-give_back-in-Emptied.ensures.names)
 
 pub returns-in_err-give_back-in-Emptied-clause-bad : goal.returns-in_err-give_back-in-Emptied-clause-bad
 returns-in_err-give_back-in-Emptied-clause-bad g c =
-    let p = err_from_is_err_and c.from_residual-in_err-give_back-in-Emptied.result c.from_residual-in_err-give_back-in-Emptied.ensures.1 in
-    rw (p.1, p.2) (zero_names (g.S.PageStore.told c.args.store.now) c.args.self.now.height c.args.self.now.root _ c.in_err-give_back-in-Emptied.ensures.names)
+    rw (handed_on c.from_residual-in_err-give_back-in-Emptied.result c.from_residual-in_err-give_back-in-Emptied.ensures.1)
+    (zero_names (g.S.PageStore.told c.args.store.now) c.args.self.now.height c.args.self.now.root _ c.in_err-give_back-in-Emptied.ensures.names)
 
 pub returns-in_err-give_back-in-Only-clause-names : goal.returns-in_err-give_back-in-Only-clause-names
 returns-in_err-give_back-in-Only-clause-names g c =
-    let p = err_from_is_err_and c.from_residual-in_err-give_back-in-Only.result c.from_residual-in_err-give_back-in-Only.ensures.1 in
-    rw (p.1, p.2) (names_more 1 (g.S.PageStore.size c.args.store.now) _ (let q = (g.met.S.PageStore.in_range c.args.store.now).0 in omega arith)
+    rw (handed_on c.from_residual-in_err-give_back-in-Only.result c.from_residual-in_err-give_back-in-Only.ensures.1)
+    (names_more 1 (g.S.PageStore.size c.args.store.now) _ (let q = (g.met.S.PageStore.in_range c.args.store.now).0 in omega arith)
     c.in_err-give_back-in-Only.ensures.names)
 
 pub returns-in_err-give_back-in-Only-clause-bad : goal.returns-in_err-give_back-in-Only-clause-bad
 returns-in_err-give_back-in-Only-clause-bad g c =
-    let p = err_from_is_err_and c.from_residual-in_err-give_back-in-Only.result c.from_residual-in_err-give_back-in-Only.ensures.1 in
-    rw (p.1, p.2) (zero_names (g.S.PageStore.told c.args.store.now) c.args.self.now.height c.args.self.now.root _
+    rw (handed_on c.from_residual-in_err-give_back-in-Only.result c.from_residual-in_err-give_back-in-Only.ensures.1)
+    (zero_names (g.S.PageStore.told c.args.store.now) c.args.self.now.height c.args.self.now.root _
     c.in_err-give_back-in-Only.ensures.names)
 
 pub returns-in-Done-clause-bad : goal.returns-in-Done-clause-bad
