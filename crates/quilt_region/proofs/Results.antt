@@ -1,10 +1,12 @@
 -- What is answered of the records of a layer, said of a tree that has the layer.
-use Rattle.std.proofs.Common.{◌≡◌, ℕ, List, Option, Result, Ok, Err, IfOk, IfErr}
+use Rattle.std.proofs.Common.{◌≡◌, refl, ℕ, List, Option, Result, Ok, Err, IfOk, IfErr}
 use Rattle.quilt_types.specs.declared.stop.Stop.{Stop}
+use Rattle.quilt_types.specs.declared.stop.Stop.TheVariants.{Device, Memory, Damaged}
 use Rattle.quilt_types.specs.Layers.{Grid, IsGrid}
 use Rattle.quilt_record.specs.declared.record.Record.{Record}
 use Rattle.quilt_blocks.specs.Raster.{Raster}
 use Rattle.quilt_btree.specs.declared.tree.Tree.{Tree}
+use Rattle.quilt_btree.specs.Stops.{NamesPage}
 use Rattle.quilt_store.specs.Stops.{IsNotDamage}
 use Rattle.quilt_region.specs.Regions.{region_records, HasRegion}
 
@@ -19,6 +21,12 @@ module _ (told : Option (List (List ℕ))) (t : Tree) (layer n : ℕ) (items : L
       → IfErr r (λ e. (g : Grid) → HasRegion told t layer n g → IsNotDamage e)
   sound_whole (Ok l) f = f
   sound_whole (Err e) f = λ g h. f g (read g h)
+
+-- what is no damage names no page but page 0
+pub sound_zero : (e : Stop) → IsNotDamage e → NamesPage 1 e
+sound_zero Device sound = tt
+sound_zero Memory sound = tt
+sound_zero (Damaged page) sound = absurd (sound page refl)
 
 -- whatever is answered
 pub if_ok : {T U : Type 0} (r : Result T U) (P : Type 0) → P → IfOk r (λ x. P)

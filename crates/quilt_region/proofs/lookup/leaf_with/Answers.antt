@@ -1,4 +1,4 @@
-use Rattle.std.proofs.Common.{◌≡◌, refl, true, false, Option, Some, None, sym, ◌∙◌, ap, subst, List, Contains, arith}
+use Rattle.std.proofs.Common.{◌≡◌, true, false, Option, Some, None, sym, ◌∙◌, ap, subst, List, Contains, arith}
 use Rattle.std.specs.Prelude.{IfSome, unwrap_or}
 use Rattle.std.proofs.lemmas.Option.{none-some}
 use Rattle.std.proofs.lemmas.Result.{err_from_is_err_and}
@@ -6,10 +6,6 @@ use Rattle.quilt_record.specs.declared.key.Key.{Key}
 use Rattle.quilt_record.specs.declared.record.Record.{Record}
 use Rattle.quilt_btree.specs.Lists.{floor_of}
 use Rattle.quilt_spell.specs.OfLayer.{leaf_record}
-use Rattle.quilt_types.specs.declared.stop.Stop.{Stop}
-use Rattle.quilt_types.specs.declared.stop.Stop.TheVariants.{Device, Memory, Damaged}
-use Rattle.quilt_store.specs.Stops.{IsNotDamage}
-use Rattle.quilt_btree.specs.Stops.{NamesPage}
 use Rattle.quilt_btree.specs.Trees.{IsTree}
 use Rattle.quilt_btree.specs.Floors.{floor_pages, HoldsFirst, ReadsNone}
 use Rattle.quilt_types.specs.Plane.{in_block}
@@ -18,6 +14,7 @@ use Rattle.quilt_loc.proofs.Blocks.{IsBlock-up, side_most, Holds-from}
 use Rattle.quilt_blocks.specs.Cutting.{leaf_pair}
 use Rattle.quilt_blocks.specs.declared.leaf.Leaf.{Leaf}
 use Rattle.quilt_region.proofs.Floors.{floor_found, leaf_read, read_same}
+use Rattle.quilt_region.proofs.Results.{sound_zero}
 use Rattle.quilt_region.proofs.lookup.leaf_with.Goals as goal
 
 false_true : false ≡ true → ⊥
@@ -26,12 +23,6 @@ false_true e = cc
 is_there : (o : Option Leaf) (l : Leaf) (P : Leaf → Type 0) → o ≡ Some l → IfSome o P → P l
 is_there None l P e h = absurd (none-some l e)
 is_there (Some k) l P e h = subst P (ap (λ (o : Option Leaf). unwrap_or o l) e) h
-
--- what is no damage names no page but page 0
-sound_zero : (e : Stop) → IsNotDamage e → NamesPage 1 e
-sound_zero Device sound = tt
-sound_zero Memory sound = tt
-sound_zero (Damaged page) sound = absurd (sound page refl)
 
 pub key_with-k-requires-clause-in_x : goal.key_with-k-requires-clause-in_x
 key_with-k-requires-clause-in_x g c = let m = side_most c.args.level c.requires.level.1 in let x = c.requires.in_x in omega arith

@@ -1,22 +1,12 @@
-use Rattle.std.proofs.Common.{refl, ℕ, ◌+◌, ◌*◌, ◌≤◌, length, ◌∙◌, ap, subst, arith}
+use Rattle.std.proofs.Common.{ℕ, ◌+◌, ◌*◌, ◌≤◌, length, ◌∙◌, ap, subst, arith}
 use Rattle.std.proofs.lemmas.Result.{err_from_is_err_and}
 use Rattle.quilt_record.specs.declared.key.Key.{Key}
 use Rattle.quilt_world.specs.Tale.{Goes}
 use Rattle.quilt_store.proofs.Reading.{only_reads_free}
-use Rattle.quilt_types.specs.declared.stop.Stop.{Stop}
-use Rattle.quilt_types.specs.declared.stop.Stop.TheVariants.{Device, Memory, Damaged}
-use Rattle.quilt_store.specs.Stops.{IsNotDamage}
-use Rattle.quilt_btree.specs.Stops.{NamesPage}
 use Rattle.quilt_region.proofs.Beside.{if_err_weaker}
 use Rattle.quilt_region.proofs.Records.{range_read, region_length}
-use Rattle.quilt_region.proofs.Results.{list_whole, sound_whole, if_ok}
+use Rattle.quilt_region.proofs.Results.{list_whole, sound_whole, sound_zero, if_ok}
 use Rattle.quilt_region.proofs.lookup.read_list.Goals as goal
-
--- what is no damage names no page but page 0
-sound_zero : (e : Stop) → IsNotDamage e → NamesPage 1 e
-sound_zero Device sound = tt
-sound_zero Memory sound = tt
-sound_zero (Damaged page) sound = absurd (sound page refl)
 
 pub returns-in_err-records-clause-zero : goal.returns-in_err-records-clause-zero
 returns-in_err-records-clause-zero g c =
