@@ -446,7 +446,7 @@ tell_origin() {
         [ "$found" != "$released" ] || by=", which was built with $(word_of "$here/release/digests" kit)"
         echo "Program: $program, of these sources$by"
     else
-        echo "Program: none of these sources. The first call proves and builds it: 98 minutes of the processor, which is half an hour where four are quiet, and"
+        echo "Program: none of these sources. The first call proves and builds it: 54 minutes of the processor, 23 on the clock where four are quiet, and"
         echo "8 GB of disk, with 2 GB of memory for each processor and 2 GB more"
     fi
 }
