@@ -1,12 +1,12 @@
 //! Calls of the map algebra without contracts: each fails where its conditions do not hold, and promises nothing, so that the
 //! tests need no facts and are proved in short time.
 use crate::windows::is_window;
-use quilt_blocks::{Cursor, LeafList};
+use quilt_blocks::{Cursor, Leaf, LeafList};
 use quilt_buffer::buffer;
 use quilt_measure::{area, histogram, perimeter};
 use quilt_overlay::{Op, overlay, recolour};
 use quilt_raster::{leaves_of, render};
-use quilt_types::{Colour, Pixel, Window};
+use quilt_types::{Colour, Pixel, Text, Window};
 use quilt_window::{shift, window};
 use std::alloc::{AllocError, Global};
 use std::test::Fail;
@@ -90,6 +90,49 @@ pub fn histogram_of(a: &LeafList) -> [u32; 13] {
     histogram(a)
 }
 
+/// How many leaves there are.
+pub fn count_of(a: &LeafList) -> usize {
+    a.len()
+}
+
+/// The colour of a pixel, or None outside of the square.
+pub fn colour_in(a: &LeafList, x: u16, y: u16) -> Option<u16> {
+    let level = a.level();
+    prove!(level <= 12);
+    let side = 1_u16 << level;
+    if x >= side || y >= side {
+        return None;
+    }
+    Some(a.colour_at(Pixel { x, y }).0)
+}
+
+/// The leaves in the order of their codes: x, y and side of each, and its colour.
+pub fn leaves_in(alloc: Global, a: &LeafList) -> Result<Vec<[u16; 4]>, AllocError> {
+    let mut leaves = Vec::new(alloc);
+    let mut cursor = Cursor::new(a);
+    for _ in 0..a.len() {
+        if let Some(Leaf { block, colour }) = cursor.next() {
+            leaves.push([block.x, block.y, block.side, colour.0])?;
+        }
+    }
+    Ok(leaves)
+}
+
+/// Whether these are all leaves, in the order of their codes: x, y and side of each, and its colour.
+pub fn has_leaves(alloc: Global, a: &LeafList, wanted: &[[u16; 4]]) -> Result<bool, AllocError> {
+    Ok(leaves_in(alloc, a)?.as_slice() == wanted)
+}
+
+/// How many bytes the rows of the window have.
+pub fn rendered_length(
+    alloc: Global,
+    list: &LeafList,
+    w: Window,
+    format: u8,
+) -> Result<usize, Fail> {
+    Ok(rendered(alloc, list, w, format)?.bytes().len())
+}
+
 /// Whether the rows of the window are this text.
 pub fn is_rendered(
     alloc: Global,
@@ -98,6 +141,11 @@ pub fn is_rendered(
     format: u8,
     text: &[u8],
 ) -> Result<bool, Fail> {
+    Ok(rendered(alloc, list, w, format)?.bytes() == text)
+}
+
+/// The rows of the window.
+fn rendered(alloc: Global, list: &LeafList, w: Window, format: u8) -> Result<Text, Fail> {
     let level = list.level();
     if level > 12 {
         return Err(Fail::from("a level"));
@@ -106,7 +154,8 @@ pub fn is_rendered(
     if w.x as u32 + w.w as u32 > side || w.y as u32 + w.h as u32 > side {
         return Err(Fail::from("a window"));
     }
-    Ok(render(alloc, list, w, format)?.bytes() == text)
+    let text = render(alloc, list, w, format)?;
+    Ok(text)
 }
 
 /// The colours of a list's pixels, row by row.

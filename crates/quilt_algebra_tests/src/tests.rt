@@ -1,5 +1,10 @@
 mod algebra;
 mod blocks;
+mod buffers;
+mod drawn_polygons;
 mod measures;
 mod moves;
+mod polygons;
+mod rasters;
+mod windows;
 mod worked;

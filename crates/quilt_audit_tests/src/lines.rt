@@ -1,17 +1,18 @@
-use crate::planted::{NO_MAP, audited, entry};
+use crate::planted::{NO_MAP, entry, map_of, refusal_of, spell_maps, spell_no_map};
 use quilt_record::{Key, Record};
 use quilt_types::Kind;
+use std::alloc::Global;
 use std::test::Fail;
 
 /// The record of the catalog for lines, with a threshold.
-fn lines(threshold: u8) -> Record {
+pub fn lines(threshold: u8) -> Record {
     let mut r = entry(1, b'l', 3);
     r.value[13] = threshold;
     r
 }
 
 /// The record of a block of the layer 1 that the segment meets. Blocks of side 1 have the depth 1.
-fn met(code: u32, depth: u8, id: u32) -> Record {
+pub fn met(code: u32, depth: u8, id: u32) -> Record {
     let mut r = bare(code, depth);
     r.key.item = id;
     r.value[0] = 1;
@@ -19,7 +20,7 @@ fn met(code: u32, depth: u8, id: u32) -> Record {
 }
 
 /// The record of a block that no segment meets.
-fn bare(code: u32, depth: u8) -> Record {
+pub fn bare(code: u32, depth: u8) -> Record {
     Record {
         key: Key {
             layer: 1,
@@ -46,36 +47,37 @@ fn segment(id: u32, x1: u8, y1: u8, x2: u8, y2: u8) -> Record {
     }
 }
 
+/// Whether a map of these records in format 1 has one layer, of this kind.
+pub fn has_kind(alloc: Global, records: &[Record], kind: Kind) -> Result<bool, Fail> {
+    let survey = map_of(alloc, records, 1)?;
+    let mut entries = survey.catalog.entries().iter();
+    let first = entries.next().map(|e| e.kind);
+    Ok(first == Some(kind) && entries.next().is_none())
+}
+
 #[test]
 fn layers_without_segments(rt: HostRuntime) -> Result<(), Fail> {
     let four = [lines(4), bare(0, 1), bare(1, 1), bare(2, 1), bare(3, 1)];
-    let survey = audited(rt.alloc(), &four, 1, 5)?.ok().ok_or("a map")?;
-    let entries = survey.catalog.entries();
-    assert_eq!(rt; entries.len(), 1);
-    assert_eq!(rt; entries[0].kind, Kind::Lines { threshold: 4 });
-    assert_eq!(rt; audited(rt.alloc(), &four, 1, 4)?.err(), NO_MAP);
-    let one = [lines(4), bare(0, 0)];
-    assert!(rt; audited(rt.alloc(), &one, 2, 2)?.is_ok());
-    let alone = [lines(4)];
-    assert_eq!(rt; audited(rt.alloc(), &alone, 1, 1)?.err(), NO_MAP);
-    Ok(())
+    assert!(rt; has_kind(rt.alloc(), &four, Kind::Lines { threshold: 4 })?);
+    assert_eq!(rt; refusal_of(rt.alloc(), &four, 1, 4)?, NO_MAP);
+    spell_maps(&rt, rt.alloc(), 2, &[&[lines(4), bare(0, 0)]])?;
+    spell_no_map(&rt, rt.alloc(), 1, &[&[lines(4)]])
 }
 
 #[test]
 fn thresholds(rt: HostRuntime) -> Result<(), Fail> {
     for threshold in [1, 32] {
-        let records = [lines(threshold), bare(0, 0)];
-        assert!(rt; audited(rt.alloc(), &records, 1, 2)?.is_ok());
+        spell_maps(&rt, rt.alloc(), 1, &[&[lines(threshold), bare(0, 0)]])?;
     }
     for threshold in [0, 33, 255] {
-        let records = [lines(threshold), bare(0, 0)];
-        assert_eq!(rt; audited(rt.alloc(), &records, 1, 2)?.err(), NO_MAP);
+        spell_no_map(&rt, rt.alloc(), 1, &[&[lines(threshold), bare(0, 0)]])?;
     }
     Ok(())
 }
 
 #[test]
 fn blocks_and_segments(rt: HostRuntime) -> Result<(), Fail> {
+    let (s, t) = (segment(0, 0, 0, 0, 0), segment(9, 1, 1, 1, 1));
     // The pixel (1, 1) stands on a corner of all four closed squares, and (0, 0) in the first alone.
     let both = [
         lines(1),
@@ -84,32 +86,26 @@ fn blocks_and_segments(rt: HostRuntime) -> Result<(), Fail> {
         met(1, 1, 9),
         met(2, 1, 9),
         met(3, 1, 9),
-        segment(0, 0, 0, 0, 0),
-        segment(9, 1, 1, 1, 1),
+        s,
+        t,
     ];
-    assert!(rt; audited(rt.alloc(), &both, 1, 8)?.is_ok());
-    let one = [lines(1), met(0, 0, 0), met(0, 0, 9), both[6], both[7]];
-    assert!(rt; audited(rt.alloc(), &one, 1, 5)?.is_ok());
+    let one = [lines(1), met(0, 0, 0), met(0, 0, 9), s, t];
     let first = [
         lines(1),
         met(0, 1, 0),
         bare(1, 1),
         bare(2, 1),
         bare(3, 1),
-        both[6],
+        s,
     ];
-    assert!(rt; audited(rt.alloc(), &first, 1, 6)?.is_ok());
-    Ok(())
+    spell_maps(&rt, rt.alloc(), 1, &[&both, &one, &first])
 }
 
 #[test]
 fn pairs_that_are_no_layer(rt: HostRuntime) -> Result<(), Fail> {
-    let s = segment(0, 0, 0, 0, 0);
-    let t = segment(9, 1, 1, 1, 1);
+    let (s, t) = (segment(0, 0, 0, 0, 0), segment(9, 1, 1, 1, 1));
     let missed = [lines(1), met(0, 0, 0), s, t];
-    assert_eq!(rt; audited(rt.alloc(), &missed, 1, 4)?.err(), NO_MAP);
     let other = [lines(1), met(0, 0, 0), met(0, 0, 8), s, t];
-    assert_eq!(rt; audited(rt.alloc(), &other, 1, 5)?.err(), NO_MAP);
     let unmet = [
         lines(1),
         met(0, 1, 0),
@@ -118,43 +114,37 @@ fn pairs_that_are_no_layer(rt: HostRuntime) -> Result<(), Fail> {
         bare(3, 1),
         s,
     ];
-    assert_eq!(rt; audited(rt.alloc(), &unmet, 1, 6)?.err(), NO_MAP);
     let none = [lines(1), bare(0, 0), met(0, 0, 9), t];
-    assert_eq!(rt; audited(rt.alloc(), &none, 1, 4)?.err(), NO_MAP);
     let nought = [lines(1), bare(0, 0), s];
-    assert_eq!(rt; audited(rt.alloc(), &nought, 1, 3)?.err(), NO_MAP);
     let without = [lines(1), met(0, 0, 0)];
-    assert_eq!(rt; audited(rt.alloc(), &without, 1, 2)?.err(), NO_MAP);
-    Ok(())
+    let lists: [&[Record]; 6] = [&missed, &other, &unmet, &none, &nought, &without];
+    spell_no_map(&rt, rt.alloc(), 1, &lists)
 }
 
 #[test]
 fn blocks_that_are_no_line_layer(rt: HostRuntime) -> Result<(), Fail> {
     let gap = [lines(1), bare(0, 1), bare(1, 1), bare(3, 1)];
-    assert_eq!(rt; audited(rt.alloc(), &gap, 1, 4)?.err(), NO_MAP);
     let short = [lines(1), bare(0, 1), bare(1, 1), bare(2, 1)];
-    assert_eq!(rt; audited(rt.alloc(), &short, 1, 4)?.err(), NO_MAP);
     let twice = [lines(1), bare(0, 0), bare(0, 1)];
-    assert_eq!(rt; audited(rt.alloc(), &twice, 1, 3)?.err(), NO_MAP);
     let outside = [lines(1), met(0, 0, 0), segment(0, 0, 0, 2, 0)];
-    assert_eq!(rt; audited(rt.alloc(), &outside, 1, 3)?.err(), NO_MAP);
     let alone = [lines(1), segment(0, 0, 0, 1, 0)];
-    assert_eq!(rt; audited(rt.alloc(), &alone, 1, 2)?.err(), NO_MAP);
-    Ok(())
+    let lists: [&[Record]; 5] = [&gap, &short, &twice, &outside, &alone];
+    spell_no_map(&rt, rt.alloc(), 1, &lists)
+}
+
+/// The same record of another layer.
+fn of_layer(layer: u16, mut r: Record) -> Record {
+    r.key.layer = layer;
+    r
 }
 
 #[test]
 fn layers_behind_each_other(rt: HostRuntime) -> Result<(), Fail> {
     let mut second = entry(2, b'm', 3);
     second.value[13] = 2;
-    let mut bare_second = bare(0, 0);
-    bare_second.key.layer = 2;
     let s = segment(7, 0, 1, 1, 0);
-    let both = [lines(1), second, met(0, 0, 7), s, bare_second];
-    assert!(rt; audited(rt.alloc(), &both, 2, 5)?.is_ok());
-    let mut met_second = met(0, 0, 7);
-    met_second.key.layer = 2;
-    let lent = [lines(1), second, met(0, 0, 7), s, met_second];
-    assert_eq!(rt; audited(rt.alloc(), &lent, 2, 5)?.err(), NO_MAP);
-    Ok(())
+    let both = [lines(1), second, met(0, 0, 7), s, of_layer(2, bare(0, 0))];
+    spell_maps(&rt, rt.alloc(), 2, &[&both])?;
+    let lent = [lines(1), second, met(0, 0, 7), s, of_layer(2, met(0, 0, 7))];
+    spell_no_map(&rt, rt.alloc(), 2, &[&lent])
 }

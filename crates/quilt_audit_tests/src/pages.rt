@@ -1,29 +1,25 @@
-ghost use Rattle.std.specs.Prelude.{◌≡◌};
-
-use crate::planted::{BLANK, NO_MAP, audited, entry, head, leaf_page, stored};
-use quilt_audit::audit;
+use crate::planted::{BLANK, Said, entry, leaf_page, spell_no_map, stored, surveyed};
+use quilt_audit::{Survey, audit};
 use quilt_node::{Head, InnerPage};
+use quilt_record::{Key, Record};
 use quilt_types::Stop;
+use std::alloc::Global;
 use std::test::Fail;
 
 #[test]
 fn records_that_are_no_catalog(rt: HostRuntime) -> Result<(), Fail> {
     let twice = [entry(1, b'a', 1), entry(2, b'a', 1)];
-    assert_eq!(rt; audited(rt.alloc(), &twice, 1, 2)?.err(), NO_MAP);
     let nought = [entry(0, b'a', 1)];
-    assert_eq!(rt; audited(rt.alloc(), &nought, 1, 1)?.err(), NO_MAP);
     let points = [entry(1, b'a', 2)];
-    assert_eq!(rt; audited(rt.alloc(), &points, 1, 1)?.err(), NO_MAP);
     let lines = [entry(1, b'a', 3)];
-    assert_eq!(rt; audited(rt.alloc(), &lines, 1, 1)?.err(), NO_MAP);
     let alone = [entry(1, b'a', 1)];
-    assert_eq!(rt; audited(rt.alloc(), &alone, 1, 1)?.err(), NO_MAP);
-    Ok(())
+    let lists: [&[Record]; 5] = [&twice, &nought, &points, &lines, &alone];
+    spell_no_map(&rt, rt.alloc(), 1, &lists)
 }
 
-#[test]
-fn no_tree(rt: HostRuntime) -> Result<(), Fail> {
-    let mut store = stored(rt.alloc(), &BLANK, &BLANK)?;
+/// What an audit finds of an edition without a tree.
+fn without_tree(alloc: Global) -> Result<Survey, Fail> {
+    let mut store = stored(alloc, &BLANK, &BLANK)?;
     let empty = Head {
         format: 1,
         edition: 1,
@@ -32,35 +28,61 @@ fn no_tree(rt: HostRuntime) -> Result<(), Fail> {
         height: 0,
         records: 0,
     };
-    let survey = audit(rt.alloc(), &mut store, &empty, 16)
-        .ok()
-        .ok_or("a map")?;
+    match audit(alloc, &mut store, &empty, 16) {
+        Ok(survey) => Ok(survey),
+        Err(_) => Err(Fail::from("a map")),
+    }
+}
+
+#[test]
+fn no_tree(rt: HostRuntime) -> Result<(), Fail> {
+    let survey = without_tree(rt.alloc())?;
     assert_eq!(rt; survey.catalog.entries().len(), 0);
     assert_eq!(rt; survey.used[0], 0);
     Ok(())
 }
 
-#[test]
-fn damaged_pages(rt: HostRuntime) -> Result<(), Fail> {
-    let mut blank = stored(rt.alloc(), &BLANK, &BLANK)?;
-    let root = Some(Stop::Damaged { page: 1 });
-    assert_eq!(rt;
-        audit(rt.alloc(), &mut blank, &head(1, 1, 1), 16).err(),
-        root
-    );
-    let mut records = Vec::new(rt.alloc());
+/// The page that an audit names of a file with these as the pages 1 and 2, whose tree has this height and so many records.
+fn named(
+    alloc: Global,
+    one: &[u8; 4096],
+    two: &[u8; 4096],
+    height: u8,
+    records: u32,
+) -> Result<Option<Stop>, Fail> {
+    let said = Said {
+        format: 1,
+        level: 1,
+        height,
+        records,
+    };
+    Ok(surveyed(alloc, one, two, said)?.err())
+}
+
+/// A leaf of 72 layers under one name, from the number 0 on.
+fn leaf_of_72(alloc: Global) -> Result<[u8; 4096], Fail> {
+    let mut records = Vec::new(alloc);
     for number in 0..72 {
         records.push(entry(number, b'a', 1))?;
     }
     if records.len() > 144 {
         return Err(Fail::from("72 records"));
     }
-    let inner = InnerPage::pair(2, 2, &entry(0, b'a', 1).key, 2);
-    let mut twice = stored(rt.alloc(), inner.bytes(), &leaf_page(&records))?;
+    Ok(leaf_page(&records))
+}
+
+/// An inner page with page 2 twice.
+fn twice(k: &Key) -> [u8; 4096] {
+    *InnerPage::pair(2, 2, k, 2).bytes()
+}
+
+#[test]
+fn damaged_pages(rt: HostRuntime) -> Result<(), Fail> {
+    let root = Some(Stop::Damaged { page: 1 });
+    assert_eq!(rt; named(rt.alloc(), &BLANK, &BLANK, 1, 1)?, root);
+    let inner = twice(&entry(0, b'a', 1).key);
+    let two = leaf_of_72(rt.alloc())?;
     let leaf = Some(Stop::Damaged { page: 2 });
-    assert_eq!(rt;
-        audit(rt.alloc(), &mut twice, &head(1, 2, 144), 16).err(),
-        leaf
-    );
+    assert_eq!(rt; named(rt.alloc(), &inner, &two, 2, 144)?, leaf);
     Ok(())
 }

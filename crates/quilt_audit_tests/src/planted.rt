@@ -1,4 +1,4 @@
-ghost use Rattle.std.specs.Prelude.{◌≡◌, ◌≤◌, length, IfOk};
+ghost use Rattle.std.specs.Prelude.{◌≡◌, ◌≤◌, length, IfOk, IfSome};
 ghost use Rattle.quilt_node.specs.Pages.{IsHead};
 
 use quilt_audit::{Survey, audit};
@@ -7,6 +7,7 @@ use quilt_record::{Key, Record, key_bytes};
 use quilt_store::{MemStore, PageStore};
 use quilt_types::Stop;
 use std::alloc::Global;
+use std::process::Abort;
 use std::test::Fail;
 
 /// The bytes of a leaf page with these records, at most 144.
@@ -59,21 +60,39 @@ pub fn stored(alloc: Global, one: &[u8; 4096], two: &[u8; 4096]) -> Result<MemSt
 /// A page of zeros.
 pub const BLANK: [u8; 4096] = [0; 4096];
 
-/// The head of a map of level 1 whose tree has its root at page 1.
-pub fn head(format: u8, height: u8, records: u32) -> Head
-    requires format { (1 ≤ format) × (format ≤ 2) }
-    requires height { (1 ≤ height) × (height ≤ 3) }
-    requires records { (1 ≤ records) × (records ≤ 512) }
-    ensures { IsHead 16 result }
+/// What the header of a map says whose tree has its root at page 1.
+#[derive(Clone, Copy)]
+pub struct Said {
+    pub format: u8,
+    pub level: u8,
+    pub height: u8,
+    pub records: u32,
+}
+
+/// The head that says so, where it is that of a map of level 1 to 3 in a file of 16 pages.
+fn head_of(said: Said) -> Option<Head>
+    ensures { IfSome result (λ h. IsHead 16 h) }
 {
-    Head {
+    let Said {
+        format,
+        level,
+        height,
+        records,
+    } = said;
+    if format == 0 || format > 2 || level == 0 || level > 3 {
+        return None;
+    }
+    if height == 0 || height > 3 || records == 0 || records > 512 {
+        return None;
+    }
+    Some(Head {
         format,
         edition: 1,
-        level: 1,
+        level,
         root: 1,
         height,
         records,
-    }
+    })
 }
 
 /// The record of a layer of the catalog with a name of one letter.
@@ -90,20 +109,100 @@ pub fn entry(number: u32, letter: u8, kind: u8) -> Record {
     }
 }
 
-/// What an audit answers of a tree of one leaf with these records, at most 144.
-pub fn audited(
+/// What an audit answers of a file with these as the pages 1 and 2.
+pub fn surveyed(
+    alloc: Global,
+    one: &[u8; 4096],
+    two: &[u8; 4096],
+    said: Said,
+) -> Result<Result<Survey, Stop>, Fail> {
+    let Some(head) = head_of(said) else {
+        return Err(Fail::from("a header"));
+    };
+    let mut store = stored(alloc, one, two)?;
+    Ok(audit(alloc, &mut store, &head, 16))
+}
+
+/// What an audit answers of a tree of one leaf with these records, at most 144, where the header says so many.
+fn of_leaf(
+    alloc: Global,
+    records: &[Record],
+    format: u8,
+    level: u8,
+    stated: u32,
+) -> Result<Result<Survey, Stop>, Fail> {
+    if records.len() > 144 {
+        return Err(Fail::from("one leaf"));
+    }
+    let said = Said {
+        format,
+        level,
+        height: 1,
+        records: stated,
+    };
+    surveyed(alloc, &leaf_page(records), &BLANK, said)
+}
+
+/// How many records there are.
+fn count_of(records: &[Record]) -> u32 {
+    u32::try_from(records.len()).unwrap_or(u32::MAX)
+}
+
+/// What an audit finds of a map of level 1 whose tree is one leaf with these records.
+pub fn map_of(alloc: Global, records: &[Record], format: u8) -> Result<Survey, Fail> {
+    match of_leaf(alloc, records, format, 1, count_of(records))? {
+        Ok(survey) => Ok(survey),
+        Err(_) => Err(Fail::from("a map")),
+    }
+}
+
+/// Why an audit refuses a tree of one leaf with these records, if it does.
+pub fn refusal(
+    alloc: Global,
+    records: &[Record],
+    format: u8,
+    level: u8,
+) -> Result<Option<Stop>, Fail> {
+    Ok(of_leaf(alloc, records, format, level, count_of(records))?.err())
+}
+
+/// The same at level 1, where the header says another number of records.
+pub fn refusal_of(
     alloc: Global,
     records: &[Record],
     format: u8,
     stated: u32,
-) -> Result<Result<Survey, Stop>, Fail>
-    requires long { length records.now ≤ 144 }
-    requires format { (1 ≤ format) × (format ≤ 2) }
-    requires stated { (1 ≤ stated) × (stated ≤ 512) }
-{
-    let mut store = stored(alloc, &leaf_page(records), &BLANK)?;
-    Ok(audit(alloc, &mut store, &head(format, 1, stated), 16))
+) -> Result<Option<Stop>, Fail> {
+    Ok(of_leaf(alloc, records, format, 1, stated)?.err())
 }
 
 /// Page 0 is what is answered where each page passes.
 pub const NO_MAP: Option<Stop> = Some(Stop::Damaged { page: 0 });
+
+/// Each of these lists is refused at level 1, though each page passes.
+pub fn spell_no_map(
+    rt: &impl Abort,
+    alloc: Global,
+    format: u8,
+    lists: &[&[Record]],
+) -> Result<(), Fail> {
+    for (i, records) in lists.iter().enumerate() {
+        let found = refusal(alloc, records, format, 1)?;
+        assert!(rt; found == NO_MAP, "list {i}");
+    }
+    Ok(())
+}
+
+/// Each of these lists is that of a map of level 1.
+pub fn spell_maps(
+    rt: &impl Abort,
+    alloc: Global,
+    format: u8,
+    lists: &[&[Record]],
+) -> Result<(), Fail> {
+    for (i, records) in lists.iter().enumerate() {
+        let found = refusal(alloc, records, format, 1)?;
+        assert!(rt; found.is_none(), "list {i}");
+    }
+    Ok(())
+}

@@ -1,6 +1,5 @@
-ghost use Rattle.std.specs.Prelude.{◌≡◌, ◌≤◌};
-
-use crate::planted::{NO_MAP, audited, entry};
+use crate::lines::has_kind;
+use crate::planted::{NO_MAP, entry, refusal, refusal_of, spell_maps, spell_no_map};
 use quilt_record::{Key, Record};
 use quilt_types::{Kind, Stop};
 use std::test::Fail;
@@ -42,16 +41,11 @@ fn points(bucket: u8) -> Record {
 #[test]
 fn layers_of_one_block(rt: HostRuntime) -> Result<(), Fail> {
     let none = [points(0), bare(0, 0)];
-    let survey = audited(rt.alloc(), &none, 1, 2)?.ok().ok_or("a map")?;
-    let entries = survey.catalog.entries();
-    assert_eq!(rt; entries.len(), 1);
-    assert_eq!(rt; entries[0].kind, Kind::Points { bucket: 1 });
-    assert!(rt; audited(rt.alloc(), &none, 2, 2)?.is_ok());
+    assert!(rt; has_kind(rt.alloc(), &none, Kind::Points { bucket: 1 })?);
     let one = [points(0), held(0, 0, 0, 1, 0)];
-    assert!(rt; audited(rt.alloc(), &one, 1, 2)?.is_ok());
+    spell_maps(&rt, rt.alloc(), 1, &[&one])?;
     let two = [points(2), held(0, 0, 1, 0, 0), held(0, 0, 4, 1, 1)];
-    assert!(rt; audited(rt.alloc(), &two, 2, 3)?.is_ok());
-    Ok(())
+    spell_maps(&rt, rt.alloc(), 2, &[&none, &two])
 }
 
 #[test]
@@ -63,8 +57,8 @@ fn layers_of_four_blocks(rt: HostRuntime) -> Result<(), Fail> {
         bare(2, 1),
         held(3, 1, 0, 1, 1),
     ];
-    assert!(rt; audited(rt.alloc(), &one, 1, 5)?.is_ok());
-    assert_eq!(rt; audited(rt.alloc(), &one, 1, 4)?.err(), NO_MAP);
+    spell_maps(&rt, rt.alloc(), 1, &[&one])?;
+    assert_eq!(rt; refusal_of(rt.alloc(), &one, 1, 4)?, NO_MAP);
     let two = [
         points(2),
         held(0, 1, 1, 0, 0),
@@ -72,21 +66,16 @@ fn layers_of_four_blocks(rt: HostRuntime) -> Result<(), Fail> {
         bare(2, 1),
         held(3, 1, 4, 1, 1),
     ];
-    assert!(rt; audited(rt.alloc(), &two, 2, 5)?.is_ok());
-    Ok(())
+    spell_maps(&rt, rt.alloc(), 2, &[&two])
 }
 
 #[test]
 fn capacities_that_are_none(rt: HostRuntime) -> Result<(), Fail> {
     for bucket in [1, 17, 255] {
-        let records = [points(bucket), bare(0, 0)];
-        assert_eq!(rt; audited(rt.alloc(), &records, 2, 2)?.err(), NO_MAP);
+        spell_no_map(&rt, rt.alloc(), 2, &[&[points(bucket), bare(0, 0)]])?;
     }
-    let in_first = [points(2), bare(0, 0)];
-    assert_eq!(rt; audited(rt.alloc(), &in_first, 1, 2)?.err(), NO_MAP);
-    let lines = [entry(1, b'l', 3), bare(0, 0)];
-    assert_eq!(rt; audited(rt.alloc(), &lines, 2, 2)?.err(), NO_MAP);
-    Ok(())
+    spell_no_map(&rt, rt.alloc(), 1, &[&[points(2), bare(0, 0)]])?;
+    spell_no_map(&rt, rt.alloc(), 2, &[&[entry(1, b'l', 3), bare(0, 0)]])
 }
 
 #[test]
@@ -98,7 +87,6 @@ fn blocks_that_are_no_point_layer(rt: HostRuntime) -> Result<(), Fail> {
         bare(2, 1),
         held(3, 1, 0, 1, 1),
     ];
-    assert_eq!(rt; audited(rt.alloc(), &outside, 1, 5)?.err(), NO_MAP);
     let needless = [
         points(0),
         held(0, 1, 0, 0, 0),
@@ -106,21 +94,20 @@ fn blocks_that_are_no_point_layer(rt: HostRuntime) -> Result<(), Fail> {
         bare(2, 1),
         bare(3, 1),
     ];
-    assert_eq!(rt; audited(rt.alloc(), &needless, 1, 5)?.err(), NO_MAP);
     let gap = [
         points(0),
         held(0, 1, 0, 0, 0),
         bare(1, 1),
         held(3, 1, 0, 1, 1),
     ];
-    assert_eq!(rt; audited(rt.alloc(), &gap, 1, 4)?.err(), NO_MAP);
     let short = [
         points(0),
         held(0, 1, 0, 0, 0),
         held(1, 1, 0, 1, 0),
         bare(2, 1),
     ];
-    assert_eq!(rt; audited(rt.alloc(), &short, 1, 4)?.err(), NO_MAP);
+    let lists: [&[Record]; 4] = [&outside, &needless, &gap, &short];
+    spell_no_map(&rt, rt.alloc(), 1, &lists)?;
     let just_enough = [
         points(3),
         held(0, 1, 1, 0, 0),
@@ -128,8 +115,7 @@ fn blocks_that_are_no_point_layer(rt: HostRuntime) -> Result<(), Fail> {
         bare(2, 1),
         held(3, 1, 4, 1, 1),
     ];
-    assert_eq!(rt; audited(rt.alloc(), &just_enough, 2, 5)?.err(), NO_MAP);
-    Ok(())
+    spell_no_map(&rt, rt.alloc(), 2, &[&just_enough])
 }
 
 #[test]
@@ -140,15 +126,13 @@ fn points_that_are_no_layer(rt: HostRuntime) -> Result<(), Fail> {
         held(0, 0, 2, 1, 0),
         held(0, 0, 4, 1, 1),
     ];
-    assert_eq!(rt; audited(rt.alloc(), &many, 2, 4)?.err(), NO_MAP);
     let both = [points(2), bare(0, 0), held(0, 0, 1, 0, 0)];
-    assert_eq!(rt; audited(rt.alloc(), &both, 2, 3)?.err(), NO_MAP);
     let nought = [points(2), held(0, 0, 0, 0, 0)];
-    assert_eq!(rt; audited(rt.alloc(), &nought, 2, 2)?.err(), NO_MAP);
     let numbered = [points(0), held(0, 0, 1, 0, 0)];
-    assert_eq!(rt; audited(rt.alloc(), &numbered, 2, 2)?.err(), NO_MAP);
+    let lists: [&[Record]; 4] = [&many, &both, &nought, &numbered];
+    spell_no_map(&rt, rt.alloc(), 2, &lists)?;
     let twice = [points(2), held(0, 0, 1, 0, 0), held(0, 0, 1, 0, 0)];
     let root = Some(Stop::Damaged { page: 1 });
-    assert_eq!(rt; audited(rt.alloc(), &twice, 2, 3)?.err(), root);
+    assert_eq!(rt; refusal(rt.alloc(), &twice, 2, 1)?, root);
     Ok(())
 }

@@ -1,6 +1,8 @@
-use crate::planted::{NO_MAP, audited, entry};
-use quilt_record::{Key, Record};
+use crate::planted::{NO_MAP, entry, map_of, refusal_of, spell_maps, spell_no_map};
+use quilt_record::{Entry, Key, Record};
 use quilt_types::Kind;
+use std::alloc::Global;
+use std::process::Abort;
 use std::test::Fail;
 
 /// The record of a block of side 1 of the layer 1, with a colour of these bytes.
@@ -17,6 +19,30 @@ fn pixel(code: u32, low: u8, high: u8) -> Record {
     }
 }
 
+/// The layer of a catalog that has one.
+fn layer_of(entries: &[Entry]) -> Result<&Entry, Fail> {
+    match entries {
+        [one] => Ok(one),
+        _ => Err(Fail::from("one layer")),
+    }
+}
+
+/// The layer has this name and this number, and is a region.
+fn is_region(rt: &impl Abort, layer: &Entry, name: &str, number: u8) {
+    assert_eq!(rt; layer.name.text(), name);
+    assert_eq!(rt; layer.number, number);
+    assert_eq!(rt; layer.kind, Kind::Region);
+}
+
+/// The map of these records has the root's page alone, and one region.
+fn has_one_region(rt: &impl Abort, alloc: Global, records: &[Record]) -> Result<(), Fail> {
+    let survey = map_of(alloc, records, 1)?;
+    assert_eq!(rt; survey.used[0], 2);
+    assert_eq!(rt; survey.used[1], 0);
+    is_region(rt, layer_of(survey.catalog.entries())?, "a", 1);
+    Ok(())
+}
+
 #[test]
 fn a_region_of_four_pixels(rt: HostRuntime) -> Result<(), Fail> {
     let records = [
@@ -26,16 +52,9 @@ fn a_region_of_four_pixels(rt: HostRuntime) -> Result<(), Fail> {
         pixel(2, 0, 0),
         pixel(3, 1, 0),
     ];
-    let survey = audited(rt.alloc(), &records, 1, 5)?.ok().ok_or("a map")?;
-    assert_eq!(rt; survey.used[0], 2);
-    assert_eq!(rt; survey.used[1], 0);
-    let entries = survey.catalog.entries();
-    assert_eq!(rt; entries.len(), 1);
-    assert_eq!(rt; entries[0].name.text(), "a");
-    assert_eq!(rt; entries[0].number, 1);
-    assert_eq!(rt; entries[0].kind, Kind::Region);
-    assert_eq!(rt; audited(rt.alloc(), &records, 1, 4)?.err(), NO_MAP);
-    assert_eq!(rt; audited(rt.alloc(), &records, 1, 6)?.err(), NO_MAP);
+    has_one_region(&rt, rt.alloc(), &records)?;
+    assert_eq!(rt; refusal_of(rt.alloc(), &records, 1, 4)?, NO_MAP);
+    assert_eq!(rt; refusal_of(rt.alloc(), &records, 1, 6)?, NO_MAP);
     Ok(())
 }
 
@@ -49,11 +68,8 @@ fn blocks_that_are_no_layer(rt: HostRuntime) -> Result<(), Fail> {
         pixel(2, 0, 0),
         pixel(3, 0, 0),
     ];
-    assert_eq!(rt; audited(rt.alloc(), &same, 1, 5)?.err(), NO_MAP);
     let gap = [a, pixel(0, 0, 0), pixel(1, 0, 0), pixel(3, 1, 0)];
-    assert_eq!(rt; audited(rt.alloc(), &gap, 1, 4)?.err(), NO_MAP);
     let short = [a, pixel(0, 0, 0), pixel(1, 0, 0), pixel(2, 1, 0)];
-    assert_eq!(rt; audited(rt.alloc(), &short, 1, 4)?.err(), NO_MAP);
     let wide = [
         a,
         pixel(0, 0, 0),
@@ -61,7 +77,7 @@ fn blocks_that_are_no_layer(rt: HostRuntime) -> Result<(), Fail> {
         pixel(2, 0, 0),
         pixel(3, 0, 1),
     ];
-    assert_eq!(rt; audited(rt.alloc(), &wide, 1, 5)?.err(), NO_MAP);
-    assert!(rt; audited(rt.alloc(), &wide, 2, 5)?.is_ok());
-    Ok(())
+    let lists: [&[Record]; 4] = [&same, &gap, &short, &wide];
+    spell_no_map(&rt, rt.alloc(), 1, &lists)?;
+    spell_maps(&rt, rt.alloc(), 2, &[&wide])
 }

@@ -3,7 +3,5 @@
 
 mod memory;
 mod schedule;
-#[cfg(test)]
-mod tests;
 
 pub use memory::Memory;

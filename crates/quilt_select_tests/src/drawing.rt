@@ -1,78 +1,20 @@
-ghost use Rattle.std.specs.Prelude.{◌≡◌, ◌≤◌, true, All};
-ghost use Rattle.std.specs.Bool.{OnTrue};
-ghost use Rattle.quilt_types.specs.Layers.{is_in_square};
+ghost use Rattle.std.specs.Prelude.{◌≡◌, ◌≤◌};
 ghost use Rattle.quilt_types.specs.Plane.{is_window as is_window_of};
 
 use quilt_near::{Even, SegList};
+use quilt_plain::{are_in_square, drawn_coordinate, drawn_seg, next_state};
 use quilt_types::{Pixel, Seg, Window};
 use std::alloc::{AllocError, Global};
 use std::test::Fail;
-
-/// The next of a row of numbers that look drawn by lot.
-pub fn next(state: u64) -> u64 {
-    state
-        .wrapping_mul(6364136223846793005)
-        .wrapping_add(1442695040888963407)
-}
-
-/// A coordinate of the level out of the drawn number.
-fn coordinate(state: u64, place: u32, level: u8) -> u16
-    requires place { place ≤ 4 }
-    requires level { level ≤ 8 }
-{
-    ((state >> (20 + 8 * place)) % (1 << level)) as u16
-}
-
-/// A segment of the square of the level: of any ends, of one point, from a common end, or along a row, a diagonal or the
-/// border, so that many lie on one line.
-fn drawn_seg(state: u64, level: u8) -> Seg
-    requires { level ≤ 8 }
-{
-    let x1 = coordinate(state, 0, level);
-    let y1 = coordinate(state, 1, level);
-    let x2 = coordinate(state, 2, level);
-    let y2 = coordinate(state, 3, level);
-    let (x1, y1, x2, y2) = match state >> 61 {
-        0 => (x1, y1, x1, y1),
-        1 => (x1, y1, x2, y1),
-        2 => (x1, x1, x2, x2),
-        3 => (0, y1, 0, y2),
-        4 => (1, 1, x2, y2),
-        _ => (x1, y1, x2, y2),
-    };
-    Seg { x1, y1, x2, y2 }
-}
-
-/// Whether the ends of the segment are pixels of the level.
-fn is_within(level: u8, s: Seg) -> bool
-    requires { level ≤ 12 }
-    ensures { result ≡ is_in_square level s }
-{
-    let side = 1_u16 << level;
-    s.x1 < side && s.y1 < side && s.x2 < side && s.y2 < side
-}
-
-/// Whether the ends of the segments are pixels of the level.
-fn are_in_square(level: u8, list: &[(u32, Seg)]) -> bool
-    requires { level ≤ 12 }
-    ensures { OnTrue result (All (λ e. is_in_square level e.1 ≡ true) list.now) }
-{
-    for (_, s) in list {
-        if !is_within(level, *s) {
-            return false;
-        }
-    }
-    true
-}
 
 /// Segments of the square of the level, under ids that rise by three.
 fn drawn_segs(alloc: Global, level: u8, seed: u64) -> Result<SegList, AllocError>
     requires { level ≤ 8 }
 {
     let mut list = SegList::new(alloc);
-    let mut state = next(seed);
+    let mut state = next_state(seed);
     for i in 0..(state >> 60) as u32 {
-        state = next(state);
+        state = next_state(state);
         list.push(3 * i, drawn_seg(state, level))?;
     }
     Ok(list)
@@ -101,7 +43,7 @@ pub fn drawn_layer(alloc: Global, level: u8, seed: u64) -> Result<Even, Fail> {
         return Err(Fail::from("a level"));
     }
     let segs = drawn_segs(alloc, level, seed)?;
-    let side = drawn_side(next(next(seed)));
+    let side = drawn_side(next_state(next_state(seed)));
     let layer = layer_of(level, side, segs).ok_or("a layer")?;
     Ok(layer)
 }
@@ -131,8 +73,8 @@ pub fn drawn_pixel(state: u64, level: u8) -> Pixel
     requires { level ≤ 8 }
 {
     Pixel {
-        x: coordinate(state, 0, level).min(8191),
-        y: coordinate(state, 1, level).min(8191),
+        x: drawn_coordinate(state, 0, level).min(8191),
+        y: drawn_coordinate(state, 1, level).min(8191),
     }
 }
 
@@ -149,8 +91,14 @@ pub fn is_window(level: u8, w: Window) -> bool
 pub fn drawn_window(state: u64, level: u8) -> Window
     requires { level ≤ 8 }
 {
-    let (x1, x2) = (coordinate(state, 0, level), coordinate(state, 2, level));
-    let (y1, y2) = (coordinate(state, 1, level), coordinate(state, 3, level));
+    let (x1, x2) = (
+        drawn_coordinate(state, 0, level),
+        drawn_coordinate(state, 2, level),
+    );
+    let (y1, y2) = (
+        drawn_coordinate(state, 1, level),
+        drawn_coordinate(state, 3, level),
+    );
     Window {
         x: x1.min(x2),
         y: y1.min(y2),
@@ -166,7 +114,7 @@ pub fn drawn_colours(alloc: Global, level: u8, seed: u64) -> Result<Vec<u8>, All
     let mut bytes = Vec::new(alloc);
     let mut state = seed;
     for _ in 0..1_u32 << (2 * level) {
-        state = next(state);
+        state = next_state(state);
         bytes.push(0)?;
         bytes.push(if state >> 60 == 0 { 7 } else { 0 })?;
     }

@@ -1,12 +1,11 @@
 ghost use Rattle.std.specs.Prelude.{◌≤◌};
 
 use crate::asking::{clips_of, cross_of, nearest_of, new_store, over_of, ranks_of};
-use crate::drawing::{
-    between, drawn_colours, drawn_layer, drawn_pixel, drawn_window, next, small_layer,
-};
+use crate::drawing::{between, drawn_colours, drawn_layer, drawn_pixel, drawn_window, small_layer};
 use crate::plain::{coloured, plain_clips, plain_cross, plain_over, plain_ranks};
 use quilt_blocks::LeafList;
 use quilt_near::Even;
+use quilt_plain::next_state;
 use quilt_raster::leaves_of;
 use quilt_store::MemStore;
 use quilt_types::{Pixel, Window};
@@ -38,7 +37,7 @@ fn pixels_rank_as_all_segments_sorted(rt: HostRuntime) -> Result<(), Fail> {
     for level in 1..=6_u8 {
         for seed in 0..LAYERS {
             let layer = drawn_layer(rt.alloc(), level, seed)?;
-            let p = drawn_pixel(next(next(next(seed))), level);
+            let p = drawn_pixel(next_state(next_state(next_state(seed))), level);
             assert!(rt;
                 are_ranked(rt.alloc(), &layer, &mut store, p)?,
                 "{p:?} at {level}, {seed}"
@@ -68,7 +67,7 @@ fn windows_select_and_clip_as_a_plain_filter_does(rt: HostRuntime) -> Result<(),
     for level in 1..=6_u8 {
         for seed in 0..LAYERS {
             let layer = drawn_layer(rt.alloc(), level, seed)?;
-            let w = drawn_window(next(next(next(seed))), level);
+            let w = drawn_window(next_state(next_state(next_state(seed))), level);
             let met = are_met(rt.alloc(), &layer, &mut store, w)?;
             let clipped = are_clipped(rt.alloc(), &layer, &mut store, w)?;
             assert!(rt;
@@ -114,7 +113,7 @@ fn regions_select_as_a_plain_filter_does(rt: HostRuntime) -> Result<(), Fail> {
     for level in 1..=6_u8 {
         for seed in 0..LAYERS {
             let layer = drawn_layer(rt.alloc(), level, seed)?;
-            let bytes = drawn_colours(rt.alloc(), level, next(next(next(seed))))?;
+            let bytes = drawn_colours(rt.alloc(), level, next_state(next_state(next_state(seed))))?;
             assert!(rt;
                 are_over(rt.alloc(), &layer, &mut store, level, &bytes)?,
                 "at {level}, {seed}"

@@ -44,7 +44,7 @@ fn two_small_maps(rt: HostRuntime) -> Result<(), Fail> {
 }
 
 /// The map of this colour in the upper left corner and one other everywhere else.
-fn list_of_two(alloc: Global, level: u8, corner: u16, other: u16) -> Result<LeafList, Fail> {
+pub fn list_of_two(alloc: Global, level: u8, corner: u16, other: u16) -> Result<LeafList, Fail> {
     let mut colours = Vec::new(alloc);
     colours.push(corner)?;
     for _ in 1..1_u32 << (2 * level.min(12)) {

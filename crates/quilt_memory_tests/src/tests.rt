@@ -1,8 +1,8 @@
 ghost use Rattle.std.specs.Prelude.{IfOk, IfSome};
 ghost use Rattle.quilt_host.specs.Worlds.{IsUnasked};
 
-use crate::Memory;
 use quilt_host::{HostWorld, System};
+use quilt_memory::Memory;
 use quilt_world::{Attached, Disk, Fault, Made, World};
 use std::alloc::{AllocError, Global};
 use std::test::Fail;

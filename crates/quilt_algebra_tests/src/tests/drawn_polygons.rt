@@ -1,11 +1,10 @@
 //! Drawn rings beside a plain count of the edges to the right of each pixel.
 
-ghost use Rattle.std.specs.Prelude.{◌≡◌, ◌≤◌, IfOk};
-
+use crate::comparing::colour_in;
 use quilt_blocks::LeafList;
 use quilt_plain::Dice;
 use quilt_poly::region_of;
-use quilt_types::{Colour, Corner, Pixel, RingList};
+use quilt_types::{Colour, Corner, RingList};
 use std::alloc::{AllocError, Global};
 use std::process::Abort;
 use std::test::Fail;
@@ -74,10 +73,10 @@ fn drawn_rings(
 
 /// Whether the line to the right from the middle of the pixel crosses the edge between two corners. All is doubled, so that
 /// the middle has whole coordinates.
-fn is_crossed(p: Pixel, a: Corner, b: Corner) -> bool {
+fn is_crossed(x: u16, y: u16, a: Corner, b: Corner) -> bool {
     let (top, bottom) = if a.y <= b.y { (a, b) } else { (b, a) };
     let twice = |n: u16| i64::from(n).wrapping_mul(2);
-    let (x, y) = (twice(p.x).wrapping_add(1), twice(p.y).wrapping_add(1));
+    let (x, y) = (twice(x).wrapping_add(1), twice(y).wrapping_add(1));
     let (left, up) = (twice(top.x), twice(top.y));
     let (right, down) = (twice(bottom.x), twice(bottom.y));
     let to_the_middle = x.wrapping_sub(left).wrapping_mul(down.wrapping_sub(up));
@@ -86,11 +85,11 @@ fn is_crossed(p: Pixel, a: Corner, b: Corner) -> bool {
 }
 
 /// How many edges of the ring, with that from its last corner to its first, are crossed.
-fn crossed(p: Pixel, ring: &[Corner]) -> u32 {
+fn crossed(x: u16, y: u16, ring: &[Corner]) -> u32 {
     let mut count = 0_u32;
     let mut before = ring.last().copied();
     for corner in ring {
-        if before.is_some_and(|it| is_crossed(p, it, *corner)) {
+        if before.is_some_and(|it| is_crossed(x, y, it, *corner)) {
             count = count.wrapping_add(1);
         }
         before = Some(*corner);
@@ -99,40 +98,45 @@ fn crossed(p: Pixel, ring: &[Corner]) -> u32 {
 }
 
 /// Whether an odd number of edges of all rings is crossed.
-fn is_inside(p: Pixel, rings: &RingList) -> bool {
+fn is_inside(x: u16, y: u16, rings: &RingList) -> bool {
     let mut count = 0_u32;
     for i in 0..rings.len() {
-        count = count.wrapping_add(crossed(p, rings.corners(i)));
+        count = count.wrapping_add(crossed(x, y, rings.corners(i)));
     }
     count % 2 == 1
 }
 
 /// The leaves of the rings in colour 513.
-fn filled(alloc: Global, rings: &RingList, level: u8) -> Result<LeafList, AllocError>
-    requires least { 1 ≤ level }
-    requires most { level ≤ 12 }
-    ensures { IfOk result (λ list. list.level ≡ level) }
-{
-    region_of(alloc, rings, Colour(513), level)
+fn filled(alloc: Global, rings: &RingList, level: u8) -> Result<LeafList, Fail> {
+    if level == 0 || level > 12 {
+        return Err(Fail::from("a level"));
+    }
+    let list = region_of(alloc, rings, Colour(513), level)?;
+    Ok(list)
 }
 
-/// Compares each pixel, and says how many are inside.
-fn compare(rt: &impl Abort, list: &LeafList, rings: &RingList, level: u8) -> u32
-    requires level { list.now.level ≡ level }
-    requires most { level ≤ 8 }
-{
-    let side = 1_u16 << level;
+/// Compares each pixel of a square of this side, and says how many are inside.
+fn compare(rt: &impl Abort, list: &LeafList, rings: &RingList, side: u16) -> u32 {
     let mut inside = 0_u32;
     for y in 0..side {
         for x in 0..side {
-            let p = Pixel { x, y };
-            let wanted = is_inside(p, rings);
-            let colour = if wanted { Colour(513) } else { Colour(0) };
-            assert_eq!(rt; list.colour_at(p), colour);
-            inside = inside.wrapping_add(u32::from(wanted));
+            let is_inside = is_inside(x, y, rings);
+            assert_eq!(rt;
+                colour_in(list, x, y),
+                Some(if is_inside { 513 } else { 0 })
+            );
+            inside = inside.wrapping_add(u32::from(is_inside));
         }
     }
     inside
+}
+
+/// Draws a polygon and compares each pixel: how many are inside.
+fn try_one(rt: &impl Abort, alloc: Global, dice: &mut Dice, level: u8) -> Result<u32, Fail> {
+    let side = 1_u16.wrapping_shl(u32::from(level));
+    let rings = drawn_rings(rt, dice, side, alloc)?;
+    let list = filled(alloc, &rings, level)?;
+    Ok(compare(rt, &list, &rings, side))
 }
 
 /// 200 drawn polygons, forty of each level from 1 to 5.
@@ -140,13 +144,9 @@ fn compare(rt: &impl Abort, list: &LeafList, rings: &RingList, level: u8) -> u32
 fn drawn_polygons(rt: HostRuntime) -> Result<(), Fail> {
     let mut dice = Dice::new(18);
     let mut inside = 0_u32;
-    for level in 1..6_u8 {
-        let side = 1_u16 << level;
-        for _ in 0..40 {
-            let rings = drawn_rings(&rt, &mut dice, side, rt.alloc())?;
-            let list = filled(rt.alloc(), &rings, level)?;
-            inside = inside.wrapping_add(compare(&rt, &list, &rings, level));
-        }
+    for turn in 0..200_u8 {
+        let level = turn / 40 + 1;
+        inside = inside.wrapping_add(try_one(&rt, rt.alloc(), &mut dice, level)?);
     }
     assert!(rt; 1000 < inside);
     Ok(())
@@ -158,9 +158,7 @@ fn drawn_polygons_of_several_words(rt: HostRuntime) -> Result<(), Fail> {
     let mut dice = Dice::new(81);
     let mut inside = 0_u32;
     for _ in 0..4 {
-        let rings = drawn_rings(&rt, &mut dice, 256, rt.alloc())?;
-        let list = filled(rt.alloc(), &rings, 8)?;
-        inside = inside.wrapping_add(compare(&rt, &list, &rings, 8));
+        inside = inside.wrapping_add(try_one(&rt, rt.alloc(), &mut dice, 8)?);
     }
     assert!(rt; 0 < inside);
     Ok(())
