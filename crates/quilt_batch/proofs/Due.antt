@@ -10,7 +10,7 @@ use Rattle.quilt_record.specs.Lists.{has_key, put, without}
 use Rattle.quilt_record.proofs.Orders.{lt_not_eq}
 use Rattle.quilt_node.specs.Pages.{is_ascending}
 use Rattle.quilt_node.specs.Nodes.{keys_of}
-use Rattle.quilt_node.proofs.Ascending.{and_both, and_parts, is_over, ascending_all, ascending_tail}
+use Rattle.quilt_node.proofs.Ascending.{is_over, ascending_all, ascending_tail}
 use Rattle.quilt_btree.specs.declared.edit.Edit.{Edit}
 use Rattle.quilt_btree.specs.declared.edit.Edit.TheVariants as edit
 use Rattle.quilt_btree.specs.Batches.{edit_keys, is_due, are_due, removed, records_put}
@@ -18,6 +18,7 @@ use Rattle.quilt_btree.specs.Runs.{without_all, has_each, has_any}
 use Rattle.quilt_btree.proofs.removals.Takings.{any_without_above, each_after}
 use Rattle.quilt_btree.proofs.batches.Lists.{swap_all, gone_keys}
 use Rattle.quilt_btree.proofs.batches.Whole.{asc_edited}
+use Rattle.std.proofs.lemmas.Bool.{and_parts, and_from}
 
 or_parts : (a b : Bool) → a || b ≡ false → (a ≡ false) × (b ≡ false)
 or_parts true b h = cc
@@ -58,16 +59,16 @@ come_keys : (p : Key → Bool) (run : List Edit) → list_all p (edit_keys run) 
 come_keys p [] h = refl
 come_keys p (edit.Remove k ∷ run) h = come_keys p run (and_parts (p k) (list_all p (edit_keys run)) h).1
 come_keys p (edit.Put r ∷ run) h =
-    let t = and_parts (p r.key) (list_all p (edit_keys run)) h in and_both (p r.key) (list_all (λ a. p a.key) (records_put run)) t.0 (come_keys p run t.1)
+    let t = and_parts (p r.key) (list_all p (edit_keys run)) h in and_from (p r.key) (list_all (λ a. p a.key) (records_put run)) t.0 (come_keys p run t.1)
 come_keys p (edit.Replace r ∷ run) h =
-    let t = and_parts (p r.key) (list_all p (edit_keys run)) h in and_both (p r.key) (list_all (λ a. p a.key) (records_put run)) t.0 (come_keys p run t.1)
+    let t = and_parts (p r.key) (list_all p (edit_keys run)) h in and_from (p r.key) (list_all (λ a. p a.key) (records_put run)) t.0 (come_keys p run t.1)
 
 all_single : (k : Key) (ks : List Key) → list_all (is_over k) ks ≡ true → list_all (λ y. list_all (λ m. is_lt (key_cmp m y)) (k ∷ [])) ks ≡ true
 all_single k [] h = refl
 all_single k (y ∷ ks) h =
     let t = and_parts (is_over k y) (list_all (is_over k) ks) h in
-    and_both (list_all (λ m. is_lt (key_cmp m y)) (k ∷ [])) (list_all (λ y. list_all (λ m. is_lt (key_cmp m y)) (k ∷ [])) ks)
-    (and_both (is_lt (key_cmp k y)) true t.0 refl) (all_single k ks t.1)
+    and_from (list_all (λ m. is_lt (key_cmp m y)) (k ∷ [])) (list_all (λ y. list_all (λ m. is_lt (key_cmp m y)) (k ∷ [])) ks)
+    (and_from (is_lt (key_cmp k y)) true t.0 refl) (all_single k ks t.1)
 
 -- no later record that comes is there behind an earlier one, once the others have gone
 none_put : (run : List Edit) (r : Record) (rs : List Record) → list_all (is_over r.key) (edit_keys run) ≡ true → is_ascending (keys_of rs) ≡ true
@@ -83,21 +84,21 @@ due_in_turn [] rs o a each none = refl
 due_in_turn (edit.Remove k ∷ run) rs o a each none =
     let over = ascending_all k (edit_keys run) o in
     let t = and_parts (list_any (has_key k) rs) (has_each (removed run) rs) each in
-    and_both (is_due (edit.Remove k) rs) (are_due run (without k rs)) t.0
+    and_from (is_due (edit.Remove k) rs) (are_due run (without k rs)) t.0
     (due_in_turn run (without k rs) (ascending_tail k (edit_keys run) o) (asc_edited (edit.Remove k) rs a t.0)
     (each_after (removed run) (k ∷ []) rs (all_single k (removed run) (gone_keys (is_over k) run over)) ∙ t.1) none)
 due_in_turn (edit.Put r ∷ run) rs o a each none =
     let over = ascending_all r.key (edit_keys run) o in
     let n = or_parts (list_any (has_key r.key) (without_all (removed run) rs)) (has_any (records_put run) (without_all (removed run) rs)) none in
     let fresh = ap not (sym (any_all_above r.key (removed run) rs (gone_keys (is_over r.key) run over)) ∙ n.0) in
-    and_both (is_due (edit.Put r) rs) (are_due run (put r rs)) fresh
+    and_from (is_due (edit.Put r) rs) (are_due run (put r rs)) fresh
     (due_in_turn run (put r rs) (ascending_tail r.key (edit_keys run) o) (asc_edited (edit.Put r) rs a fresh)
     (each_put (removed run) r rs (gone_keys (is_over r.key) run over) ∙ each) (none_put run r rs over a n.1))
 due_in_turn (edit.Replace r ∷ run) rs o a each none =
     let over = ascending_all r.key (edit_keys run) o in
     let t = and_parts (list_any (has_key r.key) rs) (has_each (removed run) rs) each in
     let n = or_parts (list_any (has_key r.key) (without_all (r.key ∷ removed run) rs)) (has_any (records_put run) (without_all (r.key ∷ removed run) rs)) none in
-    and_both (is_due (edit.Replace r) rs) (are_due run (put r (without r.key rs))) t.0
+    and_from (is_due (edit.Replace r) rs) (are_due run (put r (without r.key rs))) t.0
     (due_in_turn run (put r (without r.key rs)) (ascending_tail r.key (edit_keys run) o) (asc_edited (edit.Replace r) rs a t.0)
     (each_put (removed run) r (without r.key rs) (gone_keys (is_over r.key) run over)
     ∙ each_after (removed run) (r.key ∷ []) rs (all_single r.key (removed run) (gone_keys (is_over r.key) run over)) ∙ t.1)

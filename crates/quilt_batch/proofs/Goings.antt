@@ -10,13 +10,14 @@ use Rattle.quilt_record.specs.Records.{key_cmp}
 use Rattle.quilt_record.proofs.Orders.{lt_lt}
 use Rattle.quilt_node.specs.Pages.{is_ascending}
 use Rattle.quilt_node.specs.Nodes.{keys_of}
-use Rattle.quilt_node.proofs.Ascending.{and_both, and_parts, all_follow, is_over, is_under, ascending_all, ascending_join, ascending_back, ascending_front}
+use Rattle.quilt_node.proofs.Ascending.{all_follow, is_over, is_under, ascending_all, ascending_join, ascending_back, ascending_front}
 use Rattle.quilt_btree.specs.declared.edit.Edit.{Edit}
 use Rattle.quilt_btree.specs.declared.edit.Edit.TheVariants as edit
 use Rattle.quilt_btree.specs.Batches.{edit_keys, key_of, removed, records_put, more, fewer}
 use Rattle.quilt_btree.specs.Runs.{without_all, has_each, has_any}
 use Rattle.quilt_batch.specs.Merges.{IsFirstEdit, IsMerge, goes_of, comes_of}
 use Rattle.quilt_batch.proofs.Due.{due_in_turn}
+use Rattle.std.proofs.lemmas.Bool.{and_parts, and_from}
 
 -- the merge of two lists has come so far: these edits are made, and these records are left of each list
 pub record HasMerged (old_goes old_comes : List Record) (run : List Edit) (goes comes : List Record) : Type 0 where
@@ -48,7 +49,7 @@ keys_last (f ∷ run) e = ap (λ ks. key_of f ∷ ks) (keys_last run e)
 under_next : (ks : List Key) (k : Key) (ls : List Key) → is_ascending (ks ++ k ∷ ls) ≡ true → list_all (is_under k) ks ≡ true
 under_next [] k ls h = refl
 under_next (m ∷ ks) k ls h =
-    and_both (is_under k m) (list_all (is_under k) ks) (among m ks k ls (ascending_all m (ks ++ k ∷ ls) h)) (under_next ks k ls (ascending_back (m ∷ []) (ks ++ k ∷ ls) h))
+    and_from (is_under k m) (list_all (is_under k) ks) (among m ks k ls (ascending_all m (ks ++ k ∷ ls) h)) (under_next ks k ls (ascending_back (m ∷ []) (ks ++ k ∷ ls) h))
   where
     among : (m : Key) (ks : List Key) (k : Key) (ls : List Key) → list_all (is_over m) (ks ++ k ∷ ls) ≡ true → is_over m k ≡ true
     among m [] k ls h = (and_parts (is_over m k) (list_all (is_over m) ls) h).0
@@ -60,7 +61,7 @@ put_before : (ks : List Key) (k : Key) (l : Key) (ls : List Key) → list_all (i
 put_before ks k l ls under less h =
     let rest = ascending_back ks (l ∷ ls) h in
     ascending_join k ks (l ∷ ls) under
-    (and_both (is_over k l) (list_all (is_over k) ls) less (all_follow (is_over l) (is_over k) (λ m g. lt_lt k l m less g) ls (ascending_all l ls rest)))
+    (and_from (is_over k l) (list_all (is_over k) ls) less (all_follow (is_over l) (is_over k) (λ m g. lt_lt k l m less g) ls (ascending_all l ls rest)))
     (ascending_front ks (l ∷ ls) h) rest
 
 put_last : (ks : List Key) (k : Key) → list_all (is_under k) ks ≡ true → is_ascending (ks ++ []) ≡ true → is_ascending (ks ++ k ∷ []) ≡ true

@@ -4,7 +4,7 @@ ghost use Rattle.quilt_record.specs.Records.{key_cmp};
 ghost use Rattle.quilt_record.specs.declared.record.Record.{Record};
 ghost use Rattle.quilt_node.specs.Pages.{is_ascending};
 ghost use Rattle.quilt_node.specs.Nodes.{keys_of};
-ghost use Rattle.quilt_node.specs.Tree.{Bounds};
+ghost use Rattle.quilt_node.specs.Tree.{Bounds, is_below};
 ghost use Rattle.quilt_store.specs.Stops.{IsNotDamage};
 ghost use Rattle.quilt_btree.specs.Costs.{EditsWithin};
 ghost use Rattle.quilt_btree.specs.Stops.{NamesPage};
@@ -25,6 +25,16 @@ pub fn precedes(a: &Key, b: &Key) -> bool
     ensures { result ≡ is_lt (key_cmp a.now b.now) }
 {
     a < b
+}
+
+/// Whether a key is below the one that parts a leaf from the next.
+pub fn is_under(k: &Key, high: &Option<Key>) -> bool
+    ensures { result ≡ is_below high.now k.now }
+{
+    match high {
+        None => true,
+        Some(high) => k < high,
+    }
 }
 
 /// Whether the keys of two leaves ascend, one behind the other.

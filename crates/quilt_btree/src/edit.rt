@@ -6,6 +6,7 @@ ghost use Rattle.quilt_node.specs.Pages.{leaf_of};
 ghost use Rattle.quilt_node.specs.Tree.{is_below};
 ghost use Rattle.quilt_btree.specs.Batches.{key_of, edit_keys, is_due, edited, edit_all, are_due, size_behind, size_after, HasRoom, HasRoomFor, EditsLeaf, Fails};
 
+use crate::balance::is_under;
 use quilt_node::{
     LEAST_RECORDS, MOST_RECORDS, find_in, insert_in, records_in, remove_in, replace_in,
 };
@@ -30,16 +31,6 @@ impl Edit {
             Edit::Put { record } => &record.key,
             Edit::Replace { record } => &record.key,
         }
-    }
-}
-
-/// Whether a key stays below a bound.
-fn stays_below(k: &Key, high: &Option<Key>) -> bool
-    ensures { result ≡ is_below high.now k.now }
-{
-    match high {
-        None => true,
-        Some(high) => k < high,
     }
 }
 
@@ -77,7 +68,7 @@ fn planned(n: usize, least: usize, high: &Option<Key>, run: &[Edit]) -> usize
     let mut count = n;
     let mut best = 0;
     for i in 0..run.len() {
-        if !stays_below(run[i].key(), high) {
+        if !is_under(run[i].key(), high) {
             return best;
         }
         match count_behind(count, &run[i]) {

@@ -1,6 +1,5 @@
 ghost use Rattle.std.specs.Prelude.{◌≡◌, ℕ, ◌+◌, ◌≤◌, true, IfOk, IfErr, IfSome, OnOk, List, Option, Some};
 ghost use Rattle.quilt_record.specs.declared.record.Record.{Record};
-ghost use Rattle.quilt_node.specs.Tree.{is_below};
 ghost use Rattle.quilt_store.specs.Calls.{OnlyReads};
 ghost use Rattle.quilt_world.specs.Tale.{Goes};
 ghost use Rattle.quilt_store.specs.Stops.{IsNotDamage};
@@ -10,6 +9,7 @@ ghost use Rattle.quilt_btree.specs.Fingers.{IsFinger};
 ghost use Rattle.quilt_btree.specs.Stops.{NamesPage};
 ghost use Rattle.quilt_btree.specs.Trees.{IsRooted, IsTree};
 
+use crate::balance::is_under;
 use crate::pages::stop_of;
 use crate::search::floor_in;
 use crate::step::leaf_for;
@@ -104,15 +104,5 @@ fn floor_at_finger(finger: &Option<Finger>, k: &Key) -> Option<Record>
                 None
             }
         }
-    }
-}
-
-/// Whether a key is below the one that parts a leaf from the next.
-fn is_under(k: &Key, high: &Option<Key>) -> bool
-    ensures { result ≡ is_below high.now k.now }
-{
-    match high {
-        None => true,
-        Some(high) => k < high,
     }
 }

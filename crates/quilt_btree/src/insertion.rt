@@ -1,9 +1,9 @@
-ghost use Rattle.std.specs.Prelude.{◌≡◌, ◌≢◌, ℕ, ◌+◌, ◌*◌, ◌<◌, ◌≤◌, Bool, true, List, [], ◌∷◌, ◌++◌, IfOk, IfErr, OnOk, length, take, drop};
+ghost use Rattle.std.specs.Prelude.{◌≡◌, ◌≢◌, ◌⊎◌, ℕ, ◌+◌, ◌*◌, ◌<◌, ◌≤◌, Bool, true, List, [], ◌∷◌, ◌++◌, Some, None, IfOk, IfErr, OnOk, length, take, drop};
 ghost use Rattle.std.specs.List.{insert, list_all, list_any};
 ghost use Rattle.std.specs.Ordering.{is_lt};
 ghost use Rattle.quilt_record.specs.Records.{key_cmp};
 ghost use Rattle.quilt_record.specs.declared.record.Record.{Record};
-ghost use Rattle.quilt_node.specs.Pages.{is_ascending};
+ghost use Rattle.quilt_node.specs.Pages.{Inner, inner_of, is_ascending};
 ghost use Rattle.quilt_node.specs.Nodes.{IsGap, are_pages};
 ghost use Rattle.quilt_node.specs.Edits.{with_child};
 ghost use Rattle.quilt_node.specs.Tree.{Bounds};
@@ -21,16 +21,16 @@ ghost use Rattle.quilt_btree.specs.Inserts.{IsPending, DidPut, AreFew, LeavesIns
 
 use crate::balance::precedes;
 use crate::outcomes::Inserted;
-use crate::pages::{inner_at_fault, inner_high, read_leaf};
-use crate::search::read_path;
+use crate::search::{read_into, read_path};
 use crate::split::write_split;
 use crate::writes::write_page;
-use quilt_node::{InnerPage, LeafPage, MOST_CHILDREN, MOST_RECORDS};
+use quilt_node::{InnerPage, LeafPage, MOST_CHILDREN, MOST_RECORDS, is_inner, is_leaf};
 use quilt_record::{Key, Record};
 use quilt_store::PageStore;
 use quilt_types::Stop;
 
-/// Puts a record into the leaf at a page, which is read once and written once.
+/// Puts a record into the leaf at a page, which is read once and written once. It is read into a buffer of its own: a page that a call answers would be
+/// cleared first.
 pub fn insert_leaf<S: PageStore>(store: &mut S, page: u32, r: &Record) -> Result<Inserted, Stop>
     requires { (1 ≤ page) × (page < S.size store.old) }
     ensures inserted { IfOk result (λ o. (is_root : Bool) (b : Bounds) (rs : List Record) (used : List ℕ)
@@ -45,10 +45,12 @@ pub fn insert_leaf<S: PageStore>(store: &mut S, page: u32, r: &Record) -> Result
     ensures bad { IfErr result (λ e. e ≢ Damaged 0 → NamesBad (S.told store.old) 1 page e) }
     ensures left { EditsWithin S.PageStore 2 1 store.old store.new result }
 {
-    let mut leaf = match read_leaf(store, page, page) {
-        Err(e) => return Err(e),
-        Ok(leaf) => leaf,
-    };
+    let mut bytes = [0; 4096];
+    read_into(store, page, &mut bytes)?;
+    if !is_leaf(&bytes) {
+        return Err(Stop::Damaged { page });
+    }
+    let mut leaf = LeafPage::from_bytes(bytes);
     match leaf.find(&r.key) {
         Ok(_) => Ok(Inserted::There),
         Err(i) => put_record(store, page, &mut leaf, i, r),
@@ -115,6 +117,7 @@ fn fits(inner: &InnerPage, i: usize, k: &Key) -> bool
 
 /// Puts key `i` and child `i + 1` into a full inner page, which is split, and writes both halves. It stands by itself so that the page on the right is
 /// cleared only here.
+#[inline(never)]
 fn split_child<S: PageStore>(
     store: &mut S,
     page: u32,
@@ -185,6 +188,45 @@ pub fn put_child<S: PageStore>(
     split_child(store, page, inner, i, key, child)
 }
 
+/// Puts key `i` and child `i + 1` into the inner page of this height that was read at a page, and writes it there. The page is said to be
+/// damaged where the bytes are no inner page, and page 0 where they are one of another height. It stands by itself so that the page is copied only where
+/// a child was split.
+#[inline(never)]
+fn put_in_page<S: PageStore>(
+    store: &mut S,
+    page: u32,
+    height: u8,
+    bytes: &[u8; 4096],
+    i: usize,
+    key: &Key,
+    child: u32,
+) -> Result<Inserted, Stop>
+    requires page { (1 ≤ page) × (page < S.size store.old) }
+    requires place { (inner : Inner) → inner_of (S.size store.old) bytes.now ≡ Some inner → i < length inner.children }
+    requires child { 1 ≤ child }
+    ensures put { IfOk result (λ o. (inner : Inner) → inner_of (S.size store.old) bytes.now ≡ Some inner → (is_root : Bool) (b : Bounds) (all : List Record) (under : List ℕ)
+        → IsPending (S.told store.old) (S.free store.old) page is_root b (with_child inner i key.now child) all under
+        → DidPut (S.told store.old) (S.told store.new) (S.free store.old) (S.free store.new) page inner.height is_root b (under ++ page ∷ []) all o) }
+    ensures sound { IfErr result (λ e. (inner : Inner) → inner_of (S.size store.old) bytes.now ≡ Some inner → inner.height ≡ height
+        → (is_root : Bool) (b : Bounds) (all : List Record) (under : List ℕ)
+        → IsPending (S.told store.old) (S.free store.old) page is_root b (with_child inner i key.now child) all under
+        → 0 < count_free (S.free store.old) (S.size store.old) → (inner.height ≡ 3 → length inner.children < 254) → IsNotDamage e) }
+    ensures leaves { LeavesPut S.PageStore store.old store.new result }
+    ensures fault { IfErr result (λ e. (q : ℕ) → e ≡ Damaged q → (q ≡ 0) ⊎ ((q ≡ page) × (inner_of (S.size store.old) bytes.now ≡ None))) }
+    ensures left { EditsWithin S.PageStore 2 0 store.old store.new result }
+    ensures less { height ≡ 3 → S.changed store.new ≤ S.changed store.old + 1 }
+{
+    let pages = store.pages();
+    if !is_inner(bytes, pages) {
+        return Err(Stop::Damaged { page });
+    }
+    if bytes[1] != height {
+        return Err(Stop::Damaged { page: 0 });
+    }
+    let mut inner = InnerPage::from_bytes(*bytes, pages);
+    put_child(store, page, &mut inner, i, key, child)
+}
+
 /// Puts a record into the subtree at a page.
 pub fn insert_under<S: PageStore>(
     store: &mut S,
@@ -214,11 +256,8 @@ pub fn insert_under<S: PageStore>(
     match insert_under(store, path.child, height - 1, r)? {
         Inserted::There => Ok(Inserted::There),
         Inserted::Done => Ok(Inserted::Done),
-        Inserted::Split { key, right } => match inner_high(&bytes, store.pages(), height) {
-            None => Err(Stop::Damaged {
-                page: inner_at_fault(&bytes, store.pages(), page),
-            }),
-            Some(mut inner) => put_child(store, page, &mut inner, path.place, &key, right),
-        },
+        Inserted::Split { key, right } => {
+            put_in_page(store, page, height, &bytes, path.place, &key, right)
+        }
     }
 }

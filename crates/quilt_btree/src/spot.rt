@@ -2,7 +2,6 @@ ghost use Rattle.std.specs.Prelude.{◌≡◌, ℕ, ◌+◌, ◌*◌, ◌<◌, �
 ghost use Rattle.std.specs.Ordering.{is_le};
 ghost use Rattle.quilt_record.specs.declared.record.Record.{Record};
 ghost use Rattle.quilt_record.specs.Records.{key_cmp};
-ghost use Rattle.quilt_node.specs.Tree.{is_below};
 ghost use Rattle.quilt_store.specs.Calls.{OnlyReads};
 ghost use Rattle.quilt_store.specs.Stops.{IsNotDamage};
 ghost use Rattle.quilt_world.specs.Tale.{Goes};
@@ -15,6 +14,7 @@ ghost use Rattle.quilt_btree.specs.Stops.{NamesPage};
 ghost use Rattle.quilt_btree.specs.Trees.{IsRooted, IsTree};
 ghost use Rattle.quilt_btree.specs.declared.tree.Tree.{Tree as AnyTree};
 
+use crate::balance::is_under;
 use crate::pages::stop_of;
 use crate::search::{floor_in, value_in};
 use crate::span::{add_leaf, key_up_to};
@@ -232,16 +232,6 @@ fn at_spot(spot: &Option<Spot>, pages: u32, k: &Key) -> Option<Spot>
                 None
             }
         }
-    }
-}
-
-/// Whether a key is below the one that parts a leaf from the next.
-fn is_under(k: &Key, high: &Option<Key>) -> bool
-    ensures { result ≡ is_below high.now k.now }
-{
-    match high {
-        None => true,
-        Some(high) => k < high,
     }
 }
 

@@ -6,7 +6,7 @@ use Rattle.std.specs.List.{list_all}
 use Rattle.std.proofs.lemmas.List.Folds.{list_all-append}
 use Rattle.std.proofs.lemmas.Bool.{and_from}
 use Rattle.quilt_world.specs.Disk.{Pages, Log, CanLeave}
-use Rattle.quilt_world.specs.Home.{label, IsMapFile}
+use Rattle.quilt_world.specs.Home.{file_label, IsMapFile}
 use Rattle.quilt_world.specs.Stops.{fixed, LeavesNow}
 use Rattle.quilt_world.specs.Tale.{Tale, IsConsistent, Adds, Goes}
 use Rattle.quilt_world.specs.declared.event.Event.TheVariants.{Wrote, Tore, Synced}
@@ -157,18 +157,18 @@ label_stopped k bytes o m n low ready (inr (inr wrote)) =
 -- the label is there too
 pub record IsLabelled (k : ℕ) (o n : Tale) : Type 0 where
   pub ready : IsReady k o n
-  pub label : fixed n 0 ≡ Some label
+  pub label : fixed n 0 ≡ Some file_label
 
-label_written : (k : ℕ) (o m n : Tale) → k ≤ 12 → IsReady k o m → Adds (Wrote 0 label ∷ Synced ∷ []) m n → IsLabelled k o n
+label_written : (k : ℕ) (o m n : Tale) → k ≤ 12 → IsReady k o m → Adds (Wrote 0 file_label ∷ Synced ∷ []) m n → IsLabelled k o n
 label_written k o m n low ready adds =
-    let l = between (Wrote 0 label ∷ []) m in
-    let wrote : Adds (Wrote 0 label ∷ []) m l = adds_first (Wrote 0 label ∷ []) m in
-    let synced : Adds (Synced ∷ []) l n = adds_second (Wrote 0 label ∷ []) (Synced ∷ []) m n adds in
+    let l = between (Wrote 0 file_label ∷ []) m in
+    let wrote : Adds (Wrote 0 file_label ∷ []) m l = adds_first (Wrote 0 file_label ∷ []) m in
+    let synced : Adds (Synced ∷ []) l n = adds_second (Wrote 0 file_label ∷ []) (Synced ∷ []) m n adds in
     record {
       ready = label_touched k (Synced ∷ []) o l n low
-          (label_touched k (Wrote 0 label ∷ []) o m l low ready (wrote_touches 0 label m l wrote) wrote (omega arith) refl)
+          (label_touched k (Wrote 0 file_label ∷ []) o m l low ready (wrote_touches 0 file_label m l wrote) wrote (omega arith) refl)
           (synced_touches 0 l n synced) synced (omega arith) refl;
-      label = fixed_synced l n 0 label synced (last_wrote m l 0 label wrote);
+      label = fixed_synced l n 0 file_label synced (last_wrote m l 0 file_label wrote);
     }
 
 created : (k size : ℕ) (o n : Tale) → HasMapSize size → (1 ≤ k) × (k ≤ 12) → IsConsistent n → length n.start ≡ size → IsLabelled k o n → IsCreated k n
@@ -177,7 +177,7 @@ created k size o n has level consistent is labelled =
       size = left.size ∙ is ∙ has.is;
       least = has.least;
       most = has.most;
-      labelled = image_page n image 0 label left (omega (arith, labelled.ready.has.size)) labelled.label;
+      labelled = image_page n image 0 file_label left (omega (arith, labelled.ready.has.size)) labelled.label;
     } in
     let left : LeavesNow n (λ image. Stands image (empty_edition k)) = λ image left.
     headed_stands k has.pages image level.0 level.1 (file image left) (headed_image k n labelled.ready.has image left) in
@@ -217,7 +217,7 @@ module _ (k size : ℕ) (has : HasMapSize size) where
   told_created (Some t) (Some u) level law goes = created k size t u has level law.0 law.1 goes
 
 module _ (k : ℕ) (low : k ≤ 12) where
-  pub told_label : (bytes : List ℕ) (o m n : Option Tale) → bytes ≡ label → Goes (IsReady k) o m → Goes (Adds (Wrote 0 bytes ∷ Synced ∷ [])) m n
+  pub told_label : (bytes : List ℕ) (o m n : Option Tale) → bytes ≡ file_label → Goes (IsReady k) o m → Goes (Adds (Wrote 0 bytes ∷ Synced ∷ [])) m n
       → Goes (IsLabelled k) o n
   told_label bytes o m n is ready goes =
       goes_then _ _ _ o m n ready goes (λ t u v ready wrote. label_written k t u v low ready (subst (λ b. Adds (Wrote 0 b ∷ Synced ∷ []) u v) is wrote))

@@ -2,8 +2,7 @@
 use Rattle.std.proofs.Common.{◌≡◌, ℕ, ◌^◌, ◌<◌, ◌≤◌, ◌⊎◌, inl, inr, ⊎_elim, zero, suc, List, [], ◌∷◌, ◌++◌, length, take, drop, refl, sym, ◌∙◌, ap, subst}
 use Rattle.std.proofs.Common.{arith}
 use Rattle.std.specs.Prelude.{slice_index}
-use Rattle.std.specs.Int.{to_be_bytes, from_be_bytes, w32}
-use Rattle.std.proofs.lemmas.Nat.{from_be_bytes-to_be_bytes_4}
+use Rattle.std.specs.Int.{to_be_bytes, w32}
 use Rattle.std.proofs.lemmas.List.{length-map}
 use Rattle.std.proofs.lemmas.List.FromFn.{length-range_with_len}
 use Rattle.quilt_types.specs.Plane.{below}
@@ -16,9 +15,7 @@ use Rattle.quilt_node.specs.Tree.{Whole, walk_of}
 use Rattle.quilt_world.specs.Home.{page_of, home}
 use Rattle.quilt_edition.specs.Stands.{HoldsEdition, Stands}
 use Rattle.quilt_spell.proofs.facts.OneMap.{one_map}
-
-four_bytes : (a b : ℕ) → a < 2 ^ 32 → b < 2 ^ 32 → to_be_bytes w32 a ≡ to_be_bytes w32 b → a ≡ b
-four_bytes a b ha hb e = sym (from_be_bytes-to_be_bytes_4 a ha) ∙ ap (from_be_bytes w32) e ∙ from_be_bytes-to_be_bytes_4 b hb
+use Rattle.quilt_spell.proofs.facts.Decoding.{four_bytes}
 
 -- the numbers in the bytes, whatever stands behind them
 abbrev front : Head → List ℕ → List ℕ

@@ -35,6 +35,7 @@ use Rattle.std.specs.List.{range_with_len}
 use Rattle.std.proofs.lemmas.List.Sums.{length-filter}
 use Rattle.std.proofs.lemmas.Bool.{cases_Bool, cases_eq, eq-eqb, ne_eqb, or_right}
 use Rattle.quilt_edition.specs.Publishing.{next_pages, Publishing, IsPublished, held_under}
+use Rattle.quilt_btree.proofs.lists.Counts.{some_not_none}
 
 -- where no page is dirty, the pages of the work are those that the pool lies over
 over_clean : (es : Entries) (pages : Pages) (i : ℕ) (o : Option Frame) → frame_at es i ≡ o → has_dirt o ≡ false → IsClean es pages
@@ -259,12 +260,9 @@ pub moves_drained : (n : ℕ) (es fs : Entries) (c d : List Bool) (o t : Option 
 moves_drained n es fs c d o t keeps =
     goes_weaker (KeepsWork n es fs c d) (KeepsPublished n fs d) o t keeps (λ x y k. record { is = k.is; home = k.home; tries = k.tries; since = k.since })
 
-zero_not : (i : ℕ) → 1 ≤ i → i ≡ 0 → ⊥
-zero_not i le e = omega (arith, le, e)
-
 clean_header : (n : ℕ) (fs : Entries) (pages : Pages) (x : List ℕ) → AreBelow n fs → IsClean fs pages → IsClean fs (set pages 0 x)
 clean_header n fs pages x range clean =
-    record { each = λ i f there none. clean.each i f there none ∙ sym (get_or-set_other pages 0 i x [] (λ e. zero_not i (range.each i f there).0 e)) }
+    record { each = λ i f there none. clean.each i f there none ∙ sym (get_or-set_other pages 0 i x [] (λ e. some_not_none i (range.each i f there).0 e)) }
 
 pub moves_torn : (n m : ℕ) (es fs : Entries) (c d e : List Bool) (o t u : Option Tale) → m ≡ n → e ≡ set d 0 false → AreBelow n fs
     → Goes (KeepsWork n es fs c d) o t

@@ -12,7 +12,6 @@ use Rattle.quilt_journal.proofs.Clearing.{idle_none}
 use Rattle.quilt_journal.proofs.Homes.{published_at}
 use Rattle.quilt_node.specs.declared.head.Head.{Head}
 use Rattle.quilt_node.specs.Pages.{IsHeader}
-use Rattle.quilt_pool.specs.declared.frame.Frame.{Frame}
 use Rattle.quilt_pool.specs.Entries.{Entries, IsClean}
 use Rattle.quilt_edition.specs.Keeping.{IsBook, IsKeptBy}
 use Rattle.std.proofs.lemmas.Bool.{cases_lt}
@@ -31,9 +30,7 @@ use Rattle.quilt_world.specs.Causes.{next_count}
 use Rattle.quilt_world.proofs.Told.{goes_weaker, goes_then, goes_and}
 use Rattle.quilt_edition.specs.Starting.{Opened, HasNoHeader, IsNoMapFile, header_page}
 use Rattle.quilt_edition.proofs.Steps.{idle_kept}
-
-none_some : (f : Frame) → None ≡ Some f → ⊥
-none_some f h = cc
+use Rattle.quilt_pool.proofs.Entering.{none_some}
 
 no_entries : (pages : Pages) → IsClean [] pages
 no_entries pages = record { each = λ i f there none. absurd (none_some f there) }

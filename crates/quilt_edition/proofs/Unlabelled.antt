@@ -4,7 +4,7 @@ use Rattle.std.specs.FinMap as finmap
 use Rattle.std.proofs.lemmas.List.FromFn.{length-map-range_with_len, get_or-map-range_with_len}
 use Rattle.quilt_types.specs.Layers.{Edition}
 use Rattle.quilt_world.specs.Disk.{Pages}
-use Rattle.quilt_world.specs.Home.{label, IsMapFile, is_open, is_listed, home}
+use Rattle.quilt_world.specs.Home.{file_label, IsMapFile, is_open, is_listed, home}
 use Rattle.quilt_node.specs.Pages.{header_bytes, IsHeader}
 use Rattle.quilt_node.specs.Tree.{Whole, walk_of}
 use Rattle.quilt_edition.specs.Stands.{Stands}
@@ -15,11 +15,11 @@ use Rattle.quilt_edition.proofs.Headers.{same_format, same_level, same_height, s
 abbrev pub zeros : List ℕ
 zeros = replicate 4096 0
 
-first_of_label : get_or label 0 0 ≡ 81
-unfolding label
+first_of_label : get_or file_label 0 0 ≡ 81
+unfolding file_label
 first_of_label = refl
 
-label_is_no_zeros : label ≡ zeros → ⊥
+label_is_no_zeros : file_label ≡ zeros → ⊥
 label_is_no_zeros is = let e : ◌≡◌ {A = ℕ} 81 0 = sym first_of_label ∙ ap (λ (l : List ℕ). get_or l 0 0) is in omega arith
 
 -- without the label it stands for nothing

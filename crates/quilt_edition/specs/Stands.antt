@@ -5,7 +5,8 @@ use Rattle.quilt_record.specs.declared.record.Record.{Record}
 use Rattle.quilt_node.specs.declared.head.Head.{Head}
 use Rattle.quilt_record.specs.Records.{Spells}
 use Rattle.quilt_node.specs.Pages.{IsHeader}
-use Rattle.quilt_node.specs.Tree.{Walk, Whole, Damaged, walk_of}
+use Rattle.quilt_node.specs.Tree.{Whole, walk_of}
+pub use Rattle.quilt_node.specs.Tree.{page_of_walk}
 use Rattle.quilt_world.specs.Home.{page_of, IsMapFile, home}
 
 -- Home pages with a header and a tree that spells the edition's map.
@@ -20,11 +21,6 @@ pub record HoldsEdition (pages : List (List ℕ)) (edition : Edition) : Type 0 w
   pub tree : walk_of pages head.root head.height ≡ Whole records visited
   pub count : length records ≡ head.records
   pub spelled : Spells head.format head.level records edition.layers
-
--- the first damaged page of the home pages that hold no edition
-abbrev pub page_of_walk : Walk → ℕ
-page_of_walk (Damaged page) = page
-page_of_walk (Whole records visited) = 0
 
 -- The page that is named where home pages hold no edition: 0 where the header is not well formed, or no page is damaged.
 pub record IsDamagePage (pages : List (List ℕ)) (page : ℕ) : Type 0 where

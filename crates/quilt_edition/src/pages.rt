@@ -1,6 +1,6 @@
 ghost use Rattle.std.specs.Prelude.{◌≡◌, ◌≤◌, length};
 ghost use Rattle.quilt_types.specs.Bytes.{filled};
-ghost use Rattle.quilt_world.specs.Home.{label};
+ghost use Rattle.quilt_world.specs.Home.{file_label};
 ghost use Rattle.quilt_node.specs.Pages as spec;
 ghost use Rattle.quilt_edition.specs.Creating.{empty_head};
 
@@ -19,7 +19,7 @@ fn page_of(front: &[u8]) -> [u8; 4096]
 
 /// The first page of each map file.
 pub(crate) fn label_page() -> [u8; 4096]
-    ensures { result ≡ label }
+    ensures { result ≡ file_label }
 {
     page_of(&LABEL)
 }

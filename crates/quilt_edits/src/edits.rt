@@ -1,7 +1,7 @@
-ghost use Rattle.std.specs.Prelude.{◌≡◌, true, Contains, IfOk, IfErr, IsErrOf, IsPermutation};
+ghost use Rattle.std.specs.Prelude.{◌≡◌, ℕ, true, Contains, IfOk, IfErr, IsErrOf, IsPermutation};
 ghost use Rattle.std.specs.List.Sorted.{IsSortedByKey};
 ghost use Rattle.std.specs.Ordering.{is_lt};
-ghost use Rattle.quilt_types.specs.declared.stop.Stop.TheVariants.{Device};
+ghost use Rattle.quilt_types.specs.declared.stop.Stop.TheVariants.{Device, Damaged};
 ghost use Rattle.quilt_record.specs.declared.record.Record.{Record as AnyRecord};
 ghost use Rattle.quilt_record.specs.Records.{key_cmp};
 ghost use Rattle.quilt_node.specs.Pages.{is_ascending};
@@ -22,6 +22,7 @@ pub fn edits_of(alloc: Global, mut remove: Vec<Record>, mut add: Vec<Record>) ->
     ensures add { IfOk result (λ e. IsPermutation add.items e.add) }
     ensures order { IfOk result EditsAscend }
     ensures memory { IfErr result (λ e. CanBeEdits remove.items add.items → e ≡ Stop.Memory) }
+    ensures zero { IfErr result (λ e. (page : ℕ) → e ≡ Damaged page → page ≡ 0) }
     ensures no_fault { IsErrOf result Device → ⊥ }
 {
     sort(&mut remove);

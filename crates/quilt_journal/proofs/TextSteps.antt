@@ -1,7 +1,7 @@
 -- Bytes that are taken or put keep each state of the journal.
 use Rattle.std.proofs.Common.{◌≡◌, ℕ, ◌+◌, Bool, true, false, cond, unwrap_or, List, [], Option, Some, length, sym, ◌∙◌, ap}
 use Rattle.quilt_world.specs.Added.{is_of_text, AddsOnly}
-use Rattle.quilt_world.specs.Stops.{last}
+use Rattle.quilt_world.specs.Stops.{latest}
 use Rattle.quilt_world.specs.Tale.{Tale}
 use Rattle.quilt_world.proofs.TextLaws.{last_text, fixed_text}
 use Rattle.quilt_journal.specs.Changed.{is_changed}
@@ -17,7 +17,7 @@ module _ (pages : ℕ) (changed : List Bool) (o n : Tale) (adds : AddsOnly is_of
   page_same : (i : ℕ) → work_page n pages changed i ≡ work_page o pages changed i
   page_same i =
       ap (λ (x : Option (List ℕ)). cond (is_changed changed i) (unwrap_or x []) (home_page n i)) (last_text o n (3 + pages + i) adds)
-      ∙ ap (λ h. cond (is_changed changed i) (unwrap_or (last o (3 + pages + i)) []) h) (home_same i)
+      ∙ ap (λ h. cond (is_changed changed i) (unwrap_or (latest o (3 + pages + i)) []) h) (home_same i)
 
   file : IsFile pages o → IsFile pages n
   file is = record { size = ap length adds.file.start ∙ is.size; least = is.least; most = is.most; labelled = fixed_text o n 0 adds ∙ is.labelled }

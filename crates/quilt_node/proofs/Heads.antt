@@ -1,7 +1,6 @@
 -- The first bytes of a page, which say its sort, its height and its count, with zeros behind them.
-use Rattle.std.proofs.Common.{◌≡◌, ℕ, ◌+◌, ◌-◌, ◌≤◌, Bool, true, false, not, Option, Some, None, List, ◌∷◌, ◌++◌, length, take, drop, slice_index, slice_range}
+use Rattle.std.proofs.Common.{◌≡◌, ℕ, ◌+◌, ◌-◌, ◌≤◌, Bool, true, false, not, List, ◌∷◌, ◌++◌, length, take, drop, slice_index, slice_range}
 use Rattle.std.proofs.Common.{refl, sym, ◌∙◌, ap, arith, replicate}
-use Rattle.std.specs.Prelude.{is_some}
 use Rattle.std.specs.Str.{bytes_eq}
 use Rattle.std.specs.Int.{to_be_bytes, w16}
 use Rattle.std.proofs.Math.Seq.{take-add}
@@ -69,7 +68,3 @@ other_bytes a b h e = false_true (sym (ap not ((bytes_eq-Decides a b).1 e)) ∙ 
   where
     false_true : false ≡ true → ⊥
     false_true g = cc
-
-pub none_of : {X : Type 0} (o : Option X) → is_some o ≡ false → o ≡ None
-none_of None h = refl
-none_of (Some x) h = cc

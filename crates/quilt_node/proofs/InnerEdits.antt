@@ -12,9 +12,10 @@ use Rattle.quilt_node.specs.Nodes.{IsInner, IsInnerPage, inner_head}
 use Rattle.quilt_node.specs.Edits.{with_key, first_children, children_from, joined}
 use Rattle.quilt_node.proofs.Rows.{put_row, take_row, add_rows, cut_rows, rows_from, set_row, length_insert, length_remove, wide_length}
 use Rattle.quilt_node.proofs.Spelled.{wide_keys, wide_words}
-use Rattle.quilt_node.proofs.Ascending.{and_both, all_append, all_take, all_drop, ascending_take, ascending_drop, ascending_remove}
+use Rattle.quilt_node.proofs.Ascending.{all_append, all_take, all_drop, ascending_take, ascending_drop, ascending_remove}
 use Rattle.quilt_node.proofs.Inners.{IsShaped, child_area, key_area, children_of, with_children, keys_of_page, with_keys, key_start, recounted, shape_of}
 use Rattle.quilt_node.proofs.Inners.{inner_page_of, keys_append, keys_take, keys_drop, keys_set, is_page, page_test}
+use Rattle.std.proofs.lemmas.Bool.{and_from}
 
 abbrev pub put_both : Inner → ℕ → Key → ℕ → ℕ → Inner
 put_both inner i k j child = record { height = inner.height; children = insert inner.children j child; keys = insert inner.keys i k }
@@ -34,7 +35,7 @@ inner_put inner i j child k is f some fits room order =
       most = omega (arith, more, room);
       between = omega (arith, more, keys, is.between);
       children = all_append is_page (take j inner.children) (child ∷ drop j inner.children) (all_take is_page inner.children j is.children)
-          (and_both (is_page child) (list_all is_page (drop j inner.children)) (page_test child some fits) (all_drop is_page inner.children j is.children));
+          (and_from (is_page child) (list_all is_page (drop j inner.children)) (page_test child some fits) (all_drop is_page inner.children j is.children));
       fit = keys_append (take i inner.keys) (k ∷ drop i inner.keys) (keys_take inner.keys i is.fit) (f, keys_drop inner.keys i is.fit);
       ascends = order;
     }
@@ -272,7 +273,7 @@ pair_inner height left right k high some less fewer f = record {
   most = omega arith;
   between = refl;
   children =
-      and_both (is_page left) (list_all is_page (right ∷ [])) (page_test left some.0 less) (and_both (is_page right) true (page_test right some.1 fewer) refl);
+      and_from (is_page left) (list_all is_page (right ∷ [])) (page_test left some.0 less) (and_from (is_page right) true (page_test right some.1 fewer) refl);
   fit = (f, tt);
   ascends = refl;
 }

@@ -11,7 +11,7 @@ use Rattle.std.proofs.lemmas.List.{append-nil, drop-replicate, length-replicate,
 use Rattle.std.proofs.lemmas.List.FromFn.{fill_by_all}
 use Rattle.std.proofs.lemmas.Slice.Eq.{bytes_eq-Decides}
 use Rattle.std.proofs.lemmas.Bool.Decides.{nat_tests}
-use Rattle.std.proofs.lemmas.Bool.{lt-ltb, ltb-true, leb-true, le-leb}
+use Rattle.std.proofs.lemmas.Bool.{lt-ltb, ltb-true, leb-true, le-leb, and_parts, and_from}
 use Rattle.quilt_record.specs.declared.key.Key.{Key}
 use Rattle.quilt_types.specs.Bytes.{filled}
 use Rattle.quilt_record.specs.Records.{key_bytes}
@@ -20,7 +20,7 @@ use Rattle.quilt_node.specs.Pages.{short_at, word_at, key_at, Inner, read_inner,
 use Rattle.quilt_node.specs.Nodes.{IsInner, IsInnerPage, are_pages, inner_head}
 use Rattle.quilt_node.proofs.Rows.{HasArea, area, row_stands, cut_front, wide_length}
 use Rattle.quilt_node.proofs.Spelled.{key_stands, word_stands, wide_keys, wide_words}
-use Rattle.quilt_node.proofs.Ascending.{and_parts, and_both, all_at}
+use Rattle.quilt_node.proofs.Ascending.{all_at}
 
 abbrev pub child_area : List ℕ → List ℕ
 child_area cs = area (to_be_bytes w32) 4 1016 cs
@@ -199,7 +199,7 @@ abbrev pub is_page : ℕ → Bool
 is_page c = nat_le 1 c && nat_lt c (2 ^ 32)
 
 pub page_test : (c : ℕ) → 1 ≤ c → c < 2 ^ 32 → is_page c ≡ true
-page_test c h g = and_both (nat_le 1 c) (nat_lt c (2 ^ 32)) (le-leb 1 c h) (lt-ltb c (2 ^ 32) g)
+page_test c h g = and_from (nat_le 1 c) (nat_lt c (2 ^ 32)) (le-leb 1 c h) (lt-ltb c (2 ^ 32) g)
 
 -- A page is filled behind its first bytes.
 pub filled_inner : (height n : ℕ) (start mid new cs : List ℕ) → start ≡ 2 ∷ height ∷ to_be_bytes w16 n → length cs ≤ 1016

@@ -84,3 +84,8 @@ walk pages (suc (suc h)) is_root at visited =
 unfoldable pub walk_of : List (List ℕ) → ℕ → ℕ → Walk
 walk_of pages root zero = Whole [] []
 walk_of pages root (suc h) = walk pages (suc h) true (root, record { low = None; high = None }) []
+
+-- the first damaged page in the order of the walk, and 0 where every page passes
+abbrev pub page_of_walk : Walk → ℕ
+page_of_walk (Damaged page) = page
+page_of_walk (Whole records visited) = 0

@@ -73,7 +73,7 @@ keeps_read n m es c state a b same idle is read nothing =
 
 -- ---- a page comes in
 
-none_some : (f : Frame) → None ≡ Some f → ⊥
+pub none_some : (f : Frame) → None ≡ Some f → ⊥
 none_some f h = cc
 
 module _ (table : LruCache ℕ Frame) (k : ℕ) (v : Frame) (some : 0 < table.cap) (fits : length table.entries ≤ table.cap) where

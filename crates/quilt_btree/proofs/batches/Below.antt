@@ -1,7 +1,7 @@
 -- A subtree that is edited in one leaf.
-use Rattle.std.proofs.Common.{◌≡◌, ℕ, zero, suc, ◌-◌, ◌≤◌, Bool, true, false, ◌&&◌, List, [], ◌∷◌, ◌++◌, length, take, drop}
+use Rattle.std.proofs.Common.{◌≡◌, ℕ, zero, suc, ◌-◌, ◌≤◌, Bool, true, false, ◌&&◌, List, [], ◌∷◌, length, take, drop}
 use Rattle.std.proofs.lemmas.Bool.{and_from, and_parts}
-use Rattle.std.proofs.Common.{Option, Some, Result, Ok, Err, IfOk, IfErr, slice_index, slice_set, refl, sym, ◌∙◌, ap, subst, arith, get_or-set_same}
+use Rattle.std.proofs.Common.{Option, Some, Result, Ok, Err, IfOk, IfErr, slice_set, refl, sym, ◌∙◌, ap, subst, arith, get_or-set_same}
 use Rattle.std.specs.Prelude.{slice_get, if◌then◌else◌}
 use Rattle.std.specs.List.{list_all}
 use Rattle.std.specs.Option.{option_or}
@@ -20,22 +20,19 @@ use Rattle.quilt_node.specs.Tree.{Bounds, is_above, is_below}
 use Rattle.quilt_btree.specs.declared.edit.Edit.{Edit}
 use Rattle.quilt_btree.specs.declared.edit.Edit.TheVariants as edit
 use Rattle.quilt_btree.specs.Batches.{key_of, edit_keys, edited, edit_all, are_due, Fails, DidEdit}
-use Rattle.quilt_btree.specs.Subtree.{Subtree}
 use Rattle.quilt_btree.specs.Edits.{multiplicity, Becomes, CanEdit}
 use Rattle.quilt_btree.proofs.batches.Leaves.{IsEdited, edit_at, edit_all_between, are_due_between}
-use Rattle.quilt_btree.proofs.growth.Below.{cut_at_child, above_from, edit_spells}
+use Rattle.quilt_btree.proofs.growth.Below.{LeadsToChild, child_before, parent_becomes, above_from, edit_spells}
 use Rattle.quilt_btree.proofs.growth.Fills.{within_put}
-use Rattle.quilt_btree.proofs.growth.UnderGrowth.{LeadsToChild}
 use Rattle.quilt_btree.proofs.lists.Counts.{once_here}
 use Rattle.quilt_btree.proofs.lists.Rising.{all_follow}
 use Rattle.quilt_btree.proofs.removals.Drains.{AreAmong, all_lower, all_higher, at_run, kept_without, still_enough, first_least}
-use Rattle.quilt_btree.proofs.rows.Places.{front, from_keys, tail_places, row_one, head_low}
-use Rattle.quilt_btree.proofs.rows.Splices.{RowMoved, middle_moved, parent_stays}
+use Rattle.quilt_btree.proofs.rows.Places.{from_keys, head_low}
 use Rattle.quilt_btree.proofs.stores.Moves.{moves_written, used_account}
 use Rattle.quilt_btree.proofs.stores.Writes.{WritesPage, tells_at, all_told}
 use Rattle.quilt_btree.proofs.subtrees.Along.{IsSame}
 use Rattle.quilt_btree.proofs.subtrees.Descents.{child_bounds}
-use Rattle.quilt_btree.proofs.subtrees.Trees.{all_both, one_less}
+use Rattle.quilt_btree.proofs.subtrees.Trees.{all_both}
 use Rattle.quilt_btree.proofs.ways.Forks.{IsRead, page_here}
 use Rattle.quilt_btree.proofs.ways.Steps.{StepsTo}
 
@@ -126,35 +123,14 @@ module _ (told then_told : Option (List (List ℕ))) (free then_free : ℕ → B
   under_edited now_told now xs whole from f above =
       let a = at_run high next l is_next top can in
       let x = a.x in
-      let ka = take i inner.keys in
-      let kb = drop i inner.keys in
       let cb = child_bounds inner b i in
-      let tall = one_less height x.below x.is_height in
-      let did = f cb x.at.here x.at.here_used a.top (all_above_child inner b i k (edit_keys run) l.place above whole) a.can in
-      let was = did.was in
-      let mine : then_told ≡ Some x.pages = l.same.same_pages ∙ x.is_told in
-      let same : did.pages ≡ x.pages = cc in
-      let c = slice_index inner.children i in
-      let all = edit_all xs x.at.here in
-      let grown : Becomes x.pages did.news free now c (suc x.below) false cb x.at.here_used all =
-      subst (λ (g : ℕ → Bool). Becomes x.pages did.news g now c (suc x.below) false cb x.at.here_used all) l.same.same_free
-      (subst (λ p. Becomes p did.news then_free now c (suc x.below) false cb x.at.here_used all) same
-      (subst (λ q. Becomes did.pages did.news then_free now q (suc x.below) false cb x.at.here_used all) l.is_child
-      (subst (λ n. Becomes did.pages did.news then_free now child n false cb x.at.here_used all) tall did.becomes))) in
+      let did = f cb x.at.here x.at.here_used a.top (all_above_child inner b i k (edit_keys run) l.at.place above whole) a.can in
+      let grown = child_before l (λ p g c n. Becomes p did.news g now c n false cb x.at.here_used (edit_all xs x.at.here)) x did.was did.becomes in
       let under : list_all (is_below next) (edit_keys xs) ≡ true = subst (λ o. list_all (is_below o) (edit_keys xs) ≡ true) a.top did.under in
       let among : AreAmong x.at.first x.at.last (edit_keys xs) = record {
         lower = all_lower k x.at.first (edit_keys xs) x.among.lower from;
         higher = all_higher next x.at.last (edit_keys xs) a.past under;
       } in
-      let before = front (take i inner.children) ka b in
-      let behind = tail_places (drop (suc i) inner.children) kb (from_keys ka b) in
-      let middle : List (ℕ × Bounds) = (c, cb) ∷ [] in
-      let moved = middle_moved x.pages did.news x.below page middle all x.apart x.at
-      (row_one (Subtree did.news (suc x.below) false) (c, cb) all grown.uses grown.subtree) grown.moves in
-      let becomes = parent_stays x.pages did.news
-      x.page_is x.inner_height x.enough x.within
-      (subst (λ (cs : List (ℕ × Bounds)). RowMoved x.pages did.news free now x.below page cs (x.at.first ++ (all ++ x.at.last)) x.under)
-      (sym (cut_at_child inner b i x.in_range x.list.keys)) moved) in
       record {
         pages = x.pages;
         news = did.news;
@@ -162,10 +138,7 @@ module _ (told then_told : Option (List (List ℕ))) (free then_free : ℕ → B
         is = did.is;
         due = are_due_between x.at.first x.at.here x.at.last rs xs x.among.records among ∙ did.due;
         under = all_follow (is_below next) (is_below b.high) a.nearer_high (edit_keys xs) under;
-        becomes = subst (λ n. Becomes x.pages did.news free now page n is_root b used (edit_all xs rs)) (sym x.is_height)
-            (subst (λ u. Becomes x.pages did.news free now page (suc (suc x.below)) is_root b u (edit_all xs rs)) (sym x.is_used)
-            (subst (λ m. Becomes x.pages did.news free now page (suc (suc x.below)) is_root b (x.under ++ page ∷ []) m)
-            (sym (edit_all_between x.at.first x.at.here x.at.last rs xs x.among.records among)) becomes));
+        becomes = parent_becomes x (edit_all_between x.at.first x.at.here x.at.last rs xs x.among.records among) grown;
       }
 
   -- what is not due under the child is not due
@@ -211,10 +184,13 @@ module _ (old new : Option (List (List ℕ))) (free then_free : ℕ → Bool) (s
   step_edited (Err e) now_told now is same step from f = f
   step_edited (Ok n) now_told now is same step from f =
       λ one b rs used top above can.
-      let h = page_here is (edit_spells old free page height is_root b rs used can) in
+      let h = page_here is (edit_spells can) in
       let st = step h.inner h.is in
       under_edited old new free then_free size then_size page height child st.place k h.inner high next run is_root b rs used
-      (record { same = same; some = is.some; above = is.above; reads = h.reads; place = st.is_place; is_child = st.child_is }) st.next_is top can
+      (record {
+        at = record { told = is.told; some = is.some; above = is.above; reads = h.reads; place = st.is_place; is_child = st.child_is };
+        same = same;
+      }) st.next_is top can
       now_told now (take n run) from (all_first (λ x. is_le (key_cmp k x)) n run from) (f one) above
 
   pub step_fails : (r : Result ℕ Stop) → IsRead old new page height count bytes → IsSame old new free then_free size then_size
@@ -226,10 +202,13 @@ module _ (old new : Option (List (List ℕ))) (free then_free : ℕ → Bool) (s
   step_fails (Ok n) is same step from f = f
   step_fails (Err e) is same step from f =
       λ b rs used top can q damaged.
-      let h = page_here is (edit_spells old free page height is_root b rs used can) in
+      let h = page_here is (edit_spells can) in
       let st = step h.inner h.is in
       under_fails old new free then_free size then_size page height child st.place k h.inner high next run is_root b rs used
-      (record { same = same; some = is.some; above = is.above; reads = h.reads; place = st.is_place; is_child = st.child_is }) st.next_is top can e q
+      (record {
+        at = record { told = is.told; some = is.some; above = is.above; reads = h.reads; place = st.is_place; is_child = st.child_is };
+        same = same;
+      }) st.next_is top can e q
       from f damaged
 
 module _ (high : Option Key) (run : List Edit) where

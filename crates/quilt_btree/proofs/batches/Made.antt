@@ -1,6 +1,6 @@
 -- A leaf that is edited where it lies.
-use Rattle.std.proofs.Common.{◌≡◌, ℕ, ◌≤◌, Bool, false, List, [], length, take, Option, Some, None, IfSome, slice_index_or, slice_set}
-use Rattle.std.proofs.Common.{refl, sym, ◌∙◌, ap, subst}
+use Rattle.std.proofs.Common.{◌≡◌, ℕ, ◌≤◌, Bool, List, [], length, take, Option, Some, None, IfSome, slice_index_or, slice_set}
+use Rattle.std.proofs.Common.{refl, ◌∙◌, ap, subst}
 use Rattle.std.specs.Prelude.{if◌then◌else◌}
 use Rattle.std.proofs.lemmas.List.{set-get_or}
 use Rattle.quilt_record.specs.declared.key.Key.{Key}
@@ -10,21 +10,11 @@ use Rattle.quilt_node.specs.Tree.{Bounds, is_above}
 use Rattle.quilt_world.specs.Tale.{Goes}
 use Rattle.quilt_btree.specs.declared.edit.Edit.{Edit}
 use Rattle.quilt_btree.specs.Batches.{edit_all, EditsLeaf, DidEdit}
-use Rattle.quilt_btree.specs.Edits.{multiplicity, CanEdit}
+use Rattle.quilt_btree.specs.Edits.{CanEdit}
 use Rattle.quilt_btree.specs.Subtree.{Subtree}
 use Rattle.quilt_btree.proofs.batches.Below.{LieWithin, leaf_edited, all_first}
-use Rattle.quilt_btree.proofs.lists.Counts.{once_here}
-use Rattle.quilt_btree.proofs.stores.Moves.{used_not_free}
 use Rattle.quilt_btree.proofs.stores.Writes.{WritesPage}
 use Rattle.quilt_btree.proofs.ways.Forks.{are_of}
-
--- the page of a leaf of the tree is not free
-pub leaf_taken : (told : Option (List (List ℕ))) (free : ℕ → Bool) (page : ℕ) (is_root : Bool) (b : Bounds) (rs : List Record) (used : List ℕ)
-    → CanEdit told free page 1 is_root b rs used → free page ≡ false
-leaf_taken told free page is_root b rs used can =
-    let s : Subtree can.pages 1 is_root (page, b) rs used = can.subtree in
-    used_not_free free used page can.apart
-    (subst (λ u. 1 ≤ multiplicity page u) (sym s.is_used) (once_here page))
 
 module _ (told : Option (List (List ℕ))) (free : ℕ → Bool) (page : ℕ) (is_root : Bool) (b : Bounds) (rs : List Record) (used old : List ℕ)
     (shown : IfSome told (λ pages. old ≡ slice_index_or pages page [])) where

@@ -47,7 +47,7 @@ last_lower k rs n r ne is low high =
 pub own_records : (bytes : List ℕ) (rs : List Record) → leaf_of bytes ≡ Some rs → leaf_of bytes ≡ Some (page_records bytes)
 own_records bytes rs is = is ∙ ap Some (sym (leaf_records bytes rs is))
 
-module _ (old new : Option (List (List ℕ))) (page height child i : ℕ) (k : Key) (inner : Inner) where
+module _ {old new : Option (List (List ℕ))} {page height child i : ℕ} {k : Key} {inner : Inner} where
   -- in a subtree
   pub lower_here : (r : Record) → AtFloor old new page height child i k inner
       → ((rs : List Record) → SpellsSubtree new child (height - 1) rs → IsLast k rs r) → (rs : List Record) → SpellsSubtree old page height rs → IsLast k rs r

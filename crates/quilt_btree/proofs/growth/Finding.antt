@@ -1,11 +1,11 @@
 -- Whether an edit finds a key: as a search in the list of a tree does, whatever pages are free.
-use Rattle.std.proofs.Common.{◌≡◌, ◌≢◌, ℕ, ◌-◌, ◌≤◌, Bool, true, false, List, Option, Result, Ok, Err, IfOk, slice_index, refl, sym, ◌∙◌, ap, subst}
+use Rattle.std.proofs.Common.{◌≡◌, ◌≢◌, ℕ, ◌-◌, Bool, true, false, List, Option, Result, Ok, Err, IfOk, slice_index, refl, sym, ◌∙◌, ap, subst}
 use Rattle.std.specs.List.{list_any}
 use Rattle.quilt_types.specs.declared.stop.Stop.{Stop}
 use Rattle.quilt_record.specs.declared.key.Key.{Key}
 use Rattle.quilt_record.specs.declared.record.Record.{Record}
 use Rattle.quilt_node.specs.Pages.{Inner}
-use Rattle.quilt_node.specs.Nodes.{IsPlace, IsFound, IsGap}
+use Rattle.quilt_node.specs.Nodes.{IsFound, IsGap}
 use Rattle.quilt_btree.specs.declared.tree.Tree.{Tree}
 use Rattle.quilt_btree.specs.declared.outcomes.Inserted.{Inserted}
 use Rattle.quilt_btree.specs.declared.outcomes.Inserted.TheVariants.{There, Done, Split}
@@ -13,8 +13,8 @@ use Rattle.quilt_btree.specs.declared.outcomes.Removed.{Removed}
 use Rattle.quilt_btree.specs.declared.outcomes.Removed.TheVariants as removed
 use Rattle.quilt_record.specs.Lists.{has_key}
 use Rattle.quilt_btree.specs.Outcomes.{was_there, was_found}
-use Rattle.quilt_btree.specs.Trees.{SpellsSubtree, ReadsLeaf, ReadsInner, IsTree}
-use Rattle.quilt_btree.proofs.subtrees.Descending.{leaf_spells, leads_below, along_told}
+use Rattle.quilt_btree.specs.Trees.{SpellsSubtree, ReadsLeaf, IsTree}
+use Rattle.quilt_btree.proofs.subtrees.Descending.{AtFloor, leaf_spells, leads_below, along_told}
 use Rattle.quilt_btree.proofs.ways.Leaves.{found_any, gap_any}
 use Rattle.quilt_btree.proofs.lists.Lists.{any_between}
 use Rattle.quilt_btree.proofs.subtrees.Whole.{tree_spells, no_records}
@@ -34,23 +34,15 @@ module _ (told : Option (List (List ℕ))) (page height i : ℕ) (k : Key) (leaf
       sym (gap_any k leaf i g) ∙ ap (list_any (has_key k)) (leaf_spells told page height rs leaf one s reads)
 
 -- a search below an inner page
-pub record IsLed (told then_told : Option (List (List ℕ))) (page height child i : ℕ) (k : Key) (inner : Inner) : Type 0 where
-  pub same : then_told ≡ told
-  pub some : 1 ≤ height
-  pub above : height ≢ 1
-  pub reads : ReadsInner told page inner
-  pub place : IsPlace inner.keys k i
-  pub is_child : child ≡ slice_index inner.children i
+pub finds_below : {told then_told : Option (List (List ℕ))} {k : Key} {b : Bool} {page height child i : ℕ} {inner : Inner}
+    → AtFloor told then_told page height child i k inner → Finds then_told child (height - 1) k b → Finds told page height k b
+finds_below {told = told} {then_told = then_told} {k = k} {page = page} {height = height} {i = i} {inner = inner} l f rs s =
+    let low = leads_below told page height inner i k l.some l.above s l.reads l.place in
+    f low.here (subst (λ c. SpellsSubtree then_told c (height - 1) low.here) (sym l.is_child)
+    (along_told told then_told (slice_index inner.children i) (height - 1) low.here l.told low.spells))
+    ∙ sym (any_between k low.first low.here low.last rs low.among)
 
 module _ (told : Option (List (List ℕ))) (k : Key) (b : Bool) where
-  pub finds_below : (then_told : Option (List (List ℕ))) (page height child i : ℕ) (inner : Inner) → IsLed told then_told page height child i k inner
-      → Finds then_told child (height - 1) k b → Finds told page height k b
-  finds_below then_told page height child i inner l f rs s =
-      let low = leads_below told page height inner i k l.some l.above s l.reads l.place in
-      f low.here (subst (λ c. SpellsSubtree then_told c (height - 1) low.here) (sym l.is_child)
-      (along_told told then_told (slice_index inner.children i) (height - 1) low.here l.same low.spells))
-      ∙ sym (any_between k low.first low.here low.last rs low.among)
-
   -- a search in the whole tree
   pub finds_root : (t : Tree) (rs : List Record) → t.height ≢ 0 → Finds told t.root t.height k b → IsTree told t rs → b ≡ list_any (has_key k) rs
   finds_root t rs ne f is = f rs (tree_spells told t rs ne is).0

@@ -23,7 +23,6 @@ use Rattle.quilt_btree.proofs.lists.Counts.{once_here}
 use Rattle.quilt_btree.proofs.stores.Moves.{moves_written, used_account}
 use Rattle.quilt_btree.proofs.lists.Rising.{all_append, map_all}
 use Rattle.quilt_btree.proofs.subtrees.Trees.{leaf_list, keys_append}
-use Rattle.quilt_btree.specs.Trees.{ReadsLeaf, SpellsSubtree}
 use Rattle.quilt_btree.proofs.ways.Leaves.{put_gap, gap_any, found_any, same_le}
 use Rattle.quilt_btree.proofs.lists.Separators.{separated_at}
 use Rattle.quilt_btree.proofs.stores.Writes.{tells_at, TellsAll, all_told, both_written}
@@ -214,17 +213,3 @@ module _ (told now_told : Option (List (List ℕ))) (free now : ℕ → Bool) (s
     is = t ∙ can.can_edit.is_told;
     done = subst (λ l. list_any (has_key r.key) l ≡ true) same (found_any r.key leaf i found.found found found.here);
   }
-
-module _ (told : Option (List (List ℕ))) (free : ℕ → Bool) (size page : ℕ) (k : Key) where
-  -- a leaf that was read is the one that the subtree has
-  pub leaf_read : (leaf : List Record) (is_root : Bool) (b : Bounds) (rs : List Record) (used : List ℕ) → ReadsLeaf told page leaf
-      → CanInsert told free size page 1 is_root b k rs used → leaf ≡ rs
-  leaf_read leaf is_root b rs used reads can =
-      let there = reads can.can_edit.pages can.can_edit.is_told in
-      let mine = can.can_edit.subtree.page in
-      cc
-
-  pub leaf_can_spell : (is_root : Bool) (b : Bounds) (rs : List Record) (used : List ℕ) → CanInsert told free size page 1 is_root b k rs used
-      → SpellsSubtree told page 1 rs
-  leaf_can_spell is_root b rs used can =
-      record { pages = can.can_edit.pages; is_told = can.can_edit.is_told; is_root = is_root; bounds = b; used = used; subtree = can.can_edit.subtree }

@@ -1,5 +1,5 @@
 -- A record put in below an inner page.
-use Rattle.std.proofs.Common.{◌≡◌, ◌≢◌, ℕ, suc, ◌+◌, ◌-◌, ◌<◌, ◌≤◌, Bool, true, false, ◌&&◌, ◌||◌, nat_le, List, [], ◌∷◌, ◌++◌, length, take, drop, Option}
+use Rattle.std.proofs.Common.{◌≡◌, ℕ, suc, ◌+◌, ◌-◌, ◌<◌, ◌≤◌, Bool, true, false, ◌&&◌, ◌||◌, nat_le, List, [], ◌∷◌, ◌++◌, length, take, drop, Option}
 use Rattle.std.proofs.lemmas.Bool.{and_from}
 use Rattle.std.proofs.Common.{Some, Result, Ok, Err, IfOk, IfErr, slice_index, refl, sym, ◌∙◌, ap, subst, arith, length-append}
 use Rattle.std.specs.Prelude.{nat_lt}
@@ -9,8 +9,8 @@ use Rattle.std.proofs.lemmas.List.Edits.{length-insert}
 use Rattle.quilt_record.specs.declared.key.Key.{Key}
 use Rattle.quilt_record.specs.declared.record.Record.{Record}
 use Rattle.quilt_types.specs.declared.stop.Stop.{Stop}
-use Rattle.quilt_node.specs.Pages.{Inner}
-use Rattle.quilt_node.specs.Nodes.{IsPlace, are_pages}
+use Rattle.quilt_node.specs.Pages.{Inner, inner_of}
+use Rattle.quilt_node.specs.Nodes.{are_pages}
 use Rattle.quilt_node.specs.Edits.{with_child}
 use Rattle.quilt_node.specs.Tree.{Bounds, bounded}
 use Rattle.quilt_node.proofs.Ascending.{all_take, all_drop}
@@ -18,64 +18,48 @@ use Rattle.quilt_store.specs.Store.{count_free}
 use Rattle.quilt_record.specs.Lists.{has_key, put}
 use Rattle.quilt_store.specs.Stops.{IsNotDamage}
 use Rattle.quilt_btree.specs.Subtree.{Row, Subtree}
-use Rattle.quilt_btree.specs.Trees.{ReadsInner}
-use Rattle.quilt_btree.specs.Edits.{KeepsAccount, Becomes, HasInserted, CanInsert, DidInsert}
+use Rattle.quilt_btree.specs.Trees.{ReadsInner, SpellsSubtree}
+use Rattle.quilt_btree.specs.Edits.{KeepsAccount, HasInserted, CanInsert, DidInsert}
 use Rattle.quilt_btree.specs.Inserts.{HasPut, IsPending, DidPut, AreFew}
 use Rattle.quilt_btree.specs.declared.outcomes.Inserted.{Inserted}
 use Rattle.quilt_btree.specs.declared.outcomes.Inserted.TheVariants as inserted
-use Rattle.quilt_btree.proofs.subtrees.Along.{IsSame, can_along, did_along}
-use Rattle.quilt_btree.proofs.growth.Below.{IsBelow, go_below, cut_at_child, child_above, child_below}
+use Rattle.quilt_btree.proofs.growth.Below.{LeadsToChild, IsBelow, go_below, child_edit, child_before, parent_becomes, child_above, child_below, edit_spells}
 use Rattle.quilt_btree.proofs.subtrees.Density.{few_children}
 use Rattle.quilt_btree.proofs.subtrees.Descents.{child_bounds}
 use Rattle.quilt_btree.proofs.lists.Lists.{put_between, any_between}
 use Rattle.quilt_btree.proofs.stores.Moves.{apart_then, moves_then}
 use Rattle.quilt_btree.proofs.growth.NewChild.{two_places, bounded_next, is_fitting}
 use Rattle.quilt_btree.proofs.rows.NewKeys.{strictly_above}
-use Rattle.quilt_btree.proofs.rows.Places.{front, from_keys, tail_places, row_one}
+use Rattle.quilt_btree.proofs.rows.Places.{row_one}
 use Rattle.quilt_btree.proofs.lists.Rising.{all_append}
-use Rattle.quilt_btree.proofs.rows.Splices.{RowMoved, middle_moved, parent_stays, becomes_then}
+use Rattle.quilt_btree.proofs.rows.Middles.{RowChanged}
+use Rattle.quilt_btree.proofs.rows.Splices.{middle_moved, becomes_then}
 use Rattle.quilt_btree.proofs.stores.Writes.{TellsAll, if_some_at}
-use Rattle.quilt_btree.proofs.subtrees.Trees.{one_less}
 
--- an inner page was read, and the key leads to this child
-pub record LeadsToChild (told then_told : Option (List (List ℕ))) (free then_free : ℕ → Bool) (size then_size page height child i : ℕ) (k : Key)
-    (inner : Inner) : Type 0 where
-  pub same : IsSame told then_told free then_free size then_size
-  pub some : 1 ≤ height
-  pub above : height ≢ 1
-  pub reads : ReadsInner told page inner
-  pub place : IsPlace inner.keys k i
-  pub is_child : child ≡ slice_index inner.children i
-
-module _ (told then_told : Option (List (List ℕ))) (free then_free : ℕ → Bool) (size then_size page height child i : ℕ) (k : Key) (inner : Inner)
-    (is_root : Bool) (b : Bounds) (rs : List Record) (used : List ℕ)
+module _ {told then_told : Option (List (List ℕ))} {free then_free : ℕ → Bool} {size then_size page height child i : ℕ} {k : Key} {inner : Inner}
+    {is_root : Bool} {b : Bounds} {rs : List Record} {used : List ℕ}
     (l : LeadsToChild told then_told free then_free size then_size page height child i k inner)
     (can : CanInsert told free size page height is_root b k rs used) where
-  -- what is around that child
-  pub insert_below : IsBelow told free page height is_root b k rs used inner i
-  insert_below =
-      go_below told free page height is_root b k inner i l.some l.above l.reads l.place can.can_edit
-
-  pub child_can : (x : IsBelow told free page height is_root b k rs used inner i)
+  child_can : (x : IsBelow told free page height is_root b k rs used inner i)
       → CanInsert then_told then_free then_size child (height - 1) false (child_bounds inner b i) k x.at.here x.at.here_used
   child_can x =
-      can_along told then_told free then_free size then_size child (height - 1) false (child_bounds inner b i) x.at.here x.at.here_used k l.same
-      (record {
-        can_edit = record {
-          pages = x.pages;
-          is_told = x.is_told;
-          subtree = subst (λ c. Subtree x.pages (height - 1) false (c, child_bounds inner b i) x.at.here x.at.here_used) (sym l.is_child)
-              (subst (λ n. Subtree x.pages n false (slice_index inner.children i, child_bounds inner b i) x.at.here x.at.here_used)
-              (sym (one_less height x.below x.is_height)) x.child);
-          apart = x.here_apart;
-        };
-        low = child_above inner b i k l.place can.low;
-        high = child_below inner b i k l.place can.high;
-        room = fewer height (count_free free size) can.room;
-      })
+      record {
+        can_edit = child_edit l x;
+        low = child_above inner b i k l.at.place can.low;
+        high = child_below inner b i k l.at.place can.high;
+        room = fewer height (count_free then_free then_size) (subst (λ (f : ℕ → Bool). height ≤ count_free f then_size) (sym l.same.same_free)
+            (subst (λ n. height ≤ count_free free n) (sym l.same.same_size) can.room));
+      }
     where
       fewer : (h c : ℕ) → h ≤ c → h - 1 ≤ c
       fewer h c e = omega arith
+
+module _ (told now_told : Option (List (List ℕ))) (free now : ℕ → Bool) (size page height : ℕ) where
+  -- what an insertion does to the subtree at a page
+  abbrev pub Inserts : Record → Inserted → Type 0
+  Inserts r o =
+      (is_root : Bool) (b : Bounds) (rs : List Record) (used : List ℕ) → CanInsert told free size page height is_root b r.key rs used
+      → DidInsert r told now_told free now page height is_root b rs used o
 
 -- what became of the child, in the pages that were told before
 pub record ChildDid (r : Record) (pages : List (List ℕ)) (now_told : Option (List (List ℕ))) (free now : ℕ → Bool) (child height : ℕ) (b : Bounds)
@@ -84,62 +68,34 @@ pub record ChildDid (r : Record) (pages : List (List ℕ)) (now_told : Option (L
   pub is : now_told ≡ Some news
   pub done : HasInserted r pages news free now child height false b rs used o
 
-module _ (r : Record) (told then_told now_told : Option (List (List ℕ))) (free then_free now : ℕ → Bool) (size then_size page height child i : ℕ)
-    (inner : Inner) (is_root : Bool) (b : Bounds) (rs : List Record) (used : List ℕ) where
-  child_did : (o : Inserted) → LeadsToChild told then_told free then_free size then_size page height child i r.key inner
-      → (can : CanInsert told free size page height is_root b r.key rs used) (x : IsBelow told free page height is_root b r.key rs used inner i)
-      → ((is_root : Bool) (b : Bounds) (rs : List Record) (used : List ℕ) → CanInsert then_told then_free then_size child (height - 1) is_root b r.key rs used
-      → DidInsert r then_told now_told then_free now child (height - 1) is_root b rs used o)
+module _ {r : Record} {told then_told now_told : Option (List (List ℕ))} {free then_free now : ℕ → Bool} {size then_size page height child i : ℕ}
+    {inner : Inner} {is_root : Bool} {b : Bounds} {rs : List Record} {used : List ℕ}
+    (l : LeadsToChild told then_told free then_free size then_size page height child i r.key inner) where
+  child_did : (o : Inserted) → Inserts then_told now_told then_free now then_size child (height - 1) r o
+      → CanInsert told free size page height is_root b r.key rs used → (x : IsBelow told free page height is_root b r.key rs used inner i)
       → ChildDid r x.pages now_told free now (slice_index inner.children i) (suc x.below) (child_bounds inner b i) x.at.here x.at.here_used o
-  child_did o l can x f =
-      let did = did_along told then_told free then_free size then_size child (height - 1) false (child_bounds inner b i) x.at.here x.at.here_used r
-      now_told now o l.same
-      (f false (child_bounds inner b i) x.at.here x.at.here_used
-      (child_can told then_told free then_free size then_size page height child i r.key inner is_root b rs used l can x)) in
-      let was = did.was in
-      let mine = x.is_told in
-      let same : did.pages ≡ x.pages = cc in
+  child_did o f can x =
+      let did = f false (child_bounds inner b i) x.at.here x.at.here_used (child_can l can x) in
       record {
         news = did.news;
         is = did.is;
-        done =
-            subst (λ p. HasInserted r p did.news free now (slice_index inner.children i) (suc x.below) false
-            (child_bounds inner b i) x.at.here x.at.here_used o) same
-            (subst (λ c. HasInserted r did.pages did.news free now c (suc x.below) false (child_bounds inner b i) x.at.here x.at.here_used o) l.is_child
-            (subst (λ n. HasInserted r did.pages did.news free now child n false (child_bounds inner b i) x.at.here x.at.here_used o)
-            (one_less height x.below x.is_height) did.done));
+        done = child_before l (λ p g c n. HasInserted r p did.news g now c n false (child_bounds inner b i) x.at.here x.at.here_used o) x did.was did.done;
       }
 
   -- the key was there
-  pub under_there : LeadsToChild told then_told free then_free size then_size page height child i r.key inner
-      → ((is_root : Bool) (b : Bounds) (rs : List Record) (used : List ℕ) → CanInsert then_told then_free then_size child (height - 1) is_root b r.key rs used
-      → DidInsert r then_told now_told then_free now child (height - 1) is_root b rs used inserted.There)
+  pub under_there : Inserts then_told now_told then_free now then_size child (height - 1) r inserted.There
       → CanInsert told free size page height is_root b r.key rs used → DidInsert r told now_told free now page height is_root b rs used inserted.There
-  under_there l f can =
-      let x = insert_below told then_told free then_free size then_size page height child i r.key inner is_root b rs used l can in
-      let did = child_did inserted.There l can x f in
+  under_there f can =
+      let x = go_below l can.can_edit in
+      let did = child_did inserted.There f can x in
       record { pages = x.pages; news = did.news; was = x.is_told; is = did.is; done = any_between r.key x.at.first x.at.here x.at.last rs x.among ∙ did.done }
 
   -- the child took the record
-  pub under_done : LeadsToChild told then_told free then_free size then_size page height child i r.key inner
-      → ((is_root : Bool) (b : Bounds) (rs : List Record) (used : List ℕ) → CanInsert then_told then_free then_size child (height - 1) is_root b r.key rs used
-      → DidInsert r then_told now_told then_free now child (height - 1) is_root b rs used inserted.Done)
+  pub under_done : Inserts then_told now_told then_free now then_size child (height - 1) r inserted.Done
       → CanInsert told free size page height is_root b r.key rs used → DidInsert r told now_told free now page height is_root b rs used inserted.Done
-  under_done l f can =
-      let x = insert_below told then_told free then_free size then_size page height child i r.key inner is_root b rs used l can in
-      let did = child_did inserted.Done l can x f in
-      let grown = did.done.1 in
-      let all = put r x.at.here in
-      let c = slice_index inner.children i in
-      let before = front (take i inner.children) (take i inner.keys) b in
-      let behind = tail_places (drop (suc i) inner.children) (drop i inner.keys) (from_keys (take i inner.keys) b) in
-      let middle : List (ℕ × Bounds) = (c, child_bounds inner b i) ∷ [] in
-      let moved = middle_moved x.pages did.news x.below page middle all x.apart x.at
-      (row_one (Subtree did.news (suc x.below) false) (c, child_bounds inner b i) all grown.uses grown.subtree) grown.moves in
-      let becomes = parent_stays x.pages did.news
-      x.page_is x.inner_height x.enough x.within
-      (subst (λ (cs : List (ℕ × Bounds)). RowMoved x.pages did.news free now x.below page cs (x.at.first ++ (all ++ x.at.last)) x.under)
-      (sym (cut_at_child inner b i x.in_range x.list.keys)) moved) in
+  under_done f can =
+      let x = go_below l can.can_edit in
+      let did = child_did inserted.Done f can x in
       record {
         pages = x.pages;
         news = did.news;
@@ -147,10 +103,7 @@ module _ (r : Record) (told then_told now_told : Option (List (List ℕ))) (free
         is = did.is;
         done = (
           any_between r.key x.at.first x.at.here x.at.last rs x.among ∙ did.done.0,
-          subst (λ n. Becomes x.pages did.news free now page n is_root b used (put r rs)) (sym x.is_height)
-              (subst (λ u. Becomes x.pages did.news free now page (suc (suc x.below)) is_root b u (put r rs)) (sym x.is_used)
-              (subst (λ m. Becomes x.pages did.news free now page (suc (suc x.below)) is_root b (x.under ++ page ∷ []) m)
-              (sym (put_between r x.at.first x.at.here x.at.last rs x.among)) becomes)),
+          parent_becomes x (put_between r x.at.first x.at.here x.at.last rs x.among) did.done.1,
         );
       }
 
@@ -189,24 +142,19 @@ few_under {page = page} {is_root = is_root} {b = b} {rs = rs} {used = used} inne
     few_children e.pages (page, b) inner (subst (λ h. Subtree e.pages h is_root (page, b) rs used) three e.subtree)
     (reads e.pages e.is_told) few
 
-module _ (r : Record) (told then_told : Option (List (List ℕ))) (free then_free : ℕ → Bool) (size then_size page height child i : ℕ) (inner : Inner)
-    (key : Key) (right : ℕ) (l : LeadsToChild told then_told free then_free size then_size page height child i r.key inner)
-    (many : TellsAll told size) (in_range : (1 ≤ right) × (right < size)) where
-  pub under_takes : (now_told : Option (List (List ℕ))) (now : ℕ → Bool) (is_root : Bool) (b : Bounds) (rs : List Record) (used : List ℕ)
-      → ((is_root : Bool) (b : Bounds) (rs : List Record) (used : List ℕ) → CanInsert then_told then_free then_size child (height - 1) is_root b r.key rs used
-      → DidInsert r then_told now_told then_free now child (height - 1) is_root b rs used (inserted.Split key right))
-      → CanInsert told free size page height is_root b r.key rs used
-      → IsToTake r told now_told free now page height is_root b rs used inner i key right
-  under_takes now_told now is_root b rs used f can =
-      let x = insert_below told then_told free then_free size then_size page height child i r.key inner is_root b rs used l can in
-      let did = child_did r told then_told now_told free then_free now size then_size page height child i inner is_root b rs used
-      (inserted.Split key right) l can x f in
+module _ {r : Record} {told then_told mid_told : Option (List (List ℕ))} {free then_free mid : ℕ → Bool} {size then_size page height child i : ℕ}
+    {inner : Inner} {key : Key} {right : ℕ} (l : LeadsToChild told then_told free then_free size then_size page height child i r.key inner)
+    (many : TellsAll told size) (in_range : (1 ≤ right) × (right < size))
+    (f : Inserts then_told mid_told then_free mid then_size child (height - 1) r (inserted.Split key right)) where
+  pub under_takes : {is_root : Bool} {b : Bounds} {rs : List Record} {used : List ℕ} → CanInsert told free size page height is_root b r.key rs used
+      → IsToTake r told mid_told free mid page height is_root b rs used inner i key right
+  under_takes {is_root} {b} {rs} can =
+      let x = go_below l can.can_edit in
+      let did = child_did l (inserted.Split key right) f can x in
       let separated = did.done.1 in
       let all = put r x.at.here in
       let c = slice_index inner.children i in
       let cb = child_bounds inner b i in
-      let before = front (take i inner.children) (take i inner.keys) b in
-      let behind = tail_places (drop (suc i) inner.children) (drop i inner.keys) (from_keys (take i inner.keys) b) in
       let S = Subtree did.news (suc x.below) false in
       let places = two_places c right key cb in
       let row : Row S places all (separated.rest_uses ++ separated.first_uses) = record {
@@ -219,9 +167,8 @@ module _ (r : Record) (told then_told : Option (List (List ℕ))) (free then_fre
         records = separated.records;
         is_used = refl;
       } in
-      let moved = middle_moved x.pages did.news x.below page places all
-      x.apart x.at row separated.moves in
-      let next = subst (λ (cs : List (ℕ × Bounds)). RowMoved x.pages did.news free now x.below page cs (x.at.first ++ (all ++ x.at.last)) x.under)
+      let moved = middle_moved x.pages did.news x.below page places all x.apart x.at row separated.moves in
+      let next = subst (λ (cs : List (ℕ × Bounds)). RowChanged S x.pages did.news free mid page cs (x.at.first ++ (all ++ x.at.last)) x.under)
       (sym (bounded_next inner b i key right x.in_range x.list.keys)) moved in
       let fitting = is_fitting inner b i key x.list.ascends x.within
       (strictly_above did.news (suc x.below) c cb.low key separated.first separated.first_uses separated.is_left)
@@ -229,7 +176,7 @@ module _ (r : Record) (told then_told : Option (List (List ℕ))) (free then_fre
       let long : length did.news ≡ size = moved.moves.size ∙ if_some_at (λ pages. length pages ≡ size) told x.pages many x.is_told in
       let children_more : length (insert inner.children (suc i) right) ≡ length inner.children + 1 =
       length-insert inner.children (suc i) right (next_in i (length inner.children) x.in_range) in
-      let keys_more : length (insert inner.keys i key) ≡ length inner.keys + 1 = length-insert inner.keys i key l.place.in_range in
+      let keys_more : length (insert inner.keys i key) ≡ length inner.keys + 1 = length-insert inner.keys i key l.at.place.in_range in
       record {
         pages = x.pages;
         news = did.news;
@@ -252,9 +199,9 @@ module _ (r : Record) (told then_told : Option (List (List ℕ))) (free then_fre
           within = fitting.within;
           children = subst (λ m. Row S (bounded (insert inner.children (suc i) right) (insert inner.keys i key) b) m next.uses)
               (sym (put_between r x.at.first x.at.here x.at.last rs x.among)) next.row;
-          apart = apart_then x.pages did.news free now (x.under ++ page ∷ []) (next.uses ++ page ∷ []) next.moves x.apart;
+          apart = apart_then x.pages did.news free mid (x.under ++ page ∷ []) (next.uses ++ page ∷ []) next.moves x.apart;
         };
-        moves = subst (λ u. KeepsAccount x.pages did.news free now u (next.uses ++ page ∷ [])) (sym x.is_used) next.moves;
+        moves = subst (λ u. KeepsAccount x.pages did.news free mid u (next.uses ++ page ∷ [])) (sym x.is_used) next.moves;
         tall = x.inner_height ∙ sym x.is_height;
       }
     where
@@ -264,20 +211,32 @@ module _ (r : Record) (told then_told : Option (List (List ℕ))) (free then_fre
       as_many : (c d k l : ℕ) → c ≡ d + 1 → k ≡ l + 1 → d ≡ l + 1 → c ≡ suc k
       as_many c d k l e f g = omega arith
 
+-- where the page spells a list, it is an inner page in these bytes, and the key leads to the child
+pub record IsLedIn (told then_told : Option (List (List ℕ))) (free then_free : ℕ → Bool) (size then_size page height child i : ℕ) (k : Key) (n : ℕ)
+    (bytes : List ℕ) : Type 0 where
+  pub inner : Inner
+  pub is : inner_of n bytes ≡ Some inner
+  pub is_height : inner.height ≡ height
+  pub leads : LeadsToChild told then_told free then_free size then_size page height child i k inner
+
+module _ {r : Record} {told then_told mid_told : Option (List (List ℕ))} {free then_free mid : ℕ → Bool} {size then_size page height child i : ℕ}
+    {key : Key} {right n : ℕ} {bytes : List ℕ}
+    (leads : (rs : List Record) → SpellsSubtree told page height rs
+    → IsLedIn told then_told free then_free size then_size page height child i r.key n bytes)
+    (many : TellsAll told size) (in_range : (1 ≤ right) × (right < size))
+    (f : Inserts then_told mid_told then_free mid then_size child (height - 1) r (inserted.Split key right)) where
   -- the page took it
-  pub took_child : (result : Result Inserted Stop) (mid_told now_told : Option (List (List ℕ))) (mid now : ℕ → Bool)
-      → ((is_root : Bool) (b : Bounds) (rs : List Record) (used : List ℕ) → CanInsert then_told then_free then_size child (height - 1) is_root b r.key rs used
-      → DidInsert r then_told mid_told then_free mid child (height - 1) is_root b rs used (inserted.Split key right))
-      → IfOk result (λ o. (is_root : Bool) (b : Bounds) (all : List Record) (under : List ℕ)
+  pub took_child : (result : Result Inserted Stop) (now_told : Option (List (List ℕ))) (now : ℕ → Bool)
+      → IfOk result (λ o. (inner : Inner) → inner_of n bytes ≡ Some inner → (is_root : Bool) (b : Bounds) (all : List Record) (under : List ℕ)
       → IsPending mid_told mid page is_root b (with_child inner i key right) all under → DidPut mid_told now_told mid now page inner.height is_root b (under ++ page ∷ []) all o)
       → IfOk result (λ o. (is_root : Bool) (b : Bounds) (rs : List Record) (used : List ℕ) → CanInsert told free size page height is_root b r.key rs used
       → DidInsert r told now_told free now page height is_root b rs used o)
-  took_child (Err e) mid_told now_told mid now f g = g
-  took_child (Ok o) mid_told now_told mid now f g =
+  took_child (Err e) now_told now g = g
+  took_child (Ok o) now_told now g =
       λ is_root b rs used can.
-      let x =
-      under_takes mid_told mid is_root b rs used f can in
-      let did = g is_root b (put r rs) x.under x.pending in
+      let d = leads rs (edit_spells can.can_edit) in
+      let x = under_takes d.leads many in_range f can in
+      let did = g d.inner d.is is_root b (put r rs) x.under x.pending in
       let was = did.was in
       let mine = x.is in
       let same : did.pages ≡ x.news = cc in
@@ -313,37 +272,34 @@ module _ (r : Record) (told then_told : Option (List (List ℕ))) (free then_fre
       )
 
   -- where the page does not take it, no page is damaged
-  pub sound_child : (result : Result Inserted Stop) (mid_told : Option (List (List ℕ))) (mid : ℕ → Bool) (mid_size : ℕ) → mid_size ≡ size
-      → count_free free size ≤ count_free mid size + (height - 1)
-      → ((is_root : Bool) (b : Bounds) (rs : List Record) (used : List ℕ) → CanInsert then_told then_free then_size child (height - 1) is_root b r.key rs used
-      → DidInsert r then_told mid_told then_free mid child (height - 1) is_root b rs used (inserted.Split key right))
-      → IfErr result (λ e. (is_root : Bool) (b : Bounds) (all : List Record) (under : List ℕ)
+  pub sound_child : (result : Result Inserted Stop) (mid_size : ℕ) → mid_size ≡ size → count_free free size ≤ count_free mid size + (height - 1)
+      → IfErr result (λ e. (inner : Inner) → inner_of n bytes ≡ Some inner → inner.height ≡ height
+      → (is_root : Bool) (b : Bounds) (all : List Record) (under : List ℕ)
       → IsPending mid_told mid page is_root b (with_child inner i key right) all under → 0 < count_free mid mid_size → (inner.height ≡ 3
       → length inner.children < 254) → IsNotDamage e)
       → IfErr result (λ e. (is_root : Bool) (b : Bounds) (rs : List Record) (used : List ℕ) → CanInsert told free size page height is_root b r.key rs used
       → AreFew rs → IsNotDamage e)
-  sound_child (Ok o) mid_told mid mid_size same few f g = g
-  sound_child (Err e) mid_told mid mid_size same few f g = λ is_root b rs used can small.
-      let x =
-      under_takes mid_told mid is_root b rs used f can in
-      g is_root b (put r rs) x.under x.pending
-      (subst (λ n. 0 < count_free mid n) (sym same) (left (count_free free size) (count_free mid size) height l.some few can.room))
-      (λ three. few_under inner l.reads can small (sym x.tall ∙ three))
+  sound_child (Ok o) mid_size same few g = g
+  sound_child (Err e) mid_size same few g = λ is_root b rs used can small.
+      let d = leads rs (edit_spells can.can_edit) in
+      let x = under_takes d.leads many in_range f can in
+      g d.inner d.is d.is_height is_root b (put r rs) x.under x.pending
+      (subst (λ n. 0 < count_free mid n) (sym same) (left (count_free free size) (count_free mid size) height d.leads.at.some few can.room))
+      (λ three. few_under d.inner d.leads.at.reads can small (sym x.tall ∙ three))
     where
       left : (c d h : ℕ) → 1 ≤ h → c ≤ d + (h - 1) → h ≤ c → 0 < d
       left c d h some e f = omega arith
 
 -- an error of the child
-pub sound_under : (e : Stop) {told : Option (List (List ℕ))} {then_told : Option (List (List ℕ))} {free : ℕ → Bool} {then_free : ℕ → Bool} {size : ℕ}
-    {then_size : ℕ} {page height : ℕ} {child i : ℕ} {k : Key} {inner : Inner} {is_root : Bool} {b : Bounds} {rs : List Record} {used : List ℕ}
+pub sound_under : (e : Stop) {told then_told : Option (List (List ℕ))} {free then_free : ℕ → Bool} {size then_size page height child i : ℕ} {k : Key}
+    {inner : Inner} {is_root : Bool} {b : Bounds} {rs : List Record} {used : List ℕ}
     → LeadsToChild told then_told free then_free size then_size page height child i k inner
     → ((is_root : Bool) (b : Bounds) (rs : List Record) (used : List ℕ) → CanInsert then_told then_free then_size child (height - 1) is_root b k rs used → AreFew rs
     → IsNotDamage e)
     → CanInsert told free size page height is_root b k rs used → AreFew rs → IsNotDamage e
-sound_under e {told} {then_told} {free} {then_free} {size} {then_size} {page} {height} {child} {i} {k} {inner} {is_root} {b} {rs} {used} l f can few =
-    let x = insert_below told then_told free then_free size then_size page height child i k inner is_root b rs used l can in
-    f false (child_bounds inner b i) x.at.here x.at.here_used
-    (child_can told then_told free then_free size then_size page height child i k inner is_root b rs used l can x)
+sound_under e {i = i} {inner = inner} {b = b} {rs = rs} l f can few =
+    let x = go_below l can.can_edit in
+    f false (child_bounds inner b i) x.at.here x.at.here_used (child_can l can x)
     (fewer (length rs) (length x.at.first) (length x.at.here) (length x.at.last)
     (ap length x.among.records ∙ length-append x.at.first (x.at.here ++ x.at.last) ∙ ap (λ n. length x.at.first + n) (length-append x.at.here x.at.last)) few)
   where

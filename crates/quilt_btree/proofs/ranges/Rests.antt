@@ -8,14 +8,17 @@ use Rattle.std.specs.Ordering.{is_le}
 use Rattle.quilt_record.specs.declared.key.Key.{Key}
 use Rattle.quilt_record.specs.declared.record.Record.{Record}
 use Rattle.quilt_record.specs.Records.{key_cmp}
+use Rattle.quilt_node.specs.Nodes.{page_records}
 use Rattle.quilt_types.specs.declared.stop.Stop.{Stop}
 use Rattle.quilt_store.specs.Stops.{IsNotDamage}
 use Rattle.quilt_btree.specs.declared.tree.Tree.{Tree}
+use Rattle.quilt_btree.specs.Arrivals.{Arrives}
 use Rattle.quilt_btree.specs.Lists.{is_from_to, range_of}
+use Rattle.quilt_btree.specs.Looks.{AddsFrom}
+use Rattle.quilt_btree.specs.Searches.{AreOf}
 use Rattle.quilt_btree.specs.Trees.{SpellsSubtree, IsTree, LeadsToLeaf, IsCut, IsBound, Divides, Before}
-use Rattle.quilt_btree.proofs.ways.Leaves.{same_le}
 use Rattle.quilt_btree.proofs.subtrees.Whole.{tree_spells, no_records}
-use Rattle.quilt_btree.proofs.ranges.Ranges.{range_more, range_first, range_next, range_ends, range_fills, adds_some}
+use Rattle.quilt_btree.proofs.ranges.Ranges.{range_more, range_next, range_ends, range_fills, adds_some}
 use Rattle.quilt_btree.proofs.ranges.Spans.{le_on}
 
 -- the leaf that a search for the key came to, and what of it was added to the list
@@ -26,6 +29,15 @@ pub record CameTo (told : Option (List (List ℕ))) (t : Tree) (from high : Key)
   pub seen : List Record
   pub added : new ≡ take most (old ++ filter (is_from_to from high) seen)
   pub same : (rs : List Record) → SpellsSubtree told t.root t.height rs → filter (is_from_to from high) seen ≡ filter (is_from_to from high) leaf
+
+-- what a look at the leaf in these bytes adds
+pub came_to : {told now : Option (List (List ℕ))} {t : Tree} {page : ℕ} {from high : Key} {most : ℕ} {old new : List Record} {up : Option Key}
+    → t.height ≢ 0 → now ≡ told → (a : AddsFrom now page from high most old new)
+    → ((bytes : List ℕ) → AreOf told page bytes → Arrives told t.root t.height from None bytes up)
+    → CameTo told t from high most (page_records a.bytes) old new up
+came_to {page = page} some same a arrives =
+    let at = arrives a.bytes (subst (λ o. AreOf o page a.bytes) same a.are) in
+    record { some = some; leads = at.leads; cut = at.cut; seen = a.some; added = a.added; same = λ rs s. a.same (page_records a.bytes) (at.leaf rs s) }
 
 module _ (told : Option (List (List ℕ))) (t : Tree) (from high : Key) where
   -- the records of the leaf were added, where the tree is sound
@@ -67,52 +79,20 @@ pub next_divides : (pages : List (List ℕ)) (height page : ℕ) (up : Option Ke
 next_divides pages height page up next e (inl none) = cc
 next_divides pages height page up next e (inr q) = let is = q.1 in let same : q.0 ≡ next = cc in subst (λ k. Divides pages height page k) same q.2
 
-module _ (told : Option (List (List ℕ))) (t : Tree) (low : Key) where
-  -- and it goes on from the next key
-  pub rest_goes_on : {from high next : Key} {most : ℕ} {leaf old new rs : List Record} {up : Option Key}
-      (c : CameTo told t from high most leaf old new up) (is : IsTree told t rs) (l : LeadsToLeaf from rs leaf None up)
-      → new ≡ range_of low high most (l.before ++ leaf) → is_le (key_cmp low from) ≡ true → up ≡ Some next → Before told t low high most next rs new
-  rest_goes_on {from} {high} {next} {most} {leaf} {new} {rs} {up} c is l so_far le e =
-      let s = tree_spells told t rs c.some is in
-      let on = subst (λ o. (l : LeadsToLeaf from rs leaf None o) × (new ≡ range_of low high most (l.before ++ leaf))) e (l, so_far) in (
-        is.pages,
-        is.is_told,
-        next_divides is.pages t.height t.root up next e (c.cut.ends is.pages rs s.0 is.is_told s.1 refl),
-        le_on low from next le
-            (on.0.key_under refl),
-        range_next low from high most rs leaf new None next on.0 refl on.1,
-      )
-
-  pub first_so_far : (high : Key) (most : ℕ) (leaf new rs : List Record) (up : Option Key) (c : CameTo told t low high most leaf [] new up)
-      (is : IsTree told t rs) → (l : LeadsToLeaf low rs leaf None up) × (new ≡ range_of low high most (l.before ++ leaf))
-  first_so_far high most leaf new rs up c is =
-      let s = tree_spells told t rs c.some is in
-      let l = c.leads rs s.0 s.1 in
-      (l, range_first low high most rs leaf new None up l (leaf_added told t low high most leaf [] new rs up c s.0))
-
-module _ (told : Option (List (List ℕ))) (t : Tree) (low high : Key) where
-  pub first_ends : (most : ℕ) (leaf new rs : List Record) (up : Option Key) (c : CameTo told t low high most leaf [] new up) (is : IsTree told t rs)
-      → ((next : Key) → up ≡ Some next → is_le (key_cmp next high) ≡ false) → new ≡ range_of low high most rs
-  first_ends most leaf new rs up c is over =
-      let l = first_so_far told t low high most leaf new rs up c is in range_ends low low high most rs leaf new None up l.0 over l.1
-
-  pub first_fills : (most : ℕ) (leaf new rs : List Record) (up : Option Key) (c : CameTo told t low high most leaf [] new up) (is : IsTree told t rs)
-      → length new ≡ most → new ≡ range_of low high most rs
-  first_fills most leaf new rs up c is full =
-      let l = first_so_far told t low high most leaf new rs up c is in range_fills low low high most rs leaf new None up l.0 full l.1
-
-  pub first_goes_on : {next : Key} {most : ℕ} {leaf new rs : List Record} {up : Option Key} (c : CameTo told t low high most leaf [] new up)
-      (is : IsTree told t rs) → up ≡ Some next → Before told t low high most next rs new
-  first_goes_on {most} {leaf} {new} {rs} {up} c is e =
-      let l = first_so_far told t low high most leaf new rs up c is in
-      rest_goes_on told t low c is l.0 l.1 (same_le low) e
-
+-- and it goes on from the next key
 pub rest_next : {told : Option (List (List ℕ))} {t : Tree} (low : Key) {from high : Key} {next : Key} {most : ℕ} {leaf old new : List Record}
     {rs : List Record} {up : Option Key} (c : CameTo told t from high most leaf old new up) (is : IsTree told t rs)
     → Before told t low high most from rs old → up ≡ Some next → Before told t low high most next rs new
 rest_next {told} {t} low {from} {high} {next} {most} {leaf} {old} {new} {rs} {up} c is b e =
+    let s = tree_spells told t rs c.some is in
     let l = rest_so_far told t low from high most leaf old new rs up c is b in
-    rest_goes_on told t low c is l.0 l.1 b.3 e
+    let on = subst (λ o. (l : LeadsToLeaf from rs leaf None o) × (new ≡ range_of low high most (l.before ++ leaf))) e l in (
+      is.pages,
+      is.is_told,
+      next_divides is.pages t.height t.root up next e (c.cut.ends is.pages rs s.0 is.is_told s.1 refl),
+      le_on low from next b.3 (on.0.key_under refl),
+      range_next low from high most rs leaf new None next on.0 refl on.1,
+    )
 
 pub from_not_err : {T E P : Type 0} (r : Result T E) (b : Bool) → b ≡ is_err r → b ≡ false → OnOk r P → P
 from_not_err (Ok x) b e f p = p
@@ -194,21 +174,6 @@ more_reads (Some a) (Some b) first old new more f = omega arith
 more_reads (Some a) None first old new more f = f
 more_reads None (Some b) first old new more f = f
 more_reads None None first old new more f = f
-
-module _ (told now : Option (List (List ℕ))) (t : Tree) (low high next : Key) (most : ℕ) (leaf new : List Record) where
-  pub first_sound : (up : Option Key) (e : Stop) → now ≡ told → CameTo told t low high most leaf [] new up → up ≡ Some next
-      → ((l : Key) (rs : List Record) → IsTree now t rs → Before now t l high most next rs new → IsNotDamage e) → (rs : List Record) → IsTree told t rs
-      → IsNotDamage e
-  first_sound up e same c is f = λ rs tree.
-      f low rs (along_tree told now t rs same tree)
-      (along_before told now t low high most next rs new same (first_goes_on told t low high c tree is))
-
-  pub first_result : (last : List Record) (up : Option Key) → now ≡ told → CameTo told t low high most leaf [] new up → up ≡ Some next
-      → ((l : Key) (rs : List Record) → IsTree now t rs → Before now t l high most next rs new → last ≡ range_of l high most rs) → (rs : List Record)
-      → IsTree told t rs → last ≡ range_of low high most rs
-  first_result last up same c is f = λ rs tree.
-      f low rs (along_tree told now t rs same tree)
-      (along_before told now t low high most next rs new same (first_goes_on told t low high c tree is))
 
 pub no_range : (told : Option (List (List ℕ))) (t : Tree) (rs : List Record) (low high : Key) (most : ℕ) → t.height ≡ 0 → IsTree told t rs
     → [] ≡ range_of low high most rs

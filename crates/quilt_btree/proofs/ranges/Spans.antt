@@ -9,6 +9,7 @@ use Rattle.quilt_record.specs.Records.{key_cmp}
 use Rattle.quilt_node.specs.Tree.{is_below}
 use Rattle.quilt_node.proofs.Ascending.{all_take}
 use Rattle.quilt_btree.specs.Lists.{is_from_to}
+use Rattle.quilt_btree.specs.Looks.{AddsFrom}
 use Rattle.quilt_record.proofs.Orders.{le_le, lt_to_le}
 use Rattle.quilt_btree.proofs.lists.Rising.{all_follow, all_append}
 
@@ -57,14 +58,19 @@ module _ (low from high : Key) (le : is_le (key_cmp low from) ≡ true) where
       (all_append (is_from_to low high) old (filter (is_from_to from high) leaf) h
       (wider (filter (is_from_to from high) leaf) (all_filter (is_from_to from high) leaf)))
 
-pub first_within : (low high : Key) (most : ℕ) (leaf new : List Record) → new ≡ take most ([] ++ filter (is_from_to low high) leaf)
-    → list_all (is_from_to low high) new ≡ true
-first_within low high most leaf new is =
-    ap (list_all (is_from_to low high)) is ∙ all_take (is_from_to low high) (filter (is_from_to low high) leaf) most
-    (all_filter (is_from_to low high) leaf)
+-- of those that are added to none
+module _ {told : Option (List (List ℕ))} {page : ℕ} {low high : Key} {most : ℕ} {old new : List Record} (a : AddsFrom told page low high most old new)
+    (none : old ≡ []) where
+  from_none : new ≡ take most (filter (is_from_to low high) a.some)
+  from_none = a.added ∙ ap (λ (l : List Record). take most (l ++ filter (is_from_to low high) a.some)) none
 
-pub first_few : (most : ℕ) (some new : List Record) → new ≡ take most ([] ++ some) → length new ≤ most
-first_few most some new is = (added_most most [] some new is (omega arith)).0
+  pub first_within : list_all (is_from_to low high) new ≡ true
+  first_within =
+      ap (list_all (is_from_to low high)) from_none ∙ all_take (is_from_to low high) (filter (is_from_to low high) a.some) most
+      (all_filter (is_from_to low high) a.some)
+
+  pub first_few : length new ≤ most
+  first_few = (added_most most [] (filter (is_from_to low high) a.some) new from_none (omega arith)).0
 
 pub above_bound : (k next : Key) (high : Option Key) → (is_below None k ≡ true → is_below high k ≡ true) → high ≡ Some next
     → is_lt (key_cmp k next) ≡ true

@@ -1,7 +1,7 @@
 -- A subtree that gives records of a run of keys out of one leaf.
 use Rattle.std.proofs.Common.{◌≡◌, ℕ, suc, ◌-◌, ◌≤◌, Bool, true, false, not, cond, ◌||◌, nat_le, List, [], ◌∷◌, ◌++◌, length, take, drop}
 use Rattle.std.proofs.lemmas.Bool.{and_from, and_parts}
-use Rattle.std.proofs.Common.{filter, Option, slice_index, refl, sym, ◌∙◌, ap, subst, arith}
+use Rattle.std.proofs.Common.{filter, Option, refl, sym, ◌∙◌, ap, subst, arith}
 use Rattle.std.proofs.Common.{take-append-drop}
 use Rattle.std.specs.Prelude.{slice_get, if◌then◌else◌}
 use Rattle.std.specs.List.{list_all}
@@ -19,19 +19,17 @@ use Rattle.quilt_record.specs.Lists.{has_key, without}
 use Rattle.quilt_btree.specs.Subtree.{Subtree}
 use Rattle.quilt_btree.specs.Edits.{CanEdit}
 use Rattle.quilt_btree.specs.Trees.{is_past}
-use Rattle.quilt_btree.proofs.growth.Below.{IsBelow, go_below}
+use Rattle.quilt_btree.proofs.growth.Below.{LeadsToChild, IsBelow, go_below, child_edit}
 use Rattle.quilt_btree.proofs.subtrees.Descending.{head_high}
 use Rattle.quilt_btree.proofs.subtrees.Descents.{child_bounds, keys_behind, tail_past, tail_many}
 use Rattle.quilt_btree.proofs.growth.Fills.{nearer}
 use Rattle.quilt_btree.proofs.ways.Leaves.{same_le}
 use Rattle.quilt_btree.proofs.lists.Lists.{IsAmong, filter_cond}
-use Rattle.quilt_btree.proofs.stores.Moves.{AreApart}
 use Rattle.quilt_record.proofs.Orders.{lt_le, lt_to_le}
 use Rattle.quilt_btree.proofs.rows.Places.{from_keys, Rises, high_from}
 use Rattle.quilt_btree.proofs.lists.Rising.{all_follow}
 use Rattle.quilt_btree.proofs.removals.Takings.{key_at}
-use Rattle.quilt_btree.proofs.subtrees.Trees.{subtree_rises, ascending_first, ascending_rest, one_less}
-use Rattle.quilt_btree.proofs.growth.UnderGrowth.{LeadsToChild}
+use Rattle.quilt_btree.proofs.subtrees.Trees.{subtree_rises, ascending_first, ascending_rest}
 use Rattle.quilt_btree.proofs.cursors.Fingers.{under_past}
 
 -- what stays of a leaf is within its bounds
@@ -107,8 +105,8 @@ pub at_run : {told then_told : Option (List (List ℕ))} {free then_free : ℕ �
     → LeadsToChild told then_told free then_free size then_size page height child i k inner → next ≡ option_or (slice_get inner.keys i) high
     → b.high ≡ high → CanEdit told free page height is_root b rs used
     → AtRun told then_told free then_free page height child i k inner next is_root b rs used
-at_run {told = told} {free = free} {page = page} {height = height} {child = child} {i = i} {k = k} {inner = inner} high next {is_root = is_root} {b = b} {rs = rs} {used = used} l is_next top can =
-    let x = go_below told free page height is_root b k inner i l.some l.above l.reads l.place can in
+at_run {i = i} {inner = inner} high next {b = b} l is_next top can =
+    let x = go_below l can in
     let ka = take i inner.keys in
     let kb = drop i inner.keys in
     let cb = child_bounds inner b i in
@@ -124,14 +122,7 @@ at_run {told = told} {free = free} {page = page} {height = height} {child = chil
     record {
       x = x;
       top = child_top;
-      can = record {
-        pages = x.pages;
-        is_told = l.same.same_pages ∙ x.is_told;
-        subtree = subst (λ c. Subtree x.pages (height - 1) false (c, cb) x.at.here x.at.here_used) (sym l.is_child)
-            (subst (λ n. Subtree x.pages n false (slice_index inner.children i, cb) x.at.here x.at.here_used)
-            (sym (one_less height x.below x.is_height)) x.child);
-        apart = subst (λ (g : ℕ → Bool). AreApart g x.at.here_used) (sym l.same.same_free) x.here_apart;
-      };
+      can = child_edit l x;
       past = subst (λ o. list_all (λ (r : Record). is_past o r.key) x.at.last ≡ true) child_top past;
       nearer_high = λ m h. subst (λ o. is_below o m ≡ true) (high_from ka b)
           (nearer kb (from_keys ka b) order.within m (subst (λ o. is_below o m ≡ true) (sym child_top) h));

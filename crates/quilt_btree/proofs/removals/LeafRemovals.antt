@@ -13,10 +13,10 @@ use Rattle.quilt_world.specs.Tale.{Goes}
 use Rattle.quilt_btree.specs.declared.outcomes.Removed.TheVariants as removed
 use Rattle.quilt_record.specs.Lists.{has_key, without}
 use Rattle.quilt_btree.specs.Subtree.{Subtree}
-use Rattle.quilt_btree.specs.Trees.{SpellsSubtree, ReadsLeaf}
+use Rattle.quilt_btree.specs.Trees.{ReadsLeaf}
 use Rattle.quilt_btree.specs.Edits.{multiplicity, Becomes, CanEdit, IsNearlyFull, DidRemove}
-use Rattle.quilt_btree.proofs.lists.Counts.{times_here, once_here}
-use Rattle.quilt_btree.proofs.stores.Moves.{moves_written, used_account, used_not_free}
+use Rattle.quilt_btree.proofs.lists.Counts.{once_here}
+use Rattle.quilt_btree.proofs.stores.Moves.{moves_written, used_account}
 use Rattle.quilt_btree.proofs.ways.Leaves.{gap_any, found_any, without_found}
 use Rattle.quilt_btree.proofs.lists.Rising.{all_parts, all_append}
 
@@ -185,8 +185,8 @@ one_fewer [] i h = absurd (omega arith)
 one_fewer (x ∷ xs) zero h = refl
 one_fewer (x ∷ xs) (suc i) h = ap suc (one_fewer xs i (omega arith))
 
-module _ (k : Key) (told mid now_told : Option (List (List ℕ))) (free now : ℕ → Bool) (page height size i : ℕ) (is_root : Bool) (b : Bounds)
-    (rs leaf all : List Record) (used bytes : List ℕ) (one : height ≡ 1) (c : LeafCut k told mid now_told free now page size i leaf all bytes) where
+module _ {k : Key} {told mid now_told : Option (List (List ℕ))} {free now : ℕ → Bool} {page height size i : ℕ} {is_root : Bool} {b : Bounds}
+    {rs leaf all : List Record} {used bytes : List ℕ} (one : height ≡ 1) (c : LeafCut k told mid now_told free now page size i leaf all bytes) where
   pub leaf_done : 72 ≤ length all → CanEdit told free page height is_root b rs used
       → DidRemove k told now_told free now page height is_root b rs used removed.Done
   leaf_done enough can =
@@ -212,18 +212,3 @@ module _ (k : Key) (told mid now_told : Option (List (List ℕ))) (free now : �
     where
       less : (m n : ℕ) → suc m ≡ n → 72 ≤ n → 71 ≤ m
       less m n e h = omega arith
-
-module _ (told : Option (List (List ℕ))) (free : ℕ → Bool) (page height : ℕ) (is_root : Bool) (b : Bounds) (rs : List Record) (used : List ℕ) where
-  -- the leaf is read, and is not free
-  pub leaf_reads : CanEdit told free page height is_root b rs used → SpellsSubtree told page height rs
-  leaf_reads can =
-      record { pages = can.pages; is_told = can.is_told; is_root = is_root; bounds = b; used = used; subtree = can.subtree }
-
-  pub leaf_taken : height ≡ 1 → CanEdit told free page height is_root b rs used → free page ≡ false
-  leaf_taken one can =
-      let can1 = subst (λ h. CanEdit told free page h is_root b rs used) one can in
-      let s : Subtree can1.pages 1 is_root (page, b) rs used = can1.subtree in
-      used_not_free free used page can1.apart (subst (λ l. 1 ≤ multiplicity page l) (sym s.is_used) (some page))
-    where
-      some : (page : ℕ) → 1 ≤ multiplicity page (page ∷ [])
-      some page = let e = times_here page [] in omega arith

@@ -7,10 +7,11 @@ use Rattle.quilt_node.specs.Pages.{Inner, inner_of}
 use Rattle.quilt_node.specs.Tree.{Bounds, bounded, are_within}
 use Rattle.quilt_btree.specs.Subtree.{Row, Subtree}
 use Rattle.quilt_btree.specs.Edits.{multiplicity, account, KeepsAccount, Becomes}
-use Rattle.quilt_btree.proofs.lists.Counts.{times-append, times-three, times_here, in_times, some_not_none}
-use Rattle.quilt_btree.proofs.stores.Moves.{AreApart, moves_among, moves_then, moves_written, used_account, stays_on}
-use Rattle.quilt_btree.proofs.lists.Rows.{SameOn, row_stays, subtree_stays, is_in_first}
-use Rattle.quilt_btree.proofs.rows.Places.{AtPlace, place_back}
+use Rattle.quilt_btree.proofs.lists.Counts.{times-append, times_here, in_times, some_not_none}
+use Rattle.quilt_btree.proofs.stores.Moves.{AreApart, moves_then, moves_written, used_account}
+use Rattle.quilt_btree.proofs.lists.Rows.{SameOn, row_stays, subtree_stays}
+use Rattle.quilt_btree.proofs.rows.Middles.{RowChanged, around, middle_changed}
+use Rattle.quilt_btree.proofs.rows.Places.{AtPlace}
 
 -- The children of two lists of children and keys, with a key between, are those of the first below the key, and then those of the second from it on.
 pub bounded_join : (ca cb : List ℕ) (ka kb : List Key) (key : Key) (b : Bounds) → length ca ≡ suc (length ka)
@@ -26,13 +27,6 @@ bounded_join (c ∷ ca) cb (k ∷ ka) kb key b n =
     fewer : (m n : ℕ) → suc m ≡ suc (suc n) → m ≡ suc n
     fewer m n h = omega arith
 
--- what the children of a page are behind an edit that leaves the page itself
-pub record RowMoved (pages news : List (List ℕ)) (free now : ℕ → Bool) (h page : ℕ) (cs : List (ℕ × Bounds)) (rs : List Record) (under : List ℕ) : Type 0 where
-  pub uses : List ℕ
-  pub row : Row (Subtree news (suc h) false) cs rs uses
-  pub moves : KeepsAccount pages news free now (under ++ page ∷ []) (uses ++ page ∷ [])
-  pub page_stays : slice_index_or news page [] ≡ slice_index_or pages page []
-
 module _ (pages news : List (List ℕ)) where
   -- a row stays as it is where its pages do
   pub rows_stay : (h : ℕ) → length news ≡ length pages → (cs : List (ℕ × Bounds)) (rs : List Record) (used : List ℕ) → SameOn pages news used
@@ -45,65 +39,16 @@ module _ (pages news : List (List ℕ)) where
   pub middle_moved : {free now : ℕ → Bool} (h page : ℕ) {before middle behind : List (ℕ × Bounds)} (others : List (ℕ × Bounds)) {rs : List Record}
       {under : List ℕ} (all : List Record) {uses : List ℕ} → AreApart free (under ++ page ∷ [])
       → (at : AtPlace (Subtree pages (suc h) false) before middle behind rs under) → Row (Subtree news (suc h) false) others all uses
-      → KeepsAccount pages news free now at.here_used uses → RowMoved pages news free now h page (before ++ (others ++ behind))
-      (at.first ++ (all ++ at.last)) under
-  middle_moved {free} {now} h page {before} {behind} others {under} all {uses} apart at row moves =
-      let total : (p : ℕ) → multiplicity p (under ++ page ∷ []) ≡ multiplicity p at.last_used + multiplicity p at.here_used + multiplicity p at.first_used + multiplicity p (page ∷ []) =
-      λ p. times-append p under (page ∷ [])
-      ∙ ap (λ n. n + multiplicity p (page ∷ [])) (ap (multiplicity p) at.is_used ∙ times-three p at.last_used at.here_used at.first_used) in
-      let total_now : (p : ℕ)
-      → multiplicity p (((at.last_used ++ uses) ++ at.first_used) ++ page ∷ []) ≡ multiplicity p at.last_used + multiplicity p uses + multiplicity p at.first_used + multiplicity p (page ∷ []) =
-      λ p. times-append p ((at.last_used ++ uses) ++ at.first_used) (page ∷ [])
-      ∙ ap (λ n. n + multiplicity p (page ∷ [])) (times-three p at.last_used uses at.first_used) in
-      let stay : (others : List ℕ) → ((p : ℕ) → multiplicity p at.here_used + multiplicity p others ≤ multiplicity p (under ++ page ∷ [])) → SameOn pages news others =
-      λ others parts. stays_on pages news free now at.here_used uses others (under ++ page ∷ []) moves apart parts in
-      let same_first = stay at.first_used
-      (λ p. in_first (multiplicity p (under ++ page ∷ [])) (multiplicity p at.last_used) (multiplicity p at.here_used) (multiplicity p at.first_used) (multiplicity p (page ∷ [])) (total p)) in
-      let same_last = stay at.last_used
-      (λ p. in_last (multiplicity p (under ++ page ∷ [])) (multiplicity p at.last_used) (multiplicity p at.here_used) (multiplicity p at.first_used) (multiplicity p (page ∷ [])) (total p)) in
-      let same_page = stay (page ∷ [])
-      (λ p. in_page (multiplicity p (under ++ page ∷ [])) (multiplicity p at.last_used) (multiplicity p at.here_used) (multiplicity p at.first_used) (multiplicity p (page ∷ [])) (total p)) in
-      record {
-        uses = (at.last_used ++ uses) ++ at.first_used;
-        row = place_back (Subtree news (suc h) false) before others behind (at.first ++ (all ++ at.last)) ((at.last_used ++ uses) ++ at.first_used)
-            (record {
-              first = at.first;
-              here = all;
-              last = at.last;
-              first_used = at.first_used;
-              here_used = uses;
-              last_used = at.last_used;
-              row_before = rows_stay h moves.size before at.first at.first_used same_first at.row_before;
-              row_here = row;
-              row_behind = rows_stay h moves.size behind at.last at.last_used same_last at.row_behind;
-              records = refl;
-              is_used = refl;
-            });
-        moves = moves_among pages news free now at.here_used uses (under ++ page ∷ []) (((at.last_used ++ uses) ++ at.first_used) ++ page ∷ [])
-            (λ p. multiplicity p at.last_used + multiplicity p at.first_used + multiplicity p (page ∷ []))
-            (λ p. order (multiplicity p (under ++ page ∷ [])) (multiplicity p at.last_used) (multiplicity p at.here_used) (multiplicity p at.first_used) (multiplicity p (page ∷ [])) (total p))
-            (λ p. order (multiplicity p (((at.last_used ++ uses) ++ at.first_used) ++ page ∷ [])) (multiplicity p at.last_used) (multiplicity p uses)
-            (multiplicity p at.first_used) (multiplicity p (page ∷ [])) (total_now p)) moves;
-        page_stays = same_page page (is_in_first page);
-      }
-    where
-      in_first : (u l h f p : ℕ) → u ≡ l + h + f + p → h + f ≤ u
-      in_first u l h f p e = omega arith
-
-      in_last : (u l h f p : ℕ) → u ≡ l + h + f + p → h + l ≤ u
-      in_last u l h f p e = omega arith
-
-      in_page : (u l h f p : ℕ) → u ≡ l + h + f + p → h + p ≤ u
-      in_page u l h f p e = omega arith
-
-      order : (u l h f p : ℕ) → u ≡ l + h + f + p → u ≡ l + f + p + h
-      order u l h f p e = omega arith
+      → KeepsAccount pages news free now at.here_used uses
+      → RowChanged (Subtree news (suc h) false) pages news free now page (before ++ (others ++ behind)) (at.first ++ (all ++ at.last)) under
+  middle_moved {free} h page others all apart at row moves =
+      middle_changed (Subtree news (suc h) false) h (λ c ss u s. s) others all (around free page at apart) row moves
 
   -- The page is as it was, and so a subtree whose children have become others.
   pub parent_stays : {free now : ℕ → Bool} {h page : ℕ} {is_root : Bool} {b : Bounds} {inner : Inner} {under : List ℕ} {all : List Record}
       → inner_of (length pages) (slice_index_or pages page []) ≡ Some inner → inner.height ≡ suc (suc h)
       → (is_root || nat_le 127 (length inner.children)) ≡ true → are_within b inner.keys ≡ true
-      → RowMoved pages news free now h page (bounded inner.children inner.keys b) all under
+      → RowChanged (Subtree news (suc h) false) pages news free now page (bounded inner.children inner.keys b) all under
       → Becomes pages news free now page (suc (suc h)) is_root b (under ++ page ∷ []) all
   parent_stays {page} {inner} {under} is height enough within moved = record {
     uses = moved.uses ++ page ∷ [];

@@ -1,11 +1,10 @@
 -- What calls that look and calls that edit leave of a store, one behind the other.
-use Rattle.std.proofs.Common.{◌∙◌, ◌≡◌, ℕ, ◌+◌, ◌-◌, ◌*◌, ◌≤◌, ap, Result, Ok, Err, arith}
+use Rattle.std.proofs.Common.{◌∙◌, ◌≡◌, ℕ, ◌+◌, ◌-◌, ◌*◌, ◌≤◌, Result, Ok, Err, arith}
 use Rattle.std.specs.Prelude.{IsErrOf}
 use Rattle.quilt_types.specs.declared.stop.Stop.{Stop}
 use Rattle.quilt_types.specs.declared.stop.Stop.TheVariants.{Device}
 use Rattle.quilt_world.specs.Tale.{Goes}
 use Rattle.quilt_store.specs.declared.store.PageStore.{Ghosts}
-use Rattle.quilt_store.specs.Store.{count_free}
 use Rattle.quilt_store.specs.Calls.{OnlyReads}
 use Rattle.quilt_store.proofs.Reading.{rose_since}
 use Rattle.quilt_btree.specs.Costs.{EditsWithin, EditsWithinOnOk}
@@ -86,8 +85,3 @@ module _ {S : Type 0} (g : Ghosts S) where
       changed = let x = a.changed in let y = b.changed in omega arith;
       reads = tt;
     }
-
-  -- where nothing was taken
-  pub none_taken : {T : Type 0} {s t : S} {first : Result T Stop} → OnlyReads g s t first
-      → count_free (g.free s) (g.size s) ≤ count_free (g.free t) (g.size s) + 0
-  none_taken {s = s} a = let e = ap (λ f. count_free f (g.size s)) a.free in omega arith

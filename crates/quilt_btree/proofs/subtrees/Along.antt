@@ -5,8 +5,7 @@ use Rattle.quilt_record.specs.declared.record.Record.{Record}
 use Rattle.quilt_node.specs.Tree.{Bounds}
 use Rattle.quilt_types.specs.declared.stop.Stop.{Stop}
 use Rattle.quilt_store.specs.Stops.{IsNotDamage}
-use Rattle.quilt_btree.specs.Edits.{CanInsert, DidInsert}
-use Rattle.quilt_btree.specs.declared.outcomes.Inserted.{Inserted}
+use Rattle.quilt_btree.specs.Edits.{CanInsert}
 
 -- the same pages, the same of them free, and as many
 pub record IsSame (told then_told : Option (List (List ℕ))) (free then_free : ℕ → Bool) (size then_size : ℕ) : Type 0 where
@@ -22,13 +21,6 @@ module _ (told then_told : Option (List (List ℕ))) (free then_free : ℕ → B
       subst (λ t. CanInsert t then_free then_size page height is_root b k rs used) (sym is.same_pages)
       (subst (λ f. CanInsert told f then_size page height is_root b k rs used) (sym is.same_free)
       (subst (λ n. CanInsert told free n page height is_root b k rs used) (sym is.same_size) can))
-
-  pub did_along : (r : Record) (now_told : Option (List (List ℕ))) (now : ℕ → Bool) (o : Inserted)
-      → IsSame told then_told free then_free size then_size → DidInsert r then_told now_told then_free now page height is_root b rs used o
-      → DidInsert r told now_told free now page height is_root b rs used o
-  did_along r now_told now o is did =
-      subst (λ t. DidInsert r t now_told free now page height is_root b rs used o) is.same_pages
-      (subst (λ f. DidInsert r then_told now_told f now page height is_root b rs used o) is.same_free did)
 
 -- an error behind a call that changed nothing
 pub sound_along : {T : Type 0} (result : Result T Stop) {told then_told : Option (List (List ℕ))} {free then_free : ℕ → Bool}

@@ -318,7 +318,7 @@ module _ (page height child n : ℕ) (inner : Inner) (some : 1 ≤ height) (ne :
       ∙ last_late (last_or None end.first) end.here x (f end.here (along_told old new child (height - 1) end.here t end.spells))
 
 -- the floor is under the child, or else the last record before it
-module _ (old new : Option (List (List ℕ))) (page height child i : ℕ) (k : Key) (inner : Inner) where
+module _ {old new : Option (List (List ℕ))} {page height child i : ℕ} {k : Key} {inner : Inner} where
   pub floor_here : (r : Record) → AtFloor old new page height child i k inner
       → ((rs : List Record) → SpellsSubtree new child (height - 1) rs → Some r ≡ floor_of k rs) → (rs : List Record) → SpellsSubtree old page height rs
       → Some r ≡ floor_of k rs

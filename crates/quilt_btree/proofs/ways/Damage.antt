@@ -2,8 +2,9 @@
 use Rattle.std.proofs.Common.{◌≡◌, ◌≢◌, ◌⊎◌, inl, inr, ℕ, zero, suc, ◌+◌, ◌-◌, ◌<◌, ◌≤◌, List}
 use Rattle.std.proofs.Common.{[], length, Option, Some, None, Result, Ok, Err, IfOk, IfErr, IfSome, slice_index, false, ◌==◌}
 use Rattle.std.proofs.Common.{slice_index_or, slice_set, refl, sym, ◌∙◌, ap, subst, arith, get_or-set_other}
-use Rattle.std.specs.Prelude.{if◌then◌else◌, IsErrOf, min}
+use Rattle.std.specs.Prelude.{if◌then◌else◌, IsErrOf, is_some, min}
 use Rattle.std.specs.List.{last_or}
+use Rattle.std.proofs.lemmas.Bool.{false≢true}
 use Rattle.std.proofs.lemmas.Option.{none-some}
 use Rattle.quilt_record.specs.declared.record.Record.{Record}
 use Rattle.quilt_node.specs.Pages.{Inner, leaf_of, inner_of}
@@ -28,6 +29,11 @@ use Rattle.quilt_btree.proofs.ways.Forks.{IsRead, leaf_has_last, child_page}
 not_some : {A : Type 0} (o : Option A) → ((x : A) → o ≡ Some x → ⊥) → o ≡ None
 not_some None f = refl
 not_some (Some x) f = absurd (f x refl)
+
+-- what is not some is none
+pub none_of : {A : Type 0} (o : Option A) → is_some o ≡ false → o ≡ None
+none_of None e = refl
+none_of (Some x) e = absurd (false≢true (sym e))
 
 -- a page above the leaves that is no inner page
 pub bad_inner : (old new : Option (List (List ℕ))) (page height size : ℕ) (bytes : List ℕ) → IsRead old new page height size bytes
@@ -95,12 +101,28 @@ pub named_more : {T : Type 0} (r : Result T Stop) (n m : ℕ) → n ≤ m → If
 named_more (Ok v) n m le f = f
 named_more (Err e) n m le f = names_more n m e le f
 
+-- page 0, or one of a store of so many
+pub fault_names : {T : Type 0} (r : Result T Stop) (size page : ℕ) (P : Type 0) → page < size
+    → IfErr r (λ e. (q : ℕ) → e ≡ Damaged q → (q ≡ 0) ⊎ ((q ≡ page) × P)) → IfErr r (NamesPage size)
+fault_names (Ok v) size page P lt f = f
+fault_names (Err Device) size page P lt f = tt
+fault_names (Err Memory) size page P lt f = tt
+fault_names (Err (Damaged q)) size page P lt f = at (f q refl)
+  where
+    at : ((q ≡ 0) ⊎ ((q ≡ page) × P)) → q < size
+    at (inl none) = omega arith
+    at (inr is) = let same = is.0 in omega arith
+
+pub zero_faults : {T : Type 0} (r : Result T Stop) (P : ℕ → Type 0) → IfErr r (NamesPage 1) → IfErr r (λ e. (q : ℕ) → e ≡ Damaged q → (q ≡ 0) ⊎ P q)
+zero_faults (Ok v) P f = f
+zero_faults (Err e) P f = λ q is. inl (none_below_one q (subst (NamesPage 1) is f))
+
 -- what is named at a leaf
 pub named_leaf : {T : Type 0} (r : Result T Stop) (told : Option (List (List ℕ))) (height page : ℕ) → height ≡ 1
     → IfErr r (λ e. e ≢ Damaged 0 → NamesBad told 1 page e) → IfErr r (λ e. e ≢ Damaged 0 → NamesBad told height page e)
 named_leaf r told height page one f = subst (λ h. IfErr r (λ e. e ≢ Damaged 0 → NamesBad told h page e)) (sym one) f
 
-module _ (old new : Option (List (List ℕ))) (page height size : ℕ) (bytes : List ℕ) where
+module _ {old new : Option (List (List ℕ))} {page height size : ℕ} {bytes : List ℕ} where
   -- what is bad under a child is bad under its page
   pub bad_below : (child : ℕ) (e : Stop) → IsRead old new page height size bytes → HasChild size bytes child → NamesBad new (height - 1) child e
       → NamesBad old height page e
@@ -135,6 +157,13 @@ module _ (old new : Option (List (List ℕ))) (page height size : ℕ) (bytes : 
   inner_fault q r f =
       fault_named old height page page q (inner_of size bytes ≡ None) f
       (λ none. bad_inner old new page height size bytes r (not_none (inner_of size bytes) none))
+
+  pub inner_faults : {T : Type 0} (r : Result T Stop) → IsRead old new page height size bytes
+      → IfErr r (λ e. (q : ℕ) → e ≡ Damaged q → (q ≡ 0) ⊎ ((q ≡ page) × (inner_of size bytes ≡ None))) → IfErr r (λ e. e ≢ Damaged 0 → NamesBad old height page e)
+  inner_faults (Ok v) r f = f
+  inner_faults (Err Device) r f = λ ne. tt
+  inner_faults (Err Memory) r f = λ ne. tt
+  inner_faults (Err (Damaged q)) r f = inner_fault q r (f q refl)
 
   -- where the store tells the same, and the way has come to a child
   pub named_below : {T : Type 0} (r : Result T Stop) (child : ℕ) → IsRead old new page height size bytes → HasChild size bytes child
@@ -310,7 +339,7 @@ beside_named (Err (Damaged q)) {told = told} {mid = mid} now {page = page} {heig
     let one : height - 1 ≡ 1 = let t = b.two in omega arith in
     let l = inner_list size bytes inner is in
     let in_store = child_page size inner.children b.place l.in_range b.in_range in
-    bad_below told mid page height size bytes (slice_index inner.children b.place) (Damaged q) r
+    bad_below (slice_index inner.children b.place) (Damaged q) r
     (record {
       place = b.place;
       in_range = let m = l.most in let lt = b.in_range in omega arith;

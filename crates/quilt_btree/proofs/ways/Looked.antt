@@ -1,5 +1,5 @@
 -- A page above the leaves that was looked at where it lies.
-use Rattle.std.proofs.Common.{◌≡◌, ◌≢◌, ℕ, ◌-◌, ◌≤◌, List, [], length, Option, Some, None, Result, Ok, Err, IfErr, IfSome, slice_index, slice_index_or, refl, sym, subst}
+use Rattle.std.proofs.Common.{◌≡◌, ◌≢◌, ℕ, ◌-◌, ◌≤◌, List, [], length, Option, Some, None, Result, Ok, Err, IfErr, IfSome, slice_index, slice_index_or, refl, sym, ◌∙◌, subst}
 use Rattle.std.specs.List.{last_or}
 use Rattle.quilt_types.specs.declared.stop.Stop.TheVariants.{Damaged}
 use Rattle.quilt_node.specs.Pages.{Inner, leaf_of, inner_of}
@@ -8,27 +8,27 @@ use Rattle.quilt_types.specs.declared.stop.Stop.{Stop}
 use Rattle.quilt_record.specs.declared.key.Key.{Key}
 use Rattle.quilt_record.specs.declared.record.Record.{Record}
 use Rattle.quilt_btree.specs.Damage.{HasChild, NamesBad}
-use Rattle.quilt_btree.specs.Looks.{ShowsFork, ShowsStep, ShowsLast}
+use Rattle.quilt_store.specs.declared.store.PageStore.{Ghosts}
+use Rattle.quilt_btree.specs.Looks.{LooksAt, ShowsFork, ShowsStep, ShowsLast}
 use Rattle.quilt_btree.specs.Searches.{AreOf, IsFork, IsStepDown}
 use Rattle.quilt_btree.specs.Trees.{SpellsSubtree}
 use Rattle.quilt_btree.proofs.ways.Damage.{bad_inner, bad_last}
 use Rattle.quilt_btree.proofs.ways.Forks.{IsRead, Forked, forked, forks, are_of, leaf_here, leaf_has_last}
 
--- what is known of a page above the leaves behind a look
-pub record IsLooked (old new : Option (List (List ℕ))) (height size : ℕ) : Type 0 where
-  pub some : 1 ≤ height
-  pub above : height ≢ 1
-  pub told : new ≡ old
-  pub many : IfSome old (λ pages. length pages ≡ size)
+-- a page above the leaves that a call looked at
+module _ {S T : Type 0} {g : Ghosts S} {page height size : ℕ} {old new : S} {result : Result T Stop} (looks : LooksAt g page old new result)
+    (some : 1 ≤ height) (above : height ≢ 1) (many : IfSome (g.told old) (λ pages. length pages ≡ size)) where
+  pub read_of : {bytes : List ℕ} → AreOf (g.told old) page bytes → IsRead (g.told old) (g.told new) page height size bytes
+  read_of are = record { some = some; above = above; told = looks.left.told; many = many; are = are }
 
-module _ (old new : Option (List (List ℕ))) (page height size : ℕ) where
-  pub read_of : (bytes : List ℕ) → IsLooked old new height size → AreOf old page bytes → IsRead old new page height size bytes
-  read_of bytes l are = record { some = l.some; above = l.above; told = l.told; many = l.many; are = are }
+  pub fork_shown : {k : Key} {child : ℕ} {prior : Option ℕ} {rs : List Record} → ShowsFork (g.told old) page size k child prior
+      → SpellsSubtree (g.told old) page height rs → Forked (g.told old) (g.told new) page height k child prior rs
+  fork_shown {k} {child} {prior} {rs} f s = forked (g.told old) (g.told new) page height size f.bytes k child prior rs (read_of f.are) f.fork s
 
-  pub fork_shown : (k : Key) (child : ℕ) (prior : Option ℕ) (rs : List Record) → IsLooked old new height size → ShowsFork old page size k child prior
-      → SpellsSubtree old page height rs → Forked old new page height k child prior rs
-  fork_shown k child prior rs l f s =
-      forked old new page height size f.bytes k child prior rs (read_of f.bytes l f.are) f.fork s
+-- and then another call, which left the pages as they were
+pub read_on : {old new newer : Option (List (List ℕ))} {page height size : ℕ} {bytes : List ℕ} → newer ≡ new → IsRead old new page height size bytes
+    → IsRead old newer page height size bytes
+read_on e r = record { some = r.some; above = r.above; told = e ∙ r.told; many = r.many; are = r.are }
 
 module _ (told : Option (List (List ℕ))) (page n size : ℕ) (bytes : List ℕ) where
   -- what a look at the bytes shows of the page

@@ -20,7 +20,7 @@ use Rattle.quilt_btree.specs.Searches.{AreOf, IsStepDown}
 use Rattle.quilt_store.specs.Stops.{IsNotDamage}
 use Rattle.quilt_btree.specs.Arrivals.{Arrives}
 use Rattle.quilt_btree.specs.Trees.{SpellsSubtree, LeadsToLeaf, IsCut}
-use Rattle.quilt_btree.proofs.subtrees.Descending.{leads_below, along_told, leads_up, leaf_leads}
+use Rattle.quilt_btree.proofs.subtrees.Descending.{AtFloor, leads_below, along_told, leads_up, leaf_leads}
 use Rattle.quilt_btree.proofs.subtrees.Dividing.{cut_up, leaf_cut}
 use Rattle.quilt_btree.proofs.ways.Forks.{IsRead, page_here, leaf_here}
 use Rattle.quilt_btree.proofs.subtrees.Trees.{inner_list, leaf_list}
@@ -36,75 +36,63 @@ pub told_before : (old new : Option (List (List ℕ))) (page : ℕ) (last : List
 told_before old new page last same are = λ pages is. are pages (sym same ∙ is)
 
 -- a step down from an inner page that was read, to the child where a key belongs
-pub record Down : Type 0 where
-  pub old : Option (List (List ℕ))
-  pub new : Option (List (List ℕ))
-  pub page : ℕ
-  pub height : ℕ
-  pub size : ℕ
-  pub bytes : List ℕ
-  pub key : Key
-  pub child : ℕ
-  pub start : Option Key
-  pub next : Option Key
-  pub is_read : IsRead old new page height size bytes
-  pub steps : StepsTo size bytes key start child next
+module _ {old new : Option (List (List ℕ))} {page height size : ℕ} {bytes : List ℕ} {k : Key} {child : ℕ} {start next : Option Key}
+    (is : IsRead old new page height size bytes) (steps : StepsTo size bytes k start child next) where
+  step_down : (rs : List Record) → SpellsSubtree old page height rs
+      → (inner : Inner) × (i : ℕ) × AtFloor old new page height child i k inner × (next ≡ option_or (slice_get inner.keys i) start)
+  step_down rs s =
+      let h = page_here is s in
+      let st = steps h.inner h.is in (
+        h.inner,
+        st.place,
+        record { told = is.told; some = is.some; above = is.above; reads = h.reads; place = st.is_place; is_child = st.child_is },
+        st.next_is,
+      )
 
--- the child spells a part of the records
-step_spells : (d : Down) (rs : List Record) → SpellsSubtree d.old d.page d.height rs → (here : List Record) × SpellsSubtree d.new d.child (d.height - 1) here
-step_spells d rs s =
-    let is = d.is_read in
-    let h = page_here is s in
-    let st = d.steps h.inner h.is in
-    let low = leads_below d.old d.page d.height h.inner st.place d.key is.some is.above s h.reads st.is_place in (
-      low.here,
-      subst (λ c. SpellsSubtree d.new c (d.height - 1) low.here) (sym st.child_is)
-          (along_told d.old d.new (slice_index h.inner.children st.place) (d.height - 1) low.here is.told low.spells),
-    )
+  -- the child spells a part of the records
+  step_spells : (rs : List Record) → SpellsSubtree old page height rs → (here : List Record) × SpellsSubtree new child (height - 1) here
+  step_spells rs s =
+      let d = step_down rs s in
+      let low = leads_below old page height d.0 d.1 k is.some is.above s d.2.reads d.2.place in (
+        low.here,
+        subst (λ c. SpellsSubtree new c (height - 1) low.here) (sym d.2.is_child)
+            (along_told old new (slice_index d.0.children d.1) (height - 1) low.here is.told low.spells),
+      )
 
-step_led : (d : Down) (v : Found) (leaf : List Record)
-    → ((rs : List Record) (s : SpellsSubtree d.new d.child (d.height - 1) rs) → s.bounds.high ≡ d.next → LeadsToLeaf d.key rs leaf d.next v.high)
-    → (rs : List Record) (s : SpellsSubtree d.old d.page d.height rs) → s.bounds.high ≡ d.start → LeadsToLeaf d.key rs leaf d.start v.high
-step_led d v leaf f rs s top =
-    let is = d.is_read in
-    let h = page_here is s in
-    let st = d.steps h.inner h.is in
-    leads_up (Ok v) leaf d.start
-    (record { told = is.told; some = is.some; above = is.above; reads = h.reads; place = st.is_place; is_child = st.child_is }) st.next_is f rs s top
+  step_led : (v : Found) (leaf : List Record)
+      → ((rs : List Record) (s : SpellsSubtree new child (height - 1) rs) → s.bounds.high ≡ next → LeadsToLeaf k rs leaf next v.high)
+      → (rs : List Record) (s : SpellsSubtree old page height rs) → s.bounds.high ≡ start → LeadsToLeaf k rs leaf start v.high
+  step_led v leaf f rs s top = let d = step_down rs s in leads_up (Ok v) leaf start d.2 d.3 f rs s top
 
-step_cut : (d : Down) (leaf : List Record) (high : Option Key)
-    → ((rs : List Record) (s : SpellsSubtree d.new d.child (d.height - 1) rs) → s.bounds.high ≡ d.next → LeadsToLeaf d.key rs leaf d.next high)
-    → IsCut d.new d.child (d.height - 1) d.key d.next leaf high → IsCut d.old d.page d.height d.key d.start leaf high
-step_cut d leaf high f g =
-    let is = d.is_read in
-    let up : (rs : List Record) → SpellsSubtree d.old d.page d.height rs → IsCut d.old d.page d.height d.key d.start leaf high = λ rs s.
-    let h = page_here is s in
-    let st = d.steps h.inner h.is in
-    cut_up d.start
-    (record { told = is.told; some = is.some; above = is.above; reads = h.reads; place = st.is_place; is_child = st.child_is }) st.next_is f g in
-    record {
-      starts = λ pages rs t s top e. (up rs s).starts pages rs t s top e;
-      ends = λ pages rs s t top b. (up rs s).ends pages rs s t top b;
-    }
+  step_cut : (leaf : List Record) (high : Option Key)
+      → ((rs : List Record) (s : SpellsSubtree new child (height - 1) rs) → s.bounds.high ≡ next → LeadsToLeaf k rs leaf next high)
+      → IsCut new child (height - 1) k next leaf high → IsCut old page height k start leaf high
+  step_cut leaf high f g =
+      let up : (rs : List Record) → SpellsSubtree old page height rs → IsCut old page height k start leaf high = λ rs s.
+      let d = step_down rs s in cut_up start d.2 d.3 f g in
+      record {
+        starts = λ pages rs t s top e. (up rs s).starts pages rs t s top e;
+        ends = λ pages rs s t top b. (up rs s).ends pages rs s t top b;
+      }
 
--- where the key leads below the child, it leads from the page
-pub step_arrives : (d : Down) (r : Result Found Stop)
-    → IfOk r (λ f. (last : List ℕ) → AreOf d.new f.page last → Arrives d.new d.child (d.height - 1) d.key d.next last f.high)
-    → IfOk r (λ f. (last : List ℕ) → AreOf d.old f.page last → Arrives d.old d.page d.height d.key d.start last f.high)
-step_arrives d (Err e) f = f
-step_arrives d (Ok v) f = λ last are.
-    let low = f last (told_before d.old d.new v.page last d.is_read.told are) in
-    record {
-      leaf = λ rs s. let here = step_spells d rs s in low.leaf here.0 here.1;
-      least = λ rs s. let here = step_spells d rs s in low.least here.0 here.1;
-      leads = step_led d v (page_records last) low.leads;
-      cut = step_cut d (page_records last) v.high low.leads low.cut;
-    }
+  -- where the key leads below the child, it leads from the page
+  pub step_arrives : (r : Result Found Stop)
+      → IfOk r (λ f. (last : List ℕ) → AreOf new f.page last → Arrives new child (height - 1) k next last f.high)
+      → IfOk r (λ f. (last : List ℕ) → AreOf old f.page last → Arrives old page height k start last f.high)
+  step_arrives (Err e) f = f
+  step_arrives (Ok v) f = λ last are.
+      let low = f last (told_before old new v.page last is.told are) in
+      record {
+        leaf = λ rs s. let here = step_spells rs s in low.leaf here.0 here.1;
+        least = λ rs s. let here = step_spells rs s in low.least here.0 here.1;
+        leads = step_led v (page_records last) low.leads;
+        cut = step_cut (page_records last) v.high low.leads low.cut;
+      }
 
-pub step_sound : {T : Type 0} (d : Down) (r : Result T Stop) → IfErr r (λ e. (rs : List Record) → SpellsSubtree d.new d.child (d.height - 1) rs → IsNotDamage e)
-    → IfErr r (λ e. (rs : List Record) → SpellsSubtree d.old d.page d.height rs → IsNotDamage e)
-step_sound d (Ok v) f = f
-step_sound {T} d (Err e) f = λ rs s. let here = step_spells d rs s in f here.0 here.1
+  pub step_sound : {T : Type 0} (r : Result T Stop) → IfErr r (λ e. (rs : List Record) → SpellsSubtree new child (height - 1) rs → IsNotDamage e)
+      → IfErr r (λ e. (rs : List Record) → SpellsSubtree old page height rs → IsNotDamage e)
+  step_sound (Ok v) f = f
+  step_sound (Err e) f = λ rs s. let here = step_spells rs s in f here.0 here.1
 
 pub step_above : (r : Result Found Stop) (k : Key) (start next : Option Key) → (is_below start k ≡ true → is_below next k ≡ true)
     → IfOk r (λ f. is_below next k ≡ true → is_below f.high k ≡ true) → IfOk r (λ f. is_below start k ≡ true → is_below f.high k ≡ true)

@@ -51,7 +51,7 @@ last_touched (Ok x) {old = old} {new = new} {page = page} {height = height} {chi
 abbrev before_in : List (List ℕ) → Key → ℕ → Inner → ℕ → List ℕ
 before_in pages k height inner i = before_child (finds_floor pages k (height - 1)) (last_pages pages (height - 1)) inner i
 
-module _ (old new : Option (List (List ℕ))) (page height child i : ℕ) (k : Key) (inner : Inner) where
+module _ {old new : Option (List (List ℕ))} {page height child i : ℕ} {k : Key} {inner : Inner} where
   floor_parts : AtFloor old new page height child i k inner → i ≡ child_place k inner → (pages : List (List ℕ)) → old ≡ Some pages
       → floor_pages pages k height page ≡ page ∷ (floor_pages pages k (height - 1) child ++ before_in pages k height inner i)
   floor_parts a place pages is =
@@ -90,8 +90,8 @@ pub record GoesBefore (old new newer : Option (List (List ℕ))) (page height ch
 before_parts : {old new newer : Option (List (List ℕ))} {page height child prior i : ℕ} {k : Key} {inner : Inner}
     → GoesBefore old new newer page height child prior i k inner → (pages : List (List ℕ)) → old ≡ Some pages
     → floor_pages pages k height page ≡ page ∷ (floor_pages pages k (height - 1) child ++ last_pages pages (height - 1) prior)
-before_parts {old = old} {new = new} {page = page} {height = height} {child = child} {prior = prior} {i = i} {k = k} {inner = inner} a pages is =
-    floor_parts old new page height child i k inner a.at a.place pages is
+before_parts {page = page} {height = height} {child = child} {prior = prior} {i = i} {k = k} {inner = inner} a pages is =
+    floor_parts a.at a.place pages is
     ∙ ap (λ l. page ∷ (floor_pages pages k (height - 1) child ++ l))
     (child_before pages k (height - 1) child prior i inner a.at.is_child a.is_prior (a.lacks pages (a.at.told ∙ is)) a.some)
 
@@ -121,7 +121,7 @@ floor_again_more {page = page} {height = height} {child = child} {prior = prior}
 abbrev pub Finds : Option (List (List ℕ)) → Key → ℕ → ℕ → Bool → Type 0
 Finds told k height page b = (pages : List (List ℕ)) → told ≡ Some pages → finds_floor pages k height page ≡ b
 
-module _ (old new : Option (List (List ℕ))) (page height child i : ℕ) (k : Key) (inner : Inner) (a : AtFloor old new page height child i k inner)
+module _ {old new : Option (List (List ℕ))} {page height child i : ℕ} {k : Key} {inner : Inner} (a : AtFloor old new page height child i k inner)
     (place : i ≡ child_place k inner) where
   finds_parts : (pages : List (List ℕ)) → old ≡ Some pages → finds_floor pages k height page ≡ (nat_lt 0 i || finds_floor pages k (height - 1) child)
   finds_parts pages is =

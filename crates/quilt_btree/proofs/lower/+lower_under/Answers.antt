@@ -1,8 +1,8 @@
-use Rattle.std.proofs.Common.{◌∙◌, ◌-◌}
+use Rattle.std.proofs.Common.{◌∙◌}
 use Rattle.quilt_store.proofs.Reading.{only_reads_then, only_reads_ok, only_reads_err}
 use Rattle.quilt_btree.proofs.cursors.Lowers.{lower_here, lower_none, lower_before}
 use Rattle.quilt_btree.proofs.subtrees.Descending.{along_told}
-use Rattle.quilt_btree.proofs.ways.Looked.{read_of, fork_shown}
+use Rattle.quilt_btree.proofs.ways.Looked.{read_of, read_on, fork_shown}
 use Rattle.quilt_btree.proofs.ways.Damage.{bad_below, child_at}
 use Rattle.quilt_btree.proofs.Handed.{handed_on}
 use Rattle.quilt_btree.proofs.lower.+lower_under.Goals as goal
@@ -10,71 +10,36 @@ use Rattle.quilt_btree.proofs.lower.+lower_under.Goals as goal
 pub returns-in_err-r-clause-sound : goal.returns-in_err-r-clause-sound
 returns-in_err-r-clause-sound g t c =
     rw (handed_on c.from_residual-in_err-r.result c.from_residual-in_err-r.ensures.1) (λ rs s.
-    let a = fork_shown _ (g.S.PageStore.told c.fork_at.new.store) c.args.page c.args.height _ c.args.k.now c.in_ok-fork.fork.child c.in_ok-fork.fork.prior rs
-    (record {
-      some = c.requires.height;
-      above = c.if-height-eq1.false;
-      told = c.in_ok-fork.ensures.looks.left.told;
-      many = g.met.S.PageStore.as_many c.args.store.now;
-    }) c.in_ok-fork.ensures.shows s in
+    let a = fork_shown c.in_ok-fork.ensures.looks c.requires.height c.if-height-eq1.false (g.met.S.PageStore.as_many c.args.store.now) c.in_ok-fork.ensures.shows s in
     c.in_err-r.ensures.sound a.here a.spells)
 
 pub returns-in-Some-clause-lower : goal.returns-in-Some-clause-lower
 returns-in-Some-clause-lower g t c = λ rs s.
     let found = rw c.in-Some.is at c.in_ok-r.ensures in
-    let a = fork_shown _ (g.S.PageStore.told c.fork_at.new.store) c.args.page c.args.height _ c.args.k.now c.in_ok-fork.fork.child c.in_ok-fork.fork.prior rs
-    (record {
-      some = c.requires.height;
-      above = c.if-height-eq1.false;
-      told = c.in_ok-fork.ensures.looks.left.told;
-      many = g.met.S.PageStore.as_many c.args.store.now;
-    }) c.in_ok-fork.ensures.shows s in
-    lower_here (g.S.PageStore.told c.args.store.now) (g.S.PageStore.told c.fork_at.new.store) c.args.page c.args.height c.in_ok-fork.fork.child a.i
-    c.args.k.now a.inner c.in-Some.r a.at found.lower rs s
+    let a = fork_shown c.in_ok-fork.ensures.looks c.requires.height c.if-height-eq1.false (g.met.S.PageStore.as_many c.args.store.now) c.in_ok-fork.ensures.shows s in
+    lower_here c.in-Some.r a.at found.lower rs s
 
 pub returns-in-None-prior-clause-lower : goal.returns-in-None-prior-clause-lower
 returns-in-None-prior-clause-lower g t c = λ rs s.
     let found = rw c.in-None.is at c.in_ok-r.ensures in
-    let a = fork_shown _ (g.S.PageStore.told c.fork_at.new.store) c.args.page c.args.height _ c.args.k.now c.in_ok-fork.fork.child c.in_ok-fork.fork.prior rs
-    (record {
-      some = c.requires.height;
-      above = c.if-height-eq1.false;
-      told = c.in_ok-fork.ensures.looks.left.told;
-      many = g.met.S.PageStore.as_many c.args.store.now;
-    }) c.in_ok-fork.ensures.shows s in
-    lower_none (g.S.PageStore.told c.args.store.now) (g.S.PageStore.told c.fork_at.new.store) c.args.page c.args.height c.in_ok-fork.fork.child a.i
-    c.args.k.now a.inner a.at (a.first c.in-None-prior.is) found.lower rs s
+    let a = fork_shown c.in_ok-fork.ensures.looks c.requires.height c.if-height-eq1.false (g.met.S.PageStore.as_many c.args.store.now) c.in_ok-fork.ensures.shows s in
+    lower_none a.at (a.first c.in-None-prior.is) found.lower rs s
 
 pub returns-in_err-last_under-in-Some-prior-clause-sound : goal.returns-in_err-last_under-in-Some-prior-clause-sound
 returns-in_err-last_under-in-Some-prior-clause-sound g t c =
     rw (handed_on c.from_residual-in_err-last_under-in-Some-prior.result c.from_residual-in_err-last_under-in-Some-prior.ensures.1) (λ rs s.
-    let a = fork_shown _ (g.S.PageStore.told c.fork_at.new.store) c.args.page c.args.height _ c.args.k.now c.in_ok-fork.fork.child c.in_ok-fork.fork.prior rs
-    (record {
-      some = c.requires.height;
-      above = c.if-height-eq1.false;
-      told = c.in_ok-fork.ensures.looks.left.told;
-      many = g.met.S.PageStore.as_many c.args.store.now;
-    }) c.in_ok-fork.ensures.shows s in
+    let a = fork_shown c.in_ok-fork.ensures.looks c.requires.height c.if-height-eq1.false (g.met.S.PageStore.as_many c.args.store.now) c.in_ok-fork.ensures.shows s in
     let p = a.later c.in-Some-prior.prior c.in-Some-prior.is in
-    let there = along_told (g.S.PageStore.told c.args.store.now) (g.S.PageStore.told c.lower_under.new.store) c.in-Some-prior.prior
-    (c.args.height - 1) p.here (c.in_ok-r.ensures.left.told ∙ c.in_ok-fork.ensures.looks.left.told) p.spells in
+    let there = along_told _ _ _ _ _ (c.in_ok-r.ensures.left.told ∙ c.in_ok-fork.ensures.looks.left.told) p.spells in
     c.in_err-last_under-in-Some-prior.ensures.sound p.here there)
 
 pub returns-in_ok-last_under-in-Some-prior-clause-lower : goal.returns-in_ok-last_under-in-Some-prior-clause-lower
 returns-in_ok-last_under-in-Some-prior-clause-lower g t c = λ rs s.
     let found = rw c.in-None.is at c.in_ok-r.ensures in
-    let a = fork_shown _ (g.S.PageStore.told c.fork_at.new.store) c.args.page c.args.height _ c.args.k.now c.in_ok-fork.fork.child c.in_ok-fork.fork.prior rs
-    (record {
-      some = c.requires.height;
-      above = c.if-height-eq1.false;
-      told = c.in_ok-fork.ensures.looks.left.told;
-      many = g.met.S.PageStore.as_many c.args.store.now;
-    }) c.in_ok-fork.ensures.shows s in
+    let a = fork_shown c.in_ok-fork.ensures.looks c.requires.height c.if-height-eq1.false (g.met.S.PageStore.as_many c.args.store.now) c.in_ok-fork.ensures.shows s in
     let p = a.later c.in-Some-prior.prior c.in-Some-prior.is in
-    let there = along_told (g.S.PageStore.told c.args.store.now) (g.S.PageStore.told c.lower_under.new.store) c.in-Some-prior.prior
-    (c.args.height - 1) p.here (c.in_ok-r.ensures.left.told ∙ c.in_ok-fork.ensures.looks.left.told) p.spells in
-    lower_before
-    c.in_ok-last_under-in-Some-prior.field-0 a.at p.some
+    let there = along_told _ _ _ _ _ (c.in_ok-r.ensures.left.told ∙ c.in_ok-fork.ensures.looks.left.told) p.spells in
+    lower_before c.in_ok-last_under-in-Some-prior.field-0 a.at p.some
     (c.in_ok-r.ensures.left.told ∙ c.in_ok-fork.ensures.looks.left.told) p.is found.lower c.in_ok-last_under-in-Some-prior.ensures.last s
 
 pub returns-in_err-fork-clause-sound : goal.returns-in_err-fork-clause-sound
@@ -89,27 +54,16 @@ returns-in_err-fork-clause-bad g t c =
 pub returns-in_err-r-clause-bad : goal.returns-in_err-r-clause-bad
 returns-in_err-r-clause-bad g t c =
     rw (handed_on c.from_residual-in_err-r.result c.from_residual-in_err-r.ensures.1)
-    (bad_below (g.S.PageStore.told c.args.store.now) (g.S.PageStore.told c.fork_at.new.store)
-    c.args.page c.args.height (g.S.PageStore.size c.args.store.now) c.in_ok-fork.ensures.shows.bytes c.in_ok-fork.fork.child _
-    (read_of _ _ _ _ _ _ (record {
-      some = c.requires.height;
-      above = c.if-height-eq1.false;
-      told = c.in_ok-fork.ensures.looks.left.told;
-      many = g.met.S.PageStore.as_many c.args.store.now;
-    }) c.in_ok-fork.ensures.shows.are)
+    (bad_below c.in_ok-fork.fork.child _
+    (read_of c.in_ok-fork.ensures.looks c.requires.height c.if-height-eq1.false (g.met.S.PageStore.as_many c.args.store.now) c.in_ok-fork.ensures.shows.are)
     c.in_ok-fork.ensures.shows.stands c.in_err-r.ensures.bad)
 
 pub returns-in_err-last_under-in-Some-prior-clause-bad : goal.returns-in_err-last_under-in-Some-prior-clause-bad
 returns-in_err-last_under-in-Some-prior-clause-bad g t c =
     rw (handed_on c.from_residual-in_err-last_under-in-Some-prior.result c.from_residual-in_err-last_under-in-Some-prior.ensures.1)
-    (bad_below (g.S.PageStore.told c.args.store.now) (g.S.PageStore.told c.lower_under.new.store)
-    c.args.page c.args.height (g.S.PageStore.size c.args.store.now) c.in_ok-fork.ensures.shows.bytes c.in-Some-prior.prior _
-    (read_of _ _ _ _ _ _ (record {
-      some = c.requires.height;
-      above = c.if-height-eq1.false;
-      told = c.in_ok-r.ensures.left.told ∙ c.in_ok-fork.ensures.looks.left.told;
-      many = g.met.S.PageStore.as_many c.args.store.now;
-    }) c.in_ok-fork.ensures.shows.are)
+    (bad_below c.in-Some-prior.prior _
+    (read_on c.in_ok-r.ensures.left.told
+    (read_of c.in_ok-fork.ensures.looks c.requires.height c.if-height-eq1.false (g.met.S.PageStore.as_many c.args.store.now) c.in_ok-fork.ensures.shows.are))
     (child_at (g.S.PageStore.size c.args.store.now) c.in_ok-fork.ensures.shows.bytes c.in_ok-fork.fork.prior c.in-Some-prior.prior c.in-Some-prior.is
     c.in_ok-fork.ensures.shows.prior_stands) c.in_err-last_under-in-Some-prior.ensures.bad)
 

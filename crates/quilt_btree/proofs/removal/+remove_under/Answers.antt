@@ -1,4 +1,4 @@
-use Rattle.std.proofs.Common.{◌≡◌, ◌-◌, ◌*◌, true, false, Some, refl, sym, subst, ◌∙◌, arith}
+use Rattle.std.proofs.Common.{◌≡◌, ◌-◌, ◌*◌, Some, refl, sym, subst, ◌∙◌, arith}
 use Rattle.quilt_node.specs.Pages.{inner_of}
 use Rattle.quilt_btree.specs.Searches.{IsHigh}
 use Rattle.quilt_btree.proofs.ways.Forks.{place_inside, read_ok}
@@ -7,7 +7,7 @@ use Rattle.quilt_btree.specs.declared.outcomes.Removed.TheVariants.{Underfull, D
 use Rattle.quilt_btree.proofs.batches.Costs.{damaged_device}
 use Rattle.quilt_btree.proofs.stores.Leaves.{looked, edits_free, edits_then, removes_below}
 use Rattle.quilt_btree.proofs.growth.Finding.{finds_below, found_in_leaf, found_finds}
-use Rattle.quilt_btree.proofs.removals.LeafRemovals.{leaf_reads}
+use Rattle.quilt_btree.proofs.growth.Below.{leads_to, edit_spells}
 use Rattle.quilt_btree.proofs.removals.Removals.{sound_child, missing_child, done_child, rebalanced_child}
 use Rattle.quilt_btree.proofs.removals.Removals.{rebalanced_sound, emptied_child, only_child, leaf_sound}
 use Rattle.quilt_btree.proofs.Handed.{handed_on}
@@ -21,153 +21,53 @@ returns-then-height-eq1-clause-sound g t c =
 pub returns-in_err-path-clause-sound : goal.returns-in_err-path-clause-sound
 returns-in_err-path-clause-sound g t c =
     rw (handed_on c.from_residual.result c.from_residual.ensures.1)
-    (λ is_root b rs used can. c.in_err-path.ensures.sound c.args.height rs c.requires.height c.if-height-eq1.false
-    (leaf_reads (g.S.PageStore.told c.args.store.now) (g.S.PageStore.free c.args.store.now) c.args.page c.args.height is_root b rs used can))
+    (λ is_root b rs used can. c.in_err-path.ensures.sound c.args.height rs c.requires.height c.if-height-eq1.false (edit_spells can))
 
 pub returns-in_err-remove_under-clause-sound : goal.returns-in_err-remove_under-clause-sound
 returns-in_err-remove_under-clause-sound g t c =
     rw (handed_on c.from_residual-in_err-remove_under.result c.from_residual-in_err-remove_under.ensures.1) (λ is_root b rs used can.
-    let h = c.in_ok-path.ensures.here c.args.height rs c.requires.height c.if-height-eq1.false
-    (leaf_reads (g.S.PageStore.told c.args.store.now) (g.S.PageStore.free c.args.store.now) c.args.page c.args.height is_root b rs used can) in
-    let w = c.in_ok-path.ensures.path h.inner h.is in
-    sound_child (g.S.PageStore.told c.args.store.now) (g.S.PageStore.told c.read_path.new.store) (g.S.PageStore.free c.args.store.now)
-    (g.S.PageStore.free c.read_path.new.store) c.args.page c.args.height c.in_ok-path.path.child c.in_ok-path.path.place h.inner c.args.k.now
-    _
-    (record {
-      some = c.requires.height;
-      above = c.if-height-eq1.false;
-      reads = w.reads;
-      place = w.is_place;
-      is_mid = c.in_ok-path.ensures.left.told;
-      is_free = c.in_ok-path.ensures.left.free;
-      is_child = w.child_is;
-    })
-    c.in_err-remove_under.ensures.sound is_root b rs used can)
+    let h = c.in_ok-path.ensures.here c.args.height rs c.requires.height c.if-height-eq1.false (edit_spells can) in
+    sound_child (leads_to c.in_ok-path.ensures.left c.requires.height c.if-height-eq1.false (c.in_ok-path.ensures.path h.inner h.is))
+    can _ c.in_err-remove_under.ensures.sound)
 
 pub returns-in-Missing-clause-removed : goal.returns-in-Missing-clause-removed
 returns-in-Missing-clause-removed g t c = λ is_root b rs used can.
-    let h = c.in_ok-path.ensures.here c.args.height rs c.requires.height c.if-height-eq1.false
-    (leaf_reads (g.S.PageStore.told c.args.store.now) (g.S.PageStore.free c.args.store.now) c.args.page c.args.height is_root b rs used can) in
-    let w = c.in_ok-path.ensures.path h.inner h.is in
-    let found = rw c.in-Missing.is at c.in_ok-remove_under.ensures in
-    missing_child c.args.k.now (g.S.PageStore.told c.args.store.now) (g.S.PageStore.told c.read_path.new.store)
-    (g.S.PageStore.told c.remove_under.new.store) (g.S.PageStore.free c.args.store.now) (g.S.PageStore.free c.read_path.new.store)
-    (g.S.PageStore.free c.remove_under.new.store)
-    c.args.page c.args.height c.in_ok-path.path.child c.in_ok-path.path.place h.inner
-    (record {
-      some = c.requires.height;
-      above = c.if-height-eq1.false;
-      reads = w.reads;
-      place = w.is_place;
-      is_mid = c.in_ok-path.ensures.left.told;
-      is_free = c.in_ok-path.ensures.left.free;
-      is_child = w.child_is;
-    })
-    found.removed is_root b rs used can
+    let h = c.in_ok-path.ensures.here c.args.height rs c.requires.height c.if-height-eq1.false (edit_spells can) in
+    missing_child (leads_to c.in_ok-path.ensures.left c.requires.height c.if-height-eq1.false (c.in_ok-path.ensures.path h.inner h.is))
+    can (rw c.in-Missing.is at c.in_ok-remove_under.ensures.removed)
 
 pub returns-in-Done-clause-removed : goal.returns-in-Done-clause-removed
 returns-in-Done-clause-removed g t c = λ is_root b rs used can.
-    let h = c.in_ok-path.ensures.here c.args.height rs c.requires.height c.if-height-eq1.false
-    (leaf_reads (g.S.PageStore.told c.args.store.now) (g.S.PageStore.free c.args.store.now) c.args.page c.args.height is_root b rs used can) in
-    let w = c.in_ok-path.ensures.path h.inner h.is in
-    let found = rw c.in-Done.is at c.in_ok-remove_under.ensures in
-    done_child c.args.k.now (g.S.PageStore.told c.args.store.now) (g.S.PageStore.told c.read_path.new.store)
-    (g.S.PageStore.told c.remove_under.new.store) (g.S.PageStore.free c.args.store.now) (g.S.PageStore.free c.read_path.new.store)
-    (g.S.PageStore.free c.remove_under.new.store)
-    c.args.page c.args.height c.in_ok-path.path.child c.in_ok-path.path.place h.inner
-    (record {
-      some = c.requires.height;
-      above = c.if-height-eq1.false;
-      reads = w.reads;
-      place = w.is_place;
-      is_mid = c.in_ok-path.ensures.left.told;
-      is_free = c.in_ok-path.ensures.left.free;
-      is_child = w.child_is;
-    })
-    found.removed is_root b rs used can
+    let h = c.in_ok-path.ensures.here c.args.height rs c.requires.height c.if-height-eq1.false (edit_spells can) in
+    done_child (leads_to c.in_ok-path.ensures.left c.requires.height c.if-height-eq1.false (c.in_ok-path.ensures.path h.inner h.is))
+    (rw c.in-Done.is at c.in_ok-remove_under.ensures.removed) can
 
 pub returns-in-Some-clause-removed : goal.returns-in-Some-clause-removed
 returns-in-Some-clause-removed g t c =
-    let w =
-    c.in_ok-path.ensures.path c.in-Some.inner
-    (subst (λ n. inner_of n c.read_path.new.bytes ≡ Some c.in-Some.inner)
-    (c.pages.ensures ∙ c.in_ok-remove_under.ensures.left.size ∙ c.in_ok-path.ensures.left.size) c.in-Some.ensures.inner) in
-    let found = rw c.in-Underfull.is at c.in_ok-remove_under.ensures in
-    rebalanced_child c.args.k.now (g.S.PageStore.told c.args.store.now) (g.S.PageStore.told c.read_path.new.store)
-    (g.S.PageStore.told c.remove_under.new.store) (g.S.PageStore.free c.args.store.now) (g.S.PageStore.free c.read_path.new.store)
-    (g.S.PageStore.free c.remove_under.new.store) c.args.page c.args.height c.in_ok-path.path.child c.in_ok-path.path.place c.in-Some.inner
-    c.rebalance_child.result (g.S.PageStore.told c.rebalance_child.new.store) (g.S.PageStore.free c.rebalance_child.new.store)
-    (record {
-      some = c.requires.height;
-      above = c.if-height-eq1.false;
-      reads = w.reads;
-      place = w.is_place;
-      is_mid = c.in_ok-path.ensures.left.told;
-      is_free = c.in_ok-path.ensures.left.free;
-      is_child = w.child_is;
-    })
-    found.removed c.rebalance_child.ensures.remains.some c.rebalance_child.ensures.leaves
+    let is = subst (λ n. inner_of n c.read_path.new.bytes ≡ Some c.in-Some.inner)
+    (c.pages.ensures ∙ c.in_ok-remove_under.ensures.left.size ∙ c.in_ok-path.ensures.left.size) c.in-Some.ensures.inner in
+    rebalanced_child (leads_to c.in_ok-path.ensures.left c.requires.height c.if-height-eq1.false (c.in_ok-path.ensures.path c.in-Some.inner is))
+    (rw c.in-Underfull.is at c.in_ok-remove_under.ensures.removed) c.rebalance_child.result (g.S.PageStore.told c.rebalance_child.new.store)
+    (g.S.PageStore.free c.rebalance_child.new.store) c.rebalance_child.ensures.remains.some c.rebalance_child.ensures.leaves
 
 pub returns-in-Some-clause-sound : goal.returns-in-Some-clause-sound
 returns-in-Some-clause-sound g t c =
-    let w =
-    c.in_ok-path.ensures.path c.in-Some.inner
-    (subst (λ n. inner_of n c.read_path.new.bytes ≡ Some c.in-Some.inner)
-    (c.pages.ensures ∙ c.in_ok-remove_under.ensures.left.size ∙ c.in_ok-path.ensures.left.size) c.in-Some.ensures.inner) in
-    let found = rw c.in-Underfull.is at c.in_ok-remove_under.ensures in
-    rebalanced_sound c.args.k.now (g.S.PageStore.told c.args.store.now) (g.S.PageStore.told c.read_path.new.store)
-    (g.S.PageStore.told c.remove_under.new.store) (g.S.PageStore.free c.args.store.now) (g.S.PageStore.free c.read_path.new.store)
-    (g.S.PageStore.free c.remove_under.new.store) c.args.page c.args.height c.in_ok-path.path.child c.in_ok-path.path.place c.in-Some.inner
-    c.rebalance_child.result
-    (record {
-      some = c.requires.height;
-      above = c.if-height-eq1.false;
-      reads = w.reads;
-      place = w.is_place;
-      is_mid = c.in_ok-path.ensures.left.told;
-      is_free = c.in_ok-path.ensures.left.free;
-      is_child = w.child_is;
-    })
-    found.removed c.rebalance_child.ensures.sound
+    let is = subst (λ n. inner_of n c.read_path.new.bytes ≡ Some c.in-Some.inner)
+    (c.pages.ensures ∙ c.in_ok-remove_under.ensures.left.size ∙ c.in_ok-path.ensures.left.size) c.in-Some.ensures.inner in
+    rebalanced_sound (leads_to c.in_ok-path.ensures.left c.requires.height c.if-height-eq1.false (c.in_ok-path.ensures.path c.in-Some.inner is))
+    (rw c.in-Underfull.is at c.in_ok-remove_under.ensures.removed) c.rebalance_child.result c.rebalance_child.ensures.sound
 
 pub returns-in-Emptied-clause-sound : goal.returns-in-Emptied-clause-sound
 returns-in-Emptied-clause-sound g t c = λ is_root b rs used can.
-    let h = c.in_ok-path.ensures.here c.args.height rs c.requires.height c.if-height-eq1.false
-    (leaf_reads (g.S.PageStore.told c.args.store.now) (g.S.PageStore.free c.args.store.now) c.args.page c.args.height is_root b rs used can) in
-    let w = c.in_ok-path.ensures.path h.inner h.is in
-    let found = rw c.in-Emptied.is at c.in_ok-remove_under.ensures in
-    emptied_child c.args.k.now (g.S.PageStore.told c.args.store.now) (g.S.PageStore.told c.read_path.new.store)
-    (g.S.PageStore.told c.remove_under.new.store) (g.S.PageStore.free c.args.store.now) (g.S.PageStore.free c.read_path.new.store)
-    (g.S.PageStore.free c.remove_under.new.store) c.args.page c.args.height c.in_ok-path.path.child c.in_ok-path.path.place h.inner _
-    (record {
-      some = c.requires.height;
-      above = c.if-height-eq1.false;
-      reads = w.reads;
-      place = w.is_place;
-      is_mid = c.in_ok-path.ensures.left.told;
-      is_free = c.in_ok-path.ensures.left.free;
-      is_child = w.child_is;
-    })
-    found.removed is_root b rs used can
+    let h = c.in_ok-path.ensures.here c.args.height rs c.requires.height c.if-height-eq1.false (edit_spells can) in
+    emptied_child (leads_to c.in_ok-path.ensures.left c.requires.height c.if-height-eq1.false (c.in_ok-path.ensures.path h.inner h.is))
+    _ (rw c.in-Emptied.is at c.in_ok-remove_under.ensures.removed) can
 
 pub returns-in-Only-clause-sound : goal.returns-in-Only-clause-sound
 returns-in-Only-clause-sound g t c = λ is_root b rs used can.
-    let h = c.in_ok-path.ensures.here c.args.height rs c.requires.height c.if-height-eq1.false
-    (leaf_reads (g.S.PageStore.told c.args.store.now) (g.S.PageStore.free c.args.store.now) c.args.page c.args.height is_root b rs used can) in
-    let w = c.in_ok-path.ensures.path h.inner h.is in
-    let found = rw c.in-Only.is at c.in_ok-remove_under.ensures in
-    only_child _ _
-    c.in_ok-path.path.place h.inner
-    (record {
-      some = c.requires.height;
-      above = c.if-height-eq1.false;
-      reads = w.reads;
-      place = w.is_place;
-      is_mid = c.in_ok-path.ensures.left.told;
-      is_free = c.in_ok-path.ensures.left.free;
-      is_child = w.child_is;
-    })
-    found.removed can
+    let h = c.in_ok-path.ensures.here c.args.height rs c.requires.height c.if-height-eq1.false (edit_spells can) in
+    only_child (leads_to c.in_ok-path.ensures.left c.requires.height c.if-height-eq1.false (c.in_ok-path.ensures.path h.inner h.is))
+    _ _ (rw c.in-Only.is at c.in_ok-remove_under.ensures.removed) can
 
 pub returns-then-height-eq1-clause-finds : goal.returns-then-height-eq1-clause-finds
 returns-then-height-eq1-clause-finds g t c =
@@ -177,30 +77,14 @@ returns-then-height-eq1-clause-finds g t c =
 pub returns-in-Missing-clause-finds : goal.returns-in-Missing-clause-finds
 returns-in-Missing-clause-finds g t c = λ rs s.
     let h = c.in_ok-path.ensures.here c.args.height rs c.requires.height c.if-height-eq1.false s in
-    let w = c.in_ok-path.ensures.path h.inner h.is in
-    finds_below (g.S.PageStore.told c.args.store.now) c.args.k.now false (g.S.PageStore.told c.read_path.new.store) c.args.page c.args.height
-    c.in_ok-path.path.child c.in_ok-path.path.place h.inner (record {
-      same = c.in_ok-path.ensures.left.told;
-      some = c.requires.height;
-      above = c.if-height-eq1.false;
-      reads = w.reads;
-      place = w.is_place;
-      is_child = w.child_is;
-    }) (rw c.in-Missing.is at c.in_ok-remove_under.ensures.finds) rs s
+    finds_below (leads_to c.in_ok-path.ensures.left c.requires.height c.if-height-eq1.false (c.in_ok-path.ensures.path h.inner h.is)).at
+    (rw c.in-Missing.is at c.in_ok-remove_under.ensures.finds) rs s
 
 pub returns-in-Done-clause-finds : goal.returns-in-Done-clause-finds
 returns-in-Done-clause-finds g t c = λ rs s.
     let h = c.in_ok-path.ensures.here c.args.height rs c.requires.height c.if-height-eq1.false s in
-    let w = c.in_ok-path.ensures.path h.inner h.is in
-    finds_below (g.S.PageStore.told c.args.store.now) c.args.k.now true (g.S.PageStore.told c.read_path.new.store) c.args.page c.args.height
-    c.in_ok-path.path.child c.in_ok-path.path.place h.inner (record {
-      same = c.in_ok-path.ensures.left.told;
-      some = c.requires.height;
-      above = c.if-height-eq1.false;
-      reads = w.reads;
-      place = w.is_place;
-      is_child = w.child_is;
-    }) (rw c.in-Done.is at c.in_ok-remove_under.ensures.finds) rs s
+    finds_below (leads_to c.in_ok-path.ensures.left c.requires.height c.if-height-eq1.false (c.in_ok-path.ensures.path h.inner h.is)).at
+    (rw c.in-Done.is at c.in_ok-remove_under.ensures.finds) rs s
 
 pub returns-in-Some-clause-finds : goal.returns-in-Some-clause-finds
 returns-in-Some-clause-finds g t c =
@@ -208,29 +92,19 @@ returns-in-Some-clause-finds g t c =
     c.rebalance_child.ensures.remains.some
     (λ rs s.
     let h = c.in_ok-path.ensures.here c.args.height rs c.requires.height c.if-height-eq1.false s in
-    let w = c.in_ok-path.ensures.path h.inner h.is in
-    finds_below (g.S.PageStore.told c.args.store.now) c.args.k.now true (g.S.PageStore.told c.read_path.new.store) c.args.page c.args.height
-    c.in_ok-path.path.child c.in_ok-path.path.place h.inner (record {
-      same = c.in_ok-path.ensures.left.told;
-      some = c.requires.height;
-      above = c.if-height-eq1.false;
-      reads = w.reads;
-      place = w.is_place;
-      is_child = w.child_is;
-    }) (rw c.in-Underfull.is at c.in_ok-remove_under.ensures.finds) rs s)
+    finds_below (leads_to c.in_ok-path.ensures.left c.requires.height c.if-height-eq1.false (c.in_ok-path.ensures.path h.inner h.is)).at
+    (rw c.in-Underfull.is at c.in_ok-remove_under.ensures.finds) rs s)
 
 pub returns-in-None-clause-sound : goal.returns-in-None-clause-sound
 returns-in-None-clause-sound g t c is_root b rs used can =
-    let h = c.in_ok-path.ensures.here c.args.height rs c.requires.height c.if-height-eq1.false
-    (leaf_reads (g.S.PageStore.told c.args.store.now) (g.S.PageStore.free c.args.store.now) c.args.page c.args.height is_root b rs used can) in
+    let h = c.in_ok-path.ensures.here c.args.height rs c.requires.height c.if-height-eq1.false (edit_spells can) in
     absurd (c.in-None.ensures.none refl
     (subst (λ n. IsHigh n c.read_path.new.bytes c.args.height) (sym (c.pages.ensures ∙ c.in_ok-remove_under.ensures.left.size ∙ c.in_ok-path.ensures.left.size)) h))
 
 pub rebalance_child-requires-clause-place : goal.rebalance_child-requires-clause-place
 rebalance_child-requires-clause-place g t c =
-    let same : c.pages.result ≡ g.S.PageStore.size c.args.store.now = c.pages.ensures ∙ c.in_ok-remove_under.ensures.left.size ∙ c.in_ok-path.ensures.left.size in
-    let is : inner_of (g.S.PageStore.size c.args.store.now) c.read_path.new.bytes ≡ Some c.in-Some.inner =
-    subst (λ n. inner_of n c.read_path.new.bytes ≡ Some c.in-Some.inner) same c.in-Some.ensures.inner in
+    let is = subst (λ n. inner_of n c.read_path.new.bytes ≡ Some c.in-Some.inner)
+    (c.pages.ensures ∙ c.in_ok-remove_under.ensures.left.size ∙ c.in_ok-path.ensures.left.size) c.in-Some.ensures.inner in
     place_inside (g.S.PageStore.size c.args.store.now) c.read_path.new.bytes c.in-Some.inner c.args.k.now c.in_ok-path.path.place is
     (c.in_ok-path.ensures.path c.in-Some.inner is).is_place
 
@@ -246,8 +120,7 @@ returns-in_err-path-clause-bad g t c =
 pub returns-in_err-remove_under-clause-bad : goal.returns-in_err-remove_under-clause-bad
 returns-in_err-remove_under-clause-bad g t c =
     rw (handed_on c.from_residual-in_err-remove_under.result c.from_residual-in_err-remove_under.ensures.1) (λ ne.
-    bad_below (g.S.PageStore.told c.args.store.now) (g.S.PageStore.told c.read_path.new.store) c.args.page c.args.height
-    (g.S.PageStore.size c.args.store.now) c.read_path.new.bytes c.in_ok-path.path.child _
+    bad_below c.in_ok-path.path.child _
     (read_ok (g.S.PageStore.told c.args.store.now) (g.S.PageStore.told c.read_path.new.store) c.args.page c.args.height
     (g.S.PageStore.size c.args.store.now) (g.S.PageStore.size c.args.store.now) c.read_path.new.bytes c.requires.height c.if-height-eq1.false
     c.in_ok-path.ensures.left.told (g.met.S.PageStore.as_many c.args.store.now) refl c.in_ok-path.ensures.bytes)
@@ -257,8 +130,7 @@ pub returns-in-None-clause-bad : goal.returns-in-None-clause-bad
 returns-in-None-clause-bad g t c =
     let same : c.pages-in-None.result ≡ g.S.PageStore.size c.args.store.now = c.pages-in-None.ensures ∙ c.in_ok-remove_under.ensures.left.size ∙
     c.in_ok-path.ensures.left.size in
-    inner_fault (g.S.PageStore.told c.args.store.now) (g.S.PageStore.told c.read_path.new.store) c.args.page c.args.height c.pages-in-None.result
-    c.read_path.new.bytes c.inner_at_fault.result
+    inner_fault c.inner_at_fault.result
     (read_ok (g.S.PageStore.told c.args.store.now) (g.S.PageStore.told c.read_path.new.store) c.args.page c.args.height
     c.pages-in-None.result (g.S.PageStore.size c.args.store.now) c.read_path.new.bytes c.requires.height c.if-height-eq1.false
     c.in_ok-path.ensures.left.told (g.met.S.PageStore.as_many c.args.store.now) same c.in_ok-path.ensures.bytes)
@@ -266,9 +138,8 @@ returns-in-None-clause-bad g t c =
 
 pub returns-in-Some-clause-bad : goal.returns-in-Some-clause-bad
 returns-in-Some-clause-bad g t c =
-    let same : c.pages.result ≡ g.S.PageStore.size c.args.store.now = c.pages.ensures ∙ c.in_ok-remove_under.ensures.left.size ∙ c.in_ok-path.ensures.left.size in
-    let is : inner_of (g.S.PageStore.size c.args.store.now) c.read_path.new.bytes ≡ Some c.in-Some.inner =
-    subst (λ n. inner_of n c.read_path.new.bytes ≡ Some c.in-Some.inner) same c.in-Some.ensures.inner in
+    let is = subst (λ n. inner_of n c.read_path.new.bytes ≡ Some c.in-Some.inner)
+    (c.pages.ensures ∙ c.in_ok-remove_under.ensures.left.size ∙ c.in_ok-path.ensures.left.size) c.in-Some.ensures.inner in
     beside_named c.rebalance_child.result
     (g.S.PageStore.told c.remove_under.new.store) c.in_ok-path.path.place
     (read_ok (g.S.PageStore.told c.args.store.now) (g.S.PageStore.told c.read_path.new.store) c.args.page c.args.height

@@ -1,25 +1,32 @@
 use Rattle.std.proofs.Common.{◌+◌, ◌<◌, ◌∙◌, sym, subst, arith}
 use Rattle.quilt_btree.proofs.removals.LeafRemovals.{has_many}
-use Rattle.quilt_btree.proofs.removals.Choices.{sound_rebalance, joined_sound, joined_left, separated_sound, separated_left}
+use Rattle.quilt_btree.proofs.removals.Choices.{Choice, sound_rebalance, joined_sound, joined_left, separated_sound, separated_left}
 use Rattle.quilt_btree.proofs.ways.Damage.{names_beside, no_besides, named_more}
 use Rattle.quilt_btree.proofs.Handed.{handed_on}
+use Rattle.quilt_btree.proofs.removal.rebalance_child.Given.{Over}
+use Rattle.quilt_btree.proofs.removal.rebalance_child.Goals.{After-key-key}
 use Rattle.quilt_btree.proofs.removal.rebalance_child.Goals as goal
+
+-- the two children that are rebalanced
+pair : (g : Over) (c : After-key-key g) → Choice (g.S.PageStore.told c.args.store.now) c.args.page c.args.inner.now c.args.i c.pair_at-j.result
+    (c.pair_at-j.result + 1) c.child-left.result c.key-key.result c.child-right.result
+pair g c = record {
+  in_range = subst (λ n. c.pair_at-j.result + 1 < n) c.len.ensures.length c.pair_at-j.ensures.both;
+  one = c.pair_at-j.ensures.one;
+  is_next = omega arith;
+  is_left = c.child-left.ensures.child;
+  is_right = c.child-right.ensures.child;
+  is_key = c.key-key.ensures;
+  many = sym c.len.ensures.length ∙ c.len.ensures.keys;
+  inside = λ pages e. has_many (g.S.PageStore.told c.args.store.now) pages (g.S.PageStore.size c.args.store.now) c.args.page
+      (g.met.S.PageStore.as_many c.args.store.now) e c.requires.page.1;
+}
 
 pub returns-in_err-rebalance_pages-clause-sound : goal.returns-in_err-rebalance_pages-clause-sound
 returns-in_err-rebalance_pages-clause-sound g c =
     rw (handed_on c.from_residual.result c.from_residual.ensures.1)
     (sound_rebalance (g.S.PageStore.told c.args.store.now) (g.S.PageStore.free c.args.store.now) c.args.page c.args.height c.args.inner.now c.args.i
-    c.pair_at-j.result (c.pair_at-j.result + 1) c.child-left.result c.key-key.result c.child-right.result _ (record {
-      in_range = subst (λ n. c.pair_at-j.result + 1 < n) c.len.ensures.length c.pair_at-j.ensures.both;
-      one = c.pair_at-j.ensures.one;
-      is_next = omega arith;
-      is_left = c.child-left.ensures.child;
-      is_right = c.child-right.ensures.child;
-      is_key = c.key-key.ensures;
-      many = sym c.len.ensures.length ∙ c.len.ensures.keys;
-      inside = λ pages e. has_many (g.S.PageStore.told c.args.store.now) pages (g.S.PageStore.size c.args.store.now) c.args.page
-          (g.met.S.PageStore.as_many c.args.store.now) e c.requires.page.1;
-    }) c.in_err-rebalance_pages.ensures.sound)
+    c.pair_at-j.result (c.pair_at-j.result + 1) c.child-left.result c.key-key.result c.child-right.result _ (pair g (goal.at.returns-in_err-rebalance_pages-clause-sound g c).After-key-key) c.in_err-rebalance_pages.ensures.sound)
 
 pub returns-in-Joined-clause-leaves : goal.returns-in-Joined-clause-leaves
 returns-in-Joined-clause-leaves g c =
@@ -27,34 +34,14 @@ returns-in-Joined-clause-leaves g c =
     joined_left (g.S.PageStore.told c.args.store.now) (g.S.PageStore.told c.rebalance_pages.new.store) (g.S.PageStore.free c.args.store.now)
     (g.S.PageStore.free c.rebalance_pages.new.store) c.args.page c.args.height c.args.inner.now c.args.i c.pair_at-j.result c.child-left.result
     c.key-key.result c.child-right.result c.drop_child.result (g.S.PageStore.told c.drop_child.new.store) (g.S.PageStore.free c.drop_child.new.store)
-    (c.pair_at-j.result + 1) (record {
-      in_range = subst (λ n. c.pair_at-j.result + 1 < n) c.len.ensures.length c.pair_at-j.ensures.both;
-      one = c.pair_at-j.ensures.one;
-      is_next = omega arith;
-      is_left = c.child-left.ensures.child;
-      is_right = c.child-right.ensures.child;
-      is_key = c.key-key.ensures;
-      many = sym c.len.ensures.length ∙ c.len.ensures.keys;
-      inside = λ pages e. has_many (g.S.PageStore.told c.args.store.now) pages (g.S.PageStore.size c.args.store.now) c.args.page
-          (g.met.S.PageStore.as_many c.args.store.now) e c.requires.page.1;
-    }) found.rebalanced c.drop_child.ensures.free c.drop_child.ensures.dropped
+    (c.pair_at-j.result + 1) (pair g (goal.at.returns-in-Joined-clause-leaves g c).After-key-key) found.rebalanced c.drop_child.ensures.free c.drop_child.ensures.dropped
 
 pub returns-in-Joined-clause-sound : goal.returns-in-Joined-clause-sound
 returns-in-Joined-clause-sound g c =
     let found = rw c.in-Joined.is at c.in_ok-rebalance_pages.ensures in
     joined_sound (g.S.PageStore.told c.args.store.now) (g.S.PageStore.told c.rebalance_pages.new.store) (g.S.PageStore.free c.args.store.now)
     (g.S.PageStore.free c.rebalance_pages.new.store) c.args.page c.args.height c.args.inner.now c.args.i c.pair_at-j.result c.child-left.result
-    c.key-key.result c.child-right.result c.drop_child.result (c.pair_at-j.result + 1) (record {
-      in_range = subst (λ n. c.pair_at-j.result + 1 < n) c.len.ensures.length c.pair_at-j.ensures.both;
-      one = c.pair_at-j.ensures.one;
-      is_next = omega arith;
-      is_left = c.child-left.ensures.child;
-      is_right = c.child-right.ensures.child;
-      is_key = c.key-key.ensures;
-      many = sym c.len.ensures.length ∙ c.len.ensures.keys;
-      inside = λ pages e. has_many (g.S.PageStore.told c.args.store.now) pages (g.S.PageStore.size c.args.store.now) c.args.page
-          (g.met.S.PageStore.as_many c.args.store.now) e c.requires.page.1;
-    }) found.rebalanced c.drop_child.ensures.sound
+    c.key-key.result c.child-right.result c.drop_child.result (c.pair_at-j.result + 1) (pair g (goal.at.returns-in-Joined-clause-sound g c).After-key-key) found.rebalanced c.drop_child.ensures.sound
 
 pub returns-in_err-renew_key-in-Redistributed-clause-sound : goal.returns-in_err-renew_key-in-Redistributed-clause-sound
 returns-in_err-renew_key-in-Redistributed-clause-sound g c =
@@ -63,17 +50,7 @@ returns-in_err-renew_key-in-Redistributed-clause-sound g c =
     separated_sound (g.S.PageStore.told c.args.store.now) (g.S.PageStore.told c.rebalance_pages.new.store)
     (g.S.PageStore.free c.args.store.now) (g.S.PageStore.free c.rebalance_pages.new.store)
     c.args.page c.args.height c.args.inner.now c.args.i c.pair_at-j.result c.child-left.result c.key-key.result c.child-right.result
-    _ (c.pair_at-j.result + 1) c.in-Redistributed.key (record {
-      in_range = subst (λ n. c.pair_at-j.result + 1 < n) c.len.ensures.length c.pair_at-j.ensures.both;
-      one = c.pair_at-j.ensures.one;
-      is_next = omega arith;
-      is_left = c.child-left.ensures.child;
-      is_right = c.child-right.ensures.child;
-      is_key = c.key-key.ensures;
-      many = sym c.len.ensures.length ∙ c.len.ensures.keys;
-      inside = λ pages e. has_many (g.S.PageStore.told c.args.store.now) pages (g.S.PageStore.size c.args.store.now) c.args.page
-          (g.met.S.PageStore.as_many c.args.store.now) e c.requires.page.1;
-    }) found.rebalanced c.in_err-renew_key-in-Redistributed.ensures.sound)
+    _ (c.pair_at-j.result + 1) c.in-Redistributed.key (pair g (goal.at.returns-in_err-renew_key-in-Redistributed-clause-sound g c).After-key-key) found.rebalanced c.in_err-renew_key-in-Redistributed.ensures.sound)
 
 pub returns-in_ok-renew_key-in-Redistributed-clause-leaves : goal.returns-in_ok-renew_key-in-Redistributed-clause-leaves
 returns-in_ok-renew_key-in-Redistributed-clause-leaves g c =
@@ -81,17 +58,7 @@ returns-in_ok-renew_key-in-Redistributed-clause-leaves g c =
     separated_left (g.S.PageStore.told c.args.store.now) (g.S.PageStore.told c.rebalance_pages.new.store)
     (g.S.PageStore.free c.args.store.now) (g.S.PageStore.free c.rebalance_pages.new.store)
     c.args.page c.args.height c.args.inner.now c.args.i c.pair_at-j.result c.child-left.result c.key-key.result c.child-right.result
-    (g.S.PageStore.told c.renew_key.new.store) (g.S.PageStore.free c.renew_key.new.store) (c.pair_at-j.result + 1) c.in-Redistributed.key (record {
-      in_range = subst (λ n. c.pair_at-j.result + 1 < n) c.len.ensures.length c.pair_at-j.ensures.both;
-      one = c.pair_at-j.ensures.one;
-      is_next = omega arith;
-      is_left = c.child-left.ensures.child;
-      is_right = c.child-right.ensures.child;
-      is_key = c.key-key.ensures;
-      many = sym c.len.ensures.length ∙ c.len.ensures.keys;
-      inside = λ pages e. has_many (g.S.PageStore.told c.args.store.now) pages (g.S.PageStore.size c.args.store.now) c.args.page
-          (g.met.S.PageStore.as_many c.args.store.now) e c.requires.page.1;
-    }) found.rebalanced c.in_ok-renew_key-in-Redistributed.ensures.free c.in_ok-renew_key-in-Redistributed.ensures.renewed
+    (g.S.PageStore.told c.renew_key.new.store) (g.S.PageStore.free c.renew_key.new.store) (c.pair_at-j.result + 1) c.in-Redistributed.key (pair g (goal.at.returns-in_ok-renew_key-in-Redistributed-clause-leaves g c).After-key-key) found.rebalanced c.in_ok-renew_key-in-Redistributed.ensures.free c.in_ok-renew_key-in-Redistributed.ensures.renewed
 
 pub returns-in_err-rebalance_pages-clause-bad : goal.returns-in_err-rebalance_pages-clause-bad
 returns-in_err-rebalance_pages-clause-bad g c =

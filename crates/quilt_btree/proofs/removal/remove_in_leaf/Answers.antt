@@ -1,14 +1,33 @@
 use Rattle.std.proofs.Common.{◌+◌, ◌∙◌, refl, sym, arith}
 use Rattle.quilt_btree.proofs.ways.Damage.{zero_names, names_more, same_others, wrote_others}
 use Rattle.quilt_btree.proofs.growth.Finding.{finds_here, finds_none}
-use Rattle.quilt_btree.proofs.removals.LeafRemovals.{leaf_missing, leaf_emptied, leaf_underfull, leaf_done, leaf_reads}
+use Rattle.quilt_btree.proofs.growth.Below.{edit_spells}
+use Rattle.quilt_btree.proofs.removals.LeafRemovals.{LeafCut, leaf_missing, leaf_emptied, leaf_underfull, leaf_done}
 use Rattle.quilt_btree.proofs.Handed.{handed_on}
+use Rattle.quilt_btree.proofs.removal.remove_in_leaf.Given.{Over}
+use Rattle.quilt_btree.proofs.removal.remove_in_leaf.Goals.{In_ok-write_page-in-Ok-2}
 use Rattle.quilt_btree.proofs.removal.remove_in_leaf.Goals as goal
+
+-- the leaf without the record, as it was written
+leaf_cut : (g : Over) (c : In_ok-write_page-in-Ok-2 g) → LeafCut c.args.k.now (g.S.PageStore.told c.args.store.now)
+    (g.S.PageStore.told c.read_leaf.new.store) (g.S.PageStore.told c.write_page.new.store) (g.S.PageStore.free c.args.store.now)
+    (g.S.PageStore.free c.write_page.new.store) c.args.page (g.S.PageStore.size c.args.store.now) c.in-Ok.field-0 c.in_ok-leaf.leaf c.remove.new.self
+    c.bytes.result.now
+leaf_cut g c = record {
+  reads = c.in_ok-leaf.ensures.leaf;
+  inside = c.requires.1;
+  many = g.met.S.PageStore.as_many c.args.store.now;
+  found = c.in-Ok.ensures.place;
+  all_is = c.remove.ensures;
+  written = c.bytes.ensures.leaf;
+  is_mid = c.in_ok-leaf.ensures.left.told;
+  tells = c.in_ok-write_page-in-Ok-2.ensures.told;
+  frees = c.in_ok-write_page-in-Ok-2.ensures.free ∙ c.in_ok-leaf.ensures.left.free;
+}
 
 pub returns-in_err-leaf-clause-sound : goal.returns-in_err-leaf-clause-sound
 returns-in_err-leaf-clause-sound g c =
-    rw (handed_on c.from_residual.result c.from_residual.ensures.1) (λ height is_root b rs used one can. c.in_err-leaf.ensures.sound height rs one
-    (leaf_reads (g.S.PageStore.told c.args.store.now) (g.S.PageStore.free c.args.store.now) c.args.page height is_root b rs used can))
+    rw (handed_on c.from_residual.result c.from_residual.ensures.1) (λ height is_root b rs used one can. c.in_err-leaf.ensures.sound height rs one (edit_spells can))
 
 pub returns-in-Err-clause-removed : goal.returns-in-Err-clause-removed
 returns-in-Err-clause-removed g c = λ height is_root b rs used one can.
@@ -25,37 +44,11 @@ returns-in-Ok-clause-removed g c = λ height is_root b rs used one can.
 
 pub returns-then-left-lt-LEAST_RECORDS-clause-removed : goal.returns-then-left-lt-LEAST_RECORDS-clause-removed
 returns-then-left-lt-LEAST_RECORDS-clause-removed g c = λ height is_root b rs used one can.
-    leaf_underfull c.args.k.now (g.S.PageStore.told c.args.store.now) (g.S.PageStore.told c.read_leaf.new.store)
-    (g.S.PageStore.told c.write_page.new.store) (g.S.PageStore.free c.args.store.now) (g.S.PageStore.free c.write_page.new.store)
-    c.args.page height (g.S.PageStore.size c.args.store.now) c.in-Ok.field-0 is_root b rs c.in_ok-leaf.leaf c.remove.new.self used
-    c.bytes.result.now one (record {
-      reads = c.in_ok-leaf.ensures.leaf;
-      inside = c.requires.1;
-      many = g.met.S.PageStore.as_many c.args.store.now;
-      found = c.in-Ok.ensures.place;
-      all_is = c.remove.ensures;
-      written = c.bytes.ensures.leaf;
-      is_mid = c.in_ok-leaf.ensures.left.told;
-      tells = c.in_ok-write_page-in-Ok-2.ensures.told;
-      frees = c.in_ok-write_page-in-Ok-2.ensures.free ∙ c.in_ok-leaf.ensures.left.free;
-    }) can
+    leaf_underfull one (leaf_cut g (goal.at.returns-then-left-lt-LEAST_RECORDS-clause-removed g c).In_ok-write_page-in-Ok-2) can
 
 pub returns-else-left-lt-LEAST_RECORDS-clause-removed : goal.returns-else-left-lt-LEAST_RECORDS-clause-removed
 returns-else-left-lt-LEAST_RECORDS-clause-removed g c = λ height is_root b rs used one can.
-    leaf_done c.args.k.now (g.S.PageStore.told c.args.store.now) (g.S.PageStore.told c.read_leaf.new.store)
-    (g.S.PageStore.told c.write_page.new.store) (g.S.PageStore.free c.args.store.now) (g.S.PageStore.free c.write_page.new.store)
-    c.args.page height (g.S.PageStore.size c.args.store.now) c.in-Ok.field-0 is_root b rs c.in_ok-leaf.leaf c.remove.new.self used
-    c.bytes.result.now one (record {
-      reads = c.in_ok-leaf.ensures.leaf;
-      inside = c.requires.1;
-      many = g.met.S.PageStore.as_many c.args.store.now;
-      found = c.in-Ok.ensures.place;
-      all_is = c.remove.ensures;
-      written = c.bytes.ensures.leaf;
-      is_mid = c.in_ok-leaf.ensures.left.told;
-      tells = c.in_ok-write_page-in-Ok-2.ensures.told;
-      frees = c.in_ok-write_page-in-Ok-2.ensures.free ∙ c.in_ok-leaf.ensures.left.free;
-    })
+    leaf_done one (leaf_cut g (goal.at.returns-else-left-lt-LEAST_RECORDS-clause-removed g c).In_ok-write_page-in-Ok-2)
     (let n = c.len-left.ensures.length in let h = c.if-left-lt-LEAST_RECORDS.false in omega arith) can
 
 pub returns-in-Err-clause-finds : goal.returns-in-Err-clause-finds

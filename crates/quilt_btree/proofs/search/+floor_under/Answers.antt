@@ -3,7 +3,7 @@ use Rattle.quilt_store.proofs.Reading.{only_reads_then, only_reads_ok, only_read
 use Rattle.quilt_btree.proofs.subtrees.Descending.{along_told, floor_here, floor_none, floor_before}
 use Rattle.quilt_btree.proofs.ways.Floors.{found_here, none_before}
 use Rattle.quilt_btree.proofs.ways.Turns.{floor_touched, floor_again, floor_touched_more, floor_again_more, finds_here, finds_none, finds_before}
-use Rattle.quilt_btree.proofs.ways.Looked.{read_of, fork_shown}
+use Rattle.quilt_btree.proofs.ways.Looked.{read_of, read_on, fork_shown}
 use Rattle.quilt_btree.proofs.ways.Damage.{bad_below, child_at}
 use Rattle.quilt_btree.proofs.Handed.{handed_on}
 use Rattle.quilt_btree.proofs.search.+floor_under.Goals as goal
@@ -11,170 +11,84 @@ use Rattle.quilt_btree.proofs.search.+floor_under.Goals as goal
 pub returns-in_err-r-clause-sound : goal.returns-in_err-r-clause-sound
 returns-in_err-r-clause-sound g t c =
     rw (handed_on c.from_residual-in_err-r.result c.from_residual-in_err-r.ensures.1) (λ rs s.
-    let a = fork_shown _ (g.S.PageStore.told c.fork_at.new.store) c.args.page c.args.height _ c.args.k.now c.in_ok-fork.fork.child c.in_ok-fork.fork.prior rs
-    (record {
-      some = c.requires.height;
-      above = c.if-height-eq1.false;
-      told = c.in_ok-fork.ensures.looks.left.told;
-      many = g.met.S.PageStore.as_many c.args.store.now;
-    }) c.in_ok-fork.ensures.shows s in
+    let a = fork_shown c.in_ok-fork.ensures.looks c.requires.height c.if-height-eq1.false (g.met.S.PageStore.as_many c.args.store.now) c.in_ok-fork.ensures.shows s in
     c.in_err-r.ensures.sound a.here a.spells)
 
 pub returns-in_err-r-clause-again : goal.returns-in_err-r-clause-again
 returns-in_err-r-clause-again g t c = λ rs s.
-    let a = fork_shown _ (g.S.PageStore.told c.fork_at.new.store) c.args.page c.args.height _ c.args.k.now c.in_ok-fork.fork.child c.in_ok-fork.fork.prior rs
-    (record {
-      some = c.requires.height;
-      above = c.if-height-eq1.false;
-      told = c.in_ok-fork.ensures.looks.left.told;
-      many = g.met.S.PageStore.as_many c.args.store.now;
-    }) c.in_ok-fork.ensures.shows s in
-    floor_again (g.S.PageStore.told c.args.store.now) (g.S.PageStore.told c.fork_at.new.store) c.args.page c.args.height c.in_ok-fork.fork.child a.i
-    c.args.k.now a.inner (g.S.PageStore.reads c.floor_under.new.store)
-    a.at a.number (record { touched = c.in_ok-fork.ensures.looks.held; free = c.in_ok-fork.ensures.looks.held_is_free }) (c.in_err-r.ensures.again a.here a.spells)
+    let a = fork_shown c.in_ok-fork.ensures.looks c.requires.height c.if-height-eq1.false (g.met.S.PageStore.as_many c.args.store.now) c.in_ok-fork.ensures.shows s in
+    floor_again (g.S.PageStore.reads c.floor_under.new.store) a.at a.number (record { touched = c.in_ok-fork.ensures.looks.held; free = c.in_ok-fork.ensures.looks.held_is_free }) (c.in_err-r.ensures.again a.here a.spells)
 
 pub returns-in-Some-clause-floor : goal.returns-in-Some-clause-floor
 returns-in-Some-clause-floor g t c = record {
   floor =
       λ rs s.
       let found = rw c.in-Some.is at c.in_ok-r.ensures in
-      let a = fork_shown _ (g.S.PageStore.told c.fork_at.new.store) c.args.page c.args.height _ c.args.k.now c.in_ok-fork.fork.child c.in_ok-fork.fork.prior rs
-      (record {
-        some = c.requires.height;
-        above = c.if-height-eq1.false;
-        told = c.in_ok-fork.ensures.looks.left.told;
-        many = g.met.S.PageStore.as_many c.args.store.now;
-      }) c.in_ok-fork.ensures.shows s in
-      floor_here (g.S.PageStore.told c.args.store.now) (g.S.PageStore.told c.fork_at.new.store) c.args.page c.args.height c.in_ok-fork.fork.child a.i
-      c.args.k.now a.inner c.in-Some.r a.at found.floor.floor rs s;
+      let a = fork_shown c.in_ok-fork.ensures.looks c.requires.height c.if-height-eq1.false (g.met.S.PageStore.as_many c.args.store.now) c.in_ok-fork.ensures.shows s in
+      floor_here c.in-Some.r a.at found.floor.floor rs s;
   found =
       λ rs s.
       let found = rw c.in-Some.is at c.in_ok-r.ensures in
-      let a = fork_shown _ (g.S.PageStore.told c.fork_at.new.store) c.args.page c.args.height _ c.args.k.now c.in_ok-fork.fork.child c.in_ok-fork.fork.prior rs
-      (record {
-        some = c.requires.height;
-        above = c.if-height-eq1.false;
-        told = c.in_ok-fork.ensures.looks.left.told;
-        many = g.met.S.PageStore.as_many c.args.store.now;
-      }) c.in_ok-fork.ensures.shows s in
-      finds_here (g.S.PageStore.told c.args.store.now) (g.S.PageStore.told c.fork_at.new.store) c.args.page c.args.height c.in_ok-fork.fork.child a.i
-      c.args.k.now a.inner a.at a.number (found.floor.found a.here a.spells);
+      let a = fork_shown c.in_ok-fork.ensures.looks c.requires.height c.if-height-eq1.false (g.met.S.PageStore.as_many c.args.store.now) c.in_ok-fork.ensures.shows s in
+      finds_here a.at a.number (found.floor.found a.here a.spells);
 }
 
 pub returns-in-Some-clause-touched : goal.returns-in-Some-clause-touched
 returns-in-Some-clause-touched g t c = λ rs s.
     let found = rw c.in-Some.is at c.in_ok-r.ensures in
-    let a = fork_shown _ (g.S.PageStore.told c.fork_at.new.store) c.args.page c.args.height _ c.args.k.now c.in_ok-fork.fork.child c.in_ok-fork.fork.prior rs
-    (record {
-      some = c.requires.height;
-      above = c.if-height-eq1.false;
-      told = c.in_ok-fork.ensures.looks.left.told;
-      many = g.met.S.PageStore.as_many c.args.store.now;
-    }) c.in_ok-fork.ensures.shows s in
-    floor_touched (g.S.PageStore.told c.args.store.now) (g.S.PageStore.told c.fork_at.new.store) c.args.page c.args.height c.in_ok-fork.fork.child a.i
-    c.args.k.now a.inner (g.S.PageStore.held c.args.store.now) (g.S.PageStore.held c.fork_at.new.store)
+    let a = fork_shown c.in_ok-fork.ensures.looks c.requires.height c.if-height-eq1.false (g.met.S.PageStore.as_many c.args.store.now) c.in_ok-fork.ensures.shows s in
+    floor_touched (g.S.PageStore.held c.args.store.now) (g.S.PageStore.held c.fork_at.new.store)
     (g.S.PageStore.held c.floor_under.new.store) a.at a.number c.in_ok-fork.ensures.looks.held (found.touched a.here a.spells)
     (λ pages is. found_here pages (c.args.height - 1) c.in_ok-fork.fork.child a.inner c.args.k.now a.i a.at.is_child (found.floor.found a.here a.spells pages is))
 
 pub returns-in-Some-clause-again : goal.returns-in-Some-clause-again
 returns-in-Some-clause-again g t c = λ rs s.
     let found = rw c.in-Some.is at c.in_ok-r.ensures in
-    let a = fork_shown _ (g.S.PageStore.told c.fork_at.new.store) c.args.page c.args.height _ c.args.k.now c.in_ok-fork.fork.child c.in_ok-fork.fork.prior rs
-    (record {
-      some = c.requires.height;
-      above = c.if-height-eq1.false;
-      told = c.in_ok-fork.ensures.looks.left.told;
-      many = g.met.S.PageStore.as_many c.args.store.now;
-    }) c.in_ok-fork.ensures.shows s in
-    floor_again (g.S.PageStore.told c.args.store.now) (g.S.PageStore.told c.fork_at.new.store) c.args.page c.args.height c.in_ok-fork.fork.child a.i
-    c.args.k.now a.inner (g.S.PageStore.reads c.floor_under.new.store)
-    a.at a.number (record { touched = c.in_ok-fork.ensures.looks.held; free = c.in_ok-fork.ensures.looks.held_is_free }) (found.again a.here a.spells)
+    let a = fork_shown c.in_ok-fork.ensures.looks c.requires.height c.if-height-eq1.false (g.met.S.PageStore.as_many c.args.store.now) c.in_ok-fork.ensures.shows s in
+    floor_again (g.S.PageStore.reads c.floor_under.new.store) a.at a.number (record { touched = c.in_ok-fork.ensures.looks.held; free = c.in_ok-fork.ensures.looks.held_is_free }) (found.again a.here a.spells)
 
 pub returns-in-None-prior-clause-floor : goal.returns-in-None-prior-clause-floor
 returns-in-None-prior-clause-floor g t c = record {
   floor =
       λ rs s.
       let found = rw c.in-None.is at c.in_ok-r.ensures in
-      let a = fork_shown _ (g.S.PageStore.told c.fork_at.new.store) c.args.page c.args.height _ c.args.k.now c.in_ok-fork.fork.child c.in_ok-fork.fork.prior rs
-      (record {
-        some = c.requires.height;
-        above = c.if-height-eq1.false;
-        told = c.in_ok-fork.ensures.looks.left.told;
-        many = g.met.S.PageStore.as_many c.args.store.now;
-      }) c.in_ok-fork.ensures.shows s in
-      floor_none (g.S.PageStore.told c.args.store.now) (g.S.PageStore.told c.fork_at.new.store) c.args.page c.args.height c.in_ok-fork.fork.child a.i
-      c.args.k.now a.inner a.at (a.first c.in-None-prior.is) found.floor.floor rs s;
+      let a = fork_shown c.in_ok-fork.ensures.looks c.requires.height c.if-height-eq1.false (g.met.S.PageStore.as_many c.args.store.now) c.in_ok-fork.ensures.shows s in
+      floor_none a.at (a.first c.in-None-prior.is) found.floor.floor rs s;
   found =
       λ rs s.
       let found = rw c.in-None.is at c.in_ok-r.ensures in
-      let a = fork_shown _ (g.S.PageStore.told c.fork_at.new.store) c.args.page c.args.height _ c.args.k.now c.in_ok-fork.fork.child c.in_ok-fork.fork.prior rs
-      (record {
-        some = c.requires.height;
-        above = c.if-height-eq1.false;
-        told = c.in_ok-fork.ensures.looks.left.told;
-        many = g.met.S.PageStore.as_many c.args.store.now;
-      }) c.in_ok-fork.ensures.shows s in
-      finds_none (g.S.PageStore.told c.args.store.now) (g.S.PageStore.told c.fork_at.new.store) c.args.page c.args.height c.in_ok-fork.fork.child a.i
-      c.args.k.now a.inner a.at a.number (a.first c.in-None-prior.is) (found.floor.found a.here a.spells);
+      let a = fork_shown c.in_ok-fork.ensures.looks c.requires.height c.if-height-eq1.false (g.met.S.PageStore.as_many c.args.store.now) c.in_ok-fork.ensures.shows s in
+      finds_none a.at a.number (a.first c.in-None-prior.is) (found.floor.found a.here a.spells);
 }
 
 pub returns-in-None-prior-clause-touched : goal.returns-in-None-prior-clause-touched
 returns-in-None-prior-clause-touched g t c = λ rs s.
     let found = rw c.in-None.is at c.in_ok-r.ensures in
-    let a = fork_shown _ (g.S.PageStore.told c.fork_at.new.store) c.args.page c.args.height _ c.args.k.now c.in_ok-fork.fork.child c.in_ok-fork.fork.prior rs
-    (record {
-      some = c.requires.height;
-      above = c.if-height-eq1.false;
-      told = c.in_ok-fork.ensures.looks.left.told;
-      many = g.met.S.PageStore.as_many c.args.store.now;
-    }) c.in_ok-fork.ensures.shows s in
-    floor_touched (g.S.PageStore.told c.args.store.now) (g.S.PageStore.told c.fork_at.new.store) c.args.page c.args.height c.in_ok-fork.fork.child a.i
-    c.args.k.now a.inner (g.S.PageStore.held c.args.store.now) (g.S.PageStore.held c.fork_at.new.store)
+    let a = fork_shown c.in_ok-fork.ensures.looks c.requires.height c.if-height-eq1.false (g.met.S.PageStore.as_many c.args.store.now) c.in_ok-fork.ensures.shows s in
+    floor_touched (g.S.PageStore.held c.args.store.now) (g.S.PageStore.held c.fork_at.new.store)
     (g.S.PageStore.held c.floor_under.new.store) a.at a.number c.in_ok-fork.ensures.looks.held (found.touched a.here a.spells)
     (λ pages is. none_before pages c.args.k.now (c.args.height - 1) a.i a.inner (a.first c.in-None-prior.is))
 
 pub returns-in-None-prior-clause-again : goal.returns-in-None-prior-clause-again
 returns-in-None-prior-clause-again g t c = λ rs s.
     let found = rw c.in-None.is at c.in_ok-r.ensures in
-    let a = fork_shown _ (g.S.PageStore.told c.fork_at.new.store) c.args.page c.args.height _ c.args.k.now c.in_ok-fork.fork.child c.in_ok-fork.fork.prior rs
-    (record {
-      some = c.requires.height;
-      above = c.if-height-eq1.false;
-      told = c.in_ok-fork.ensures.looks.left.told;
-      many = g.met.S.PageStore.as_many c.args.store.now;
-    }) c.in_ok-fork.ensures.shows s in
-    floor_again (g.S.PageStore.told c.args.store.now) (g.S.PageStore.told c.fork_at.new.store) c.args.page c.args.height c.in_ok-fork.fork.child a.i
-    c.args.k.now a.inner (g.S.PageStore.reads c.floor_under.new.store)
-    a.at a.number (record { touched = c.in_ok-fork.ensures.looks.held; free = c.in_ok-fork.ensures.looks.held_is_free }) (found.again a.here a.spells)
+    let a = fork_shown c.in_ok-fork.ensures.looks c.requires.height c.if-height-eq1.false (g.met.S.PageStore.as_many c.args.store.now) c.in_ok-fork.ensures.shows s in
+    floor_again (g.S.PageStore.reads c.floor_under.new.store) a.at a.number (record { touched = c.in_ok-fork.ensures.looks.held; free = c.in_ok-fork.ensures.looks.held_is_free }) (found.again a.here a.spells)
 
 pub returns-in_err-last_under-in-Some-prior-clause-sound : goal.returns-in_err-last_under-in-Some-prior-clause-sound
 returns-in_err-last_under-in-Some-prior-clause-sound g t c =
     rw (handed_on c.from_residual-in_err-last_under-in-Some-prior.result c.from_residual-in_err-last_under-in-Some-prior.ensures.1) (λ rs s.
-    let a = fork_shown _ (g.S.PageStore.told c.fork_at.new.store) c.args.page c.args.height _ c.args.k.now c.in_ok-fork.fork.child c.in_ok-fork.fork.prior rs
-    (record {
-      some = c.requires.height;
-      above = c.if-height-eq1.false;
-      told = c.in_ok-fork.ensures.looks.left.told;
-      many = g.met.S.PageStore.as_many c.args.store.now;
-    }) c.in_ok-fork.ensures.shows s in
+    let a = fork_shown c.in_ok-fork.ensures.looks c.requires.height c.if-height-eq1.false (g.met.S.PageStore.as_many c.args.store.now) c.in_ok-fork.ensures.shows s in
     let p = a.later c.in-Some-prior.prior c.in-Some-prior.is in
-    let there = along_told (g.S.PageStore.told c.args.store.now) (g.S.PageStore.told c.floor_under.new.store) c.in-Some-prior.prior
-    (c.args.height - 1) p.here (c.in_ok-r.ensures.left.told ∙ c.in_ok-fork.ensures.looks.left.told) p.spells in
+    let there = along_told _ _ _ _ _ (c.in_ok-r.ensures.left.told ∙ c.in_ok-fork.ensures.looks.left.told) p.spells in
     c.in_err-last_under-in-Some-prior.ensures.sound p.here there)
 
 pub returns-in_err-last_under-in-Some-prior-clause-again : goal.returns-in_err-last_under-in-Some-prior-clause-again
 returns-in_err-last_under-in-Some-prior-clause-again g t c = λ rs s.
     let found = rw c.in-None.is at c.in_ok-r.ensures in
-    let a = fork_shown _ (g.S.PageStore.told c.fork_at.new.store) c.args.page c.args.height _ c.args.k.now c.in_ok-fork.fork.child c.in_ok-fork.fork.prior rs
-    (record {
-      some = c.requires.height;
-      above = c.if-height-eq1.false;
-      told = c.in_ok-fork.ensures.looks.left.told;
-      many = g.met.S.PageStore.as_many c.args.store.now;
-    }) c.in_ok-fork.ensures.shows s in
+    let a = fork_shown c.in_ok-fork.ensures.looks c.requires.height c.if-height-eq1.false (g.met.S.PageStore.as_many c.args.store.now) c.in_ok-fork.ensures.shows s in
     let p = a.later c.in-Some-prior.prior c.in-Some-prior.is in
-    let there = along_told (g.S.PageStore.told c.args.store.now) (g.S.PageStore.told c.floor_under.new.store) c.in-Some-prior.prior
-    (c.args.height - 1) p.here (c.in_ok-r.ensures.left.told ∙ c.in_ok-fork.ensures.looks.left.told) p.spells in
+    let there = along_told _ _ _ _ _ (c.in_ok-r.ensures.left.told ∙ c.in_ok-fork.ensures.looks.left.told) p.spells in
     floor_again_more (g.S.PageStore.held c.floor_under.new.store) (g.S.PageStore.reads c.floor_under.new.store) (g.S.PageStore.reads c.last_under.new.store)
     (record {
       at = a.at;
@@ -191,48 +105,25 @@ returns-in_ok-last_under-in-Some-prior-clause-floor g t c = record {
   floor =
       λ rs s.
       let found = rw c.in-None.is at c.in_ok-r.ensures in
-      let a = fork_shown _ (g.S.PageStore.told c.fork_at.new.store) c.args.page c.args.height _ c.args.k.now c.in_ok-fork.fork.child c.in_ok-fork.fork.prior rs
-      (record {
-        some = c.requires.height;
-        above = c.if-height-eq1.false;
-        told = c.in_ok-fork.ensures.looks.left.told;
-        many = g.met.S.PageStore.as_many c.args.store.now;
-      }) c.in_ok-fork.ensures.shows s in
+      let a = fork_shown c.in_ok-fork.ensures.looks c.requires.height c.if-height-eq1.false (g.met.S.PageStore.as_many c.args.store.now) c.in_ok-fork.ensures.shows s in
       let p = a.later c.in-Some-prior.prior c.in-Some-prior.is in
-      let there = along_told (g.S.PageStore.told c.args.store.now) (g.S.PageStore.told c.floor_under.new.store) c.in-Some-prior.prior
-      (c.args.height - 1) p.here (c.in_ok-r.ensures.left.told ∙ c.in_ok-fork.ensures.looks.left.told) p.spells in
-      floor_before
-      c.in_ok-last_under-in-Some-prior.field-0 a.at p.some
+      let there = along_told _ _ _ _ _ (c.in_ok-r.ensures.left.told ∙ c.in_ok-fork.ensures.looks.left.told) p.spells in
+      floor_before c.in_ok-last_under-in-Some-prior.field-0 a.at p.some
       (c.in_ok-r.ensures.left.told ∙ c.in_ok-fork.ensures.looks.left.told) p.is found.floor.floor c.in_ok-last_under-in-Some-prior.ensures.last s;
   found =
       λ rs s.
-      let a = fork_shown _ (g.S.PageStore.told c.fork_at.new.store) c.args.page c.args.height _ c.args.k.now c.in_ok-fork.fork.child c.in_ok-fork.fork.prior rs
-      (record {
-        some = c.requires.height;
-        above = c.if-height-eq1.false;
-        told = c.in_ok-fork.ensures.looks.left.told;
-        many = g.met.S.PageStore.as_many c.args.store.now;
-      }) c.in_ok-fork.ensures.shows s in
+      let a = fork_shown c.in_ok-fork.ensures.looks c.requires.height c.if-height-eq1.false (g.met.S.PageStore.as_many c.args.store.now) c.in_ok-fork.ensures.shows s in
       let p = a.later c.in-Some-prior.prior c.in-Some-prior.is in
-      let there = along_told (g.S.PageStore.told c.args.store.now) (g.S.PageStore.told c.floor_under.new.store) c.in-Some-prior.prior
-      (c.args.height - 1) p.here (c.in_ok-r.ensures.left.told ∙ c.in_ok-fork.ensures.looks.left.told) p.spells in
-      finds_before (g.S.PageStore.told c.args.store.now) (g.S.PageStore.told c.fork_at.new.store) c.args.page c.args.height c.in_ok-fork.fork.child a.i
-      c.args.k.now a.inner a.at a.number p.some;
+      let there = along_told _ _ _ _ _ (c.in_ok-r.ensures.left.told ∙ c.in_ok-fork.ensures.looks.left.told) p.spells in
+      finds_before a.at a.number p.some;
 }
 
 pub returns-in_ok-last_under-in-Some-prior-clause-touched : goal.returns-in_ok-last_under-in-Some-prior-clause-touched
 returns-in_ok-last_under-in-Some-prior-clause-touched g t c = λ rs s.
     let found = rw c.in-None.is at c.in_ok-r.ensures in
-    let a = fork_shown _ (g.S.PageStore.told c.fork_at.new.store) c.args.page c.args.height _ c.args.k.now c.in_ok-fork.fork.child c.in_ok-fork.fork.prior rs
-    (record {
-      some = c.requires.height;
-      above = c.if-height-eq1.false;
-      told = c.in_ok-fork.ensures.looks.left.told;
-      many = g.met.S.PageStore.as_many c.args.store.now;
-    }) c.in_ok-fork.ensures.shows s in
+    let a = fork_shown c.in_ok-fork.ensures.looks c.requires.height c.if-height-eq1.false (g.met.S.PageStore.as_many c.args.store.now) c.in_ok-fork.ensures.shows s in
     let p = a.later c.in-Some-prior.prior c.in-Some-prior.is in
-    let there = along_told (g.S.PageStore.told c.args.store.now) (g.S.PageStore.told c.floor_under.new.store) c.in-Some-prior.prior
-    (c.args.height - 1) p.here (c.in_ok-r.ensures.left.told ∙ c.in_ok-fork.ensures.looks.left.told) p.spells in
+    let there = along_told _ _ _ _ _ (c.in_ok-r.ensures.left.told ∙ c.in_ok-fork.ensures.looks.left.told) p.spells in
     floor_touched_more
     (g.S.PageStore.held c.args.store.now)
     (g.S.PageStore.held c.fork_at.new.store) (g.S.PageStore.held c.floor_under.new.store) (g.S.PageStore.held c.last_under.new.store)
@@ -250,16 +141,9 @@ returns-in_ok-last_under-in-Some-prior-clause-touched g t c = λ rs s.
 pub returns-in_ok-last_under-in-Some-prior-clause-again : goal.returns-in_ok-last_under-in-Some-prior-clause-again
 returns-in_ok-last_under-in-Some-prior-clause-again g t c = λ rs s.
     let found = rw c.in-None.is at c.in_ok-r.ensures in
-    let a = fork_shown _ (g.S.PageStore.told c.fork_at.new.store) c.args.page c.args.height _ c.args.k.now c.in_ok-fork.fork.child c.in_ok-fork.fork.prior rs
-    (record {
-      some = c.requires.height;
-      above = c.if-height-eq1.false;
-      told = c.in_ok-fork.ensures.looks.left.told;
-      many = g.met.S.PageStore.as_many c.args.store.now;
-    }) c.in_ok-fork.ensures.shows s in
+    let a = fork_shown c.in_ok-fork.ensures.looks c.requires.height c.if-height-eq1.false (g.met.S.PageStore.as_many c.args.store.now) c.in_ok-fork.ensures.shows s in
     let p = a.later c.in-Some-prior.prior c.in-Some-prior.is in
-    let there = along_told (g.S.PageStore.told c.args.store.now) (g.S.PageStore.told c.floor_under.new.store) c.in-Some-prior.prior
-    (c.args.height - 1) p.here (c.in_ok-r.ensures.left.told ∙ c.in_ok-fork.ensures.looks.left.told) p.spells in
+    let there = along_told _ _ _ _ _ (c.in_ok-r.ensures.left.told ∙ c.in_ok-fork.ensures.looks.left.told) p.spells in
     floor_again_more (g.S.PageStore.held c.floor_under.new.store) (g.S.PageStore.reads c.floor_under.new.store) (g.S.PageStore.reads c.last_under.new.store)
     (record {
       at = a.at;
@@ -283,27 +167,16 @@ returns-in_err-fork-clause-bad g t c =
 pub returns-in_err-r-clause-bad : goal.returns-in_err-r-clause-bad
 returns-in_err-r-clause-bad g t c =
     rw (handed_on c.from_residual-in_err-r.result c.from_residual-in_err-r.ensures.1)
-    (bad_below (g.S.PageStore.told c.args.store.now) (g.S.PageStore.told c.fork_at.new.store)
-    c.args.page c.args.height (g.S.PageStore.size c.args.store.now) c.in_ok-fork.ensures.shows.bytes c.in_ok-fork.fork.child _
-    (read_of _ _ _ _ _ _ (record {
-      some = c.requires.height;
-      above = c.if-height-eq1.false;
-      told = c.in_ok-fork.ensures.looks.left.told;
-      many = g.met.S.PageStore.as_many c.args.store.now;
-    }) c.in_ok-fork.ensures.shows.are)
+    (bad_below c.in_ok-fork.fork.child _
+    (read_of c.in_ok-fork.ensures.looks c.requires.height c.if-height-eq1.false (g.met.S.PageStore.as_many c.args.store.now) c.in_ok-fork.ensures.shows.are)
     c.in_ok-fork.ensures.shows.stands c.in_err-r.ensures.bad)
 
 pub returns-in_err-last_under-in-Some-prior-clause-bad : goal.returns-in_err-last_under-in-Some-prior-clause-bad
 returns-in_err-last_under-in-Some-prior-clause-bad g t c =
     rw (handed_on c.from_residual-in_err-last_under-in-Some-prior.result c.from_residual-in_err-last_under-in-Some-prior.ensures.1)
-    (bad_below (g.S.PageStore.told c.args.store.now) (g.S.PageStore.told c.floor_under.new.store)
-    c.args.page c.args.height (g.S.PageStore.size c.args.store.now) c.in_ok-fork.ensures.shows.bytes c.in-Some-prior.prior _
-    (read_of _ _ _ _ _ _ (record {
-      some = c.requires.height;
-      above = c.if-height-eq1.false;
-      told = c.in_ok-r.ensures.left.told ∙ c.in_ok-fork.ensures.looks.left.told;
-      many = g.met.S.PageStore.as_many c.args.store.now;
-    }) c.in_ok-fork.ensures.shows.are)
+    (bad_below c.in-Some-prior.prior _
+    (read_on c.in_ok-r.ensures.left.told
+    (read_of c.in_ok-fork.ensures.looks c.requires.height c.if-height-eq1.false (g.met.S.PageStore.as_many c.args.store.now) c.in_ok-fork.ensures.shows.are))
     (child_at (g.S.PageStore.size c.args.store.now) c.in_ok-fork.ensures.shows.bytes c.in_ok-fork.fork.prior c.in-Some-prior.prior c.in-Some-prior.is
     c.in_ok-fork.ensures.shows.prior_stands) c.in_err-last_under-in-Some-prior.ensures.bad)
 

@@ -22,59 +22,33 @@ pub returns-clause-last : goal.returns-clause-last
 returns-clause-last g t c =
     last_on (g.S.PageStore.told c.args.store.now) (g.S.PageStore.told c.last_child_at.new.store) c.args.page c.args.height
     (g.S.PageStore.size c.args.store.now) c.in_ok-child.ensures.shows.bytes c.in_ok-child.child c.last_under.result
-    (read_of _ _ _ _ _ _ (record {
-      some = c.requires.height;
-      above = c.if-height-eq1.false;
-      told = c.in_ok-child.ensures.looks.left.told;
-      many = g.met.S.PageStore.as_many c.args.store.now;
-    }) c.in_ok-child.ensures.shows.are)
+    (read_of c.in_ok-child.ensures.looks c.requires.height c.if-height-eq1.false (g.met.S.PageStore.as_many c.args.store.now) c.in_ok-child.ensures.shows.are)
     c.in_ok-child.ensures.shows.last c.last_under.ensures.last
 
 pub returns-clause-sound : goal.returns-clause-sound
 returns-clause-sound g t c =
     sound_last (g.S.PageStore.told c.args.store.now) (g.S.PageStore.told c.last_child_at.new.store) c.args.page c.args.height
     (g.S.PageStore.size c.args.store.now) c.in_ok-child.ensures.shows.bytes c.in_ok-child.child c.last_under.result
-    (read_of _ _ _ _ _ _ (record {
-      some = c.requires.height;
-      above = c.if-height-eq1.false;
-      told = c.in_ok-child.ensures.looks.left.told;
-      many = g.met.S.PageStore.as_many c.args.store.now;
-    }) c.in_ok-child.ensures.shows.are)
+    (read_of c.in_ok-child.ensures.looks c.requires.height c.if-height-eq1.false (g.met.S.PageStore.as_many c.args.store.now) c.in_ok-child.ensures.shows.are)
     c.in_ok-child.ensures.shows.last c.last_under.ensures.sound
 
 pub returns-clause-touched : goal.returns-clause-touched
 returns-clause-touched g t c = touched_last c.last_under.result
     (g.S.PageStore.held c.args.store.now) (g.S.PageStore.held c.last_child_at.new.store) (g.S.PageStore.held c.last_under.new.store)
-    (read_of _ _ _ _ _ _ (record {
-      some = c.requires.height;
-      above = c.if-height-eq1.false;
-      told = c.in_ok-child.ensures.looks.left.told;
-      many = g.met.S.PageStore.as_many c.args.store.now;
-    }) c.in_ok-child.ensures.shows.are)
+    (read_of c.in_ok-child.ensures.looks c.requires.height c.if-height-eq1.false (g.met.S.PageStore.as_many c.args.store.now) c.in_ok-child.ensures.shows.are)
     c.in_ok-child.ensures.shows.last c.in_ok-child.ensures.looks.held c.last_under.ensures.touched
 
 pub returns-clause-again : goal.returns-clause-again
 returns-clause-again g t c = again_last (g.S.PageStore.told c.args.store.now)
     (g.S.PageStore.told c.last_child_at.new.store)
     c.args.page c.args.height (g.S.PageStore.size c.args.store.now) (g.S.PageStore.reads c.last_under.new.store)
-    (read_of _ _ _ _ _ _ (record {
-      some = c.requires.height;
-      above = c.if-height-eq1.false;
-      told = c.in_ok-child.ensures.looks.left.told;
-      many = g.met.S.PageStore.as_many c.args.store.now;
-    }) c.in_ok-child.ensures.shows.are)
+    (read_of c.in_ok-child.ensures.looks c.requires.height c.if-height-eq1.false (g.met.S.PageStore.as_many c.args.store.now) c.in_ok-child.ensures.shows.are)
     c.in_ok-child.ensures.shows.last (record { touched = c.in_ok-child.ensures.looks.held; free = c.in_ok-child.ensures.looks.held_is_free }) c.last_under.ensures.again
 
 pub returns-clause-bad : goal.returns-clause-bad
 returns-clause-bad g t c =
-    names_below (g.S.PageStore.told c.args.store.now) (g.S.PageStore.told c.last_child_at.new.store) c.args.page c.args.height
-    (g.S.PageStore.size c.args.store.now) c.in_ok-child.ensures.shows.bytes c.last_under.result c.in_ok-child.child
-    (read_of _ _ _ _ _ _ (record {
-      some = c.requires.height;
-      above = c.if-height-eq1.false;
-      told = c.in_ok-child.ensures.looks.left.told;
-      many = g.met.S.PageStore.as_many c.args.store.now;
-    }) c.in_ok-child.ensures.shows.are)
+    names_below c.last_under.result c.in_ok-child.child
+    (read_of c.in_ok-child.ensures.looks c.requires.height c.if-height-eq1.false (g.met.S.PageStore.as_many c.args.store.now) c.in_ok-child.ensures.shows.are)
     c.in_ok-child.ensures.shows.stands c.last_under.ensures.bad
 
 pub returns-clause-left : goal.returns-clause-left

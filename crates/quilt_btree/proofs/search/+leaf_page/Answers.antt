@@ -22,36 +22,20 @@ pub returns-clause-leads : goal.returns-clause-leads
 returns-clause-leads g t c =
     led_page (g.S.PageStore.told c.args.store.now) (g.S.PageStore.told c.fork_at.new.store) c.args.page c.args.height
     (g.S.PageStore.size c.args.store.now) c.in_ok-fork.ensures.shows.bytes c.args.k.now c.in_ok-fork.fork.child c.in_ok-fork.fork.prior c.leaf_page.result
-    (read_of _ _ _ _ _ _ (record {
-      some = c.requires.height;
-      above = c.if-height-eq1.false;
-      told = c.in_ok-fork.ensures.looks.left.told;
-      many = g.met.S.PageStore.as_many c.args.store.now;
-    }) c.in_ok-fork.ensures.shows.are)
+    (read_of c.in_ok-fork.ensures.looks c.requires.height c.if-height-eq1.false (g.met.S.PageStore.as_many c.args.store.now) c.in_ok-fork.ensures.shows.are)
     c.in_ok-fork.ensures.shows.fork c.leaf_page.ensures.leads
 
 pub returns-clause-sound : goal.returns-clause-sound
 returns-clause-sound g t c =
     sound_on (g.S.PageStore.told c.args.store.now) (g.S.PageStore.told c.fork_at.new.store) c.args.page c.args.height
     (g.S.PageStore.size c.args.store.now) c.in_ok-fork.ensures.shows.bytes c.args.k.now c.in_ok-fork.fork.child c.in_ok-fork.fork.prior c.leaf_page.result
-    (read_of _ _ _ _ _ _ (record {
-      some = c.requires.height;
-      above = c.if-height-eq1.false;
-      told = c.in_ok-fork.ensures.looks.left.told;
-      many = g.met.S.PageStore.as_many c.args.store.now;
-    }) c.in_ok-fork.ensures.shows.are)
+    (read_of c.in_ok-fork.ensures.looks c.requires.height c.if-height-eq1.false (g.met.S.PageStore.as_many c.args.store.now) c.in_ok-fork.ensures.shows.are)
     c.in_ok-fork.ensures.shows.fork c.leaf_page.ensures.sound
 
 pub returns-clause-bad : goal.returns-clause-bad
 returns-clause-bad g t c =
-    names_below (g.S.PageStore.told c.args.store.now) (g.S.PageStore.told c.fork_at.new.store) c.args.page c.args.height
-    (g.S.PageStore.size c.args.store.now) c.in_ok-fork.ensures.shows.bytes c.leaf_page.result c.in_ok-fork.fork.child
-    (read_of _ _ _ _ _ _ (record {
-      some = c.requires.height;
-      above = c.if-height-eq1.false;
-      told = c.in_ok-fork.ensures.looks.left.told;
-      many = g.met.S.PageStore.as_many c.args.store.now;
-    }) c.in_ok-fork.ensures.shows.are)
+    names_below c.leaf_page.result c.in_ok-fork.fork.child
+    (read_of c.in_ok-fork.ensures.looks c.requires.height c.if-height-eq1.false (g.met.S.PageStore.as_many c.args.store.now) c.in_ok-fork.ensures.shows.are)
     c.in_ok-fork.ensures.shows.stands c.leaf_page.ensures.bad
 
 pub returns-clause-left : goal.returns-clause-left

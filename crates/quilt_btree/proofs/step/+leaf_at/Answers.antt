@@ -23,46 +23,16 @@ returns-in_err-step-clause-bad g t c =
     rw (handed_on c.from_residual.result c.from_residual.ensures.1) (c.in_err-step.ensures.bad c.args.height c.requires.height c.if-height-eq1.false)
 
 pub returns-clause-arrives : goal.returns-clause-arrives
-returns-clause-arrives g t c = step_arrives (record {
-  old = g.S.PageStore.told c.args.store.now;
-  new = g.S.PageStore.told c.step_at.new.store;
-  page = c.args.page;
-  height = c.args.height;
-  size = g.S.PageStore.size c.args.store.now;
-  bytes = c.in_ok-step.ensures.shows.bytes;
-  key = c.args.k.now;
-  child = c.in_ok-step.step.child;
-  start = c.args.high.now;
-  next = c.in_ok-step.step.high;
-  is_read = read_of _ _ _ _ _ _ (record {
-    some = c.requires.height;
-    above = c.if-height-eq1.false;
-    told = c.in_ok-step.ensures.looks.left.told;
-    many = g.met.S.PageStore.as_many c.args.store.now;
-  }) c.in_ok-step.ensures.shows.are;
-  steps = c.in_ok-step.ensures.shows.step;
-}) c.leaf_at.result c.leaf_at.ensures.arrives
+returns-clause-arrives g t c =
+    step_arrives
+    (read_of c.in_ok-step.ensures.looks c.requires.height c.if-height-eq1.false (g.met.S.PageStore.as_many c.args.store.now) c.in_ok-step.ensures.shows.are)
+    c.in_ok-step.ensures.shows.step c.leaf_at.result c.leaf_at.ensures.arrives
 
 pub returns-clause-sound : goal.returns-clause-sound
-returns-clause-sound g t c = step_sound (record {
-  old = g.S.PageStore.told c.args.store.now;
-  new = g.S.PageStore.told c.step_at.new.store;
-  page = c.args.page;
-  height = c.args.height;
-  size = g.S.PageStore.size c.args.store.now;
-  bytes = c.in_ok-step.ensures.shows.bytes;
-  key = c.args.k.now;
-  child = c.in_ok-step.step.child;
-  start = c.args.high.now;
-  next = c.in_ok-step.step.high;
-  is_read = read_of _ _ _ _ _ _ (record {
-    some = c.requires.height;
-    above = c.if-height-eq1.false;
-    told = c.in_ok-step.ensures.looks.left.told;
-    many = g.met.S.PageStore.as_many c.args.store.now;
-  }) c.in_ok-step.ensures.shows.are;
-  steps = c.in_ok-step.ensures.shows.step;
-}) c.leaf_at.result c.leaf_at.ensures.sound
+returns-clause-sound g t c =
+    step_sound
+    (read_of c.in_ok-step.ensures.looks c.requires.height c.if-height-eq1.false (g.met.S.PageStore.as_many c.args.store.now) c.in_ok-step.ensures.shows.are)
+    c.in_ok-step.ensures.shows.step c.leaf_at.result c.leaf_at.ensures.sound
 
 pub returns-clause-range : goal.returns-clause-range
 returns-clause-range g t c = record {
@@ -72,25 +42,13 @@ returns-clause-range g t c = record {
 
 pub returns-clause-spoilt : goal.returns-clause-spoilt
 returns-clause-spoilt g t c =
-    spoilt_below (g.S.PageStore.told c.args.store.now) (g.S.PageStore.told c.step_at.new.store) c.args.page c.args.height
-    (g.S.PageStore.size c.args.store.now) c.in_ok-step.ensures.shows.bytes c.leaf_at.result c.in_ok-step.step.child
-    (read_of _ _ _ _ _ _ (record {
-      some = c.requires.height;
-      above = c.if-height-eq1.false;
-      told = c.in_ok-step.ensures.looks.left.told;
-      many = g.met.S.PageStore.as_many c.args.store.now;
-    }) c.in_ok-step.ensures.shows.are) c.in_ok-step.ensures.shows.stands c.leaf_at.ensures.spoilt
+    spoilt_below c.leaf_at.result c.in_ok-step.step.child
+    (read_of c.in_ok-step.ensures.looks c.requires.height c.if-height-eq1.false (g.met.S.PageStore.as_many c.args.store.now) c.in_ok-step.ensures.shows.are) c.in_ok-step.ensures.shows.stands c.leaf_at.ensures.spoilt
 
 pub returns-clause-bad : goal.returns-clause-bad
 returns-clause-bad g t c =
-    names_below (g.S.PageStore.told c.args.store.now) (g.S.PageStore.told c.step_at.new.store) c.args.page c.args.height
-    (g.S.PageStore.size c.args.store.now) c.in_ok-step.ensures.shows.bytes c.leaf_at.result c.in_ok-step.step.child
-    (read_of _ _ _ _ _ _ (record {
-      some = c.requires.height;
-      above = c.if-height-eq1.false;
-      told = c.in_ok-step.ensures.looks.left.told;
-      many = g.met.S.PageStore.as_many c.args.store.now;
-    }) c.in_ok-step.ensures.shows.are) c.in_ok-step.ensures.shows.stands c.leaf_at.ensures.bad
+    names_below c.leaf_at.result c.in_ok-step.step.child
+    (read_of c.in_ok-step.ensures.looks c.requires.height c.if-height-eq1.false (g.met.S.PageStore.as_many c.args.store.now) c.in_ok-step.ensures.shows.are) c.in_ok-step.ensures.shows.stands c.leaf_at.ensures.bad
 
 pub returns-clause-left : goal.returns-clause-left
 returns-clause-left g t c = only_reads_then _ g.met.S.PageStore.goes_on _ _ _ c.in_ok-step.ensures.looks.left c.leaf_at.ensures.left

@@ -3,7 +3,7 @@ use Rattle.quilt_btree.specs.Looks.{IsSpoilt}
 use Rattle.quilt_btree.proofs.ranges.Spans.{added_most, added_within, above_bound}
 use Rattle.quilt_node.specs.Nodes.{page_records}
 use Rattle.quilt_btree.proofs.subtrees.Whole.{tree_spells}
-use Rattle.quilt_btree.proofs.ranges.Rests.{rest_ends, rest_fills, rest_adds, rest_next, none_over}
+use Rattle.quilt_btree.proofs.ranges.Rests.{came_to, rest_ends, rest_fills, rest_adds, rest_next, none_over}
 use Rattle.quilt_btree.proofs.ways.Damage.{fault_named}
 use Rattle.quilt_btree.proofs.ways.Steps.{told_before}
 use Rattle.quilt_btree.proofs.Handed.{handed_on}
@@ -19,15 +19,7 @@ returns-then-now-most-clause-goes_on g c = record {
   ends =
       λ none low rs is b.
       rest_fills (g.S.PageStore.told c.args.store.now) c.args.self.now low c.args.from.now c.args.high.now c.args.most
-      (page_records c.in_ok-now.ensures.adds.bytes) c.args.records.now.items c.add_at.new.records.items rs c.in_ok-found.found.high (record {
-        some = let h = c.requires.height in omega arith;
-        leads = (c.in_ok-found.ensures.arrives c.in_ok-now.ensures.adds.bytes (told_before _ _ _ _ (sym c.in_ok-found.ensures.left.told) c.in_ok-now.ensures.adds.are)).leads;
-        cut = (c.in_ok-found.ensures.arrives c.in_ok-now.ensures.adds.bytes (told_before _ _ _ _ (sym c.in_ok-found.ensures.left.told) c.in_ok-now.ensures.adds.are)).cut;
-        seen = c.in_ok-now.ensures.adds.some;
-        added = c.in_ok-now.ensures.adds.added;
-        same = λ rs s. c.in_ok-now.ensures.adds.same
-            (page_records c.in_ok-now.ensures.adds.bytes) ((c.in_ok-found.ensures.arrives c.in_ok-now.ensures.adds.bytes (told_before _ _ _ _ (sym c.in_ok-found.ensures.left.told) c.in_ok-now.ensures.adds.are)).leaf rs s);
-      }) is b
+      (page_records c.in_ok-now.ensures.adds.bytes) c.args.records.now.items c.add_at.new.records.items rs c.in_ok-found.found.high (came_to (let h = c.requires.height in omega arith) c.in_ok-found.ensures.left.told c.in_ok-now.ensures.adds c.in_ok-found.ensures.arrives) is b
       (let e = c.in_ok-now.ensures.number in let t = c.if-now-most.true in omega arith);
   goes_on =
       tt;
@@ -39,15 +31,7 @@ returns-then-now-most-clause-goes_on g c = record {
 
 pub returns-in_ok-page-in-Some-clause-sound : goal.returns-in_ok-page-in-Some-clause-sound
 returns-in_ok-page-in-Some-clause-sound g c = λ low rs is b page e. rest_adds (g.S.PageStore.told c.args.store.now) c.args.self.now c.args.from.now
-    c.args.high.now (record {
-      some = let h = c.requires.height in omega arith;
-      leads = (c.in_ok-found.ensures.arrives c.in_ok-now.ensures.adds.bytes (told_before _ _ _ _ (sym c.in_ok-found.ensures.left.told) c.in_ok-now.ensures.adds.are)).leads;
-      cut = (c.in_ok-found.ensures.arrives c.in_ok-now.ensures.adds.bytes (told_before _ _ _ _ (sym c.in_ok-found.ensures.left.told) c.in_ok-now.ensures.adds.are)).cut;
-      seen = c.in_ok-now.ensures.adds.some;
-      added = c.in_ok-now.ensures.adds.added;
-      same = λ rs s. c.in_ok-now.ensures.adds.same
-          (page_records c.in_ok-now.ensures.adds.bytes) ((c.in_ok-found.ensures.arrives c.in_ok-now.ensures.adds.bytes (told_before _ _ _ _ (sym c.in_ok-found.ensures.left.told) c.in_ok-now.ensures.adds.are)).leaf rs s);
-    }) is b c.in-Some.ensures
+    c.args.high.now (came_to (let h = c.requires.height in omega arith) c.in_ok-found.ensures.left.told c.in_ok-now.ensures.adds c.in_ok-found.ensures.arrives) is b c.in-Some.ensures
     ((c.in_ok-found.ensures.arrives c.in_ok-now.ensures.adds.bytes (told_before _ _ _ _ (sym c.in_ok-found.ensures.left.told) c.in_ok-now.ensures.adds.are)).least rs (tree_spells (g.S.PageStore.told c.args.store.now) c.args.self.now rs (let h = c.requires.height in omega arith) is).0)
     (let r = c.requires.room in omega (arith, c.args.records.now.ok.0))
     (λ same. c.if-now-most.false (let e = c.in_ok-now.ensures.number in omega arith))
@@ -59,15 +43,7 @@ returns-in_default-clause-goes_on g c = record {
       search rules;
   goes_on =
       rw c.in-Some.is (λ low rs is b.
-      rest_next low (record {
-        some = let h = c.requires.height in omega arith;
-        leads = (c.in_ok-found.ensures.arrives c.in_ok-now.ensures.adds.bytes (told_before _ _ _ _ (sym c.in_ok-found.ensures.left.told) c.in_ok-now.ensures.adds.are)).leads;
-        cut = (c.in_ok-found.ensures.arrives c.in_ok-now.ensures.adds.bytes (told_before _ _ _ _ (sym c.in_ok-found.ensures.left.told) c.in_ok-now.ensures.adds.are)).cut;
-        seen = c.in_ok-now.ensures.adds.some;
-        added = c.in_ok-now.ensures.adds.added;
-        same = λ rs s. c.in_ok-now.ensures.adds.same
-            (page_records c.in_ok-now.ensures.adds.bytes) ((c.in_ok-found.ensures.arrives c.in_ok-now.ensures.adds.bytes (told_before _ _ _ _ (sym c.in_ok-found.ensures.left.told) c.in_ok-now.ensures.adds.are)).leaf rs s);
-      }) is b c.in-Some.ensures.0);
+      rest_next low (came_to (let h = c.requires.height in omega arith) c.in_ok-found.ensures.left.told c.in_ok-now.ensures.adds c.in_ok-found.ensures.arrives) is b c.in-Some.ensures.0);
   adds =
       let m = added_most c.args.most c.args.records.now.items _ _ c.in_ok-now.ensures.adds.added
       (let r = c.requires.room in omega (arith, c.args.records.now.ok.0)) in
@@ -84,15 +60,7 @@ returns-in_default-2-clause-goes_on g c = record {
   ends =
       λ none low rs is b.
       rest_ends (g.S.PageStore.told c.args.store.now) c.args.self.now low c.args.from.now c.args.high.now c.args.most
-      (page_records c.in_ok-now.ensures.adds.bytes) c.args.records.now.items c.add_at.new.records.items rs c.in_ok-found.found.high (record {
-        some = let h = c.requires.height in omega arith;
-        leads = (c.in_ok-found.ensures.arrives c.in_ok-now.ensures.adds.bytes (told_before _ _ _ _ (sym c.in_ok-found.ensures.left.told) c.in_ok-now.ensures.adds.are)).leads;
-        cut = (c.in_ok-found.ensures.arrives c.in_ok-now.ensures.adds.bytes (told_before _ _ _ _ (sym c.in_ok-found.ensures.left.told) c.in_ok-now.ensures.adds.are)).cut;
-        seen = c.in_ok-now.ensures.adds.some;
-        added = c.in_ok-now.ensures.adds.added;
-        same = λ rs s. c.in_ok-now.ensures.adds.same
-            (page_records c.in_ok-now.ensures.adds.bytes) ((c.in_ok-found.ensures.arrives c.in_ok-now.ensures.adds.bytes (told_before _ _ _ _ (sym c.in_ok-found.ensures.left.told) c.in_ok-now.ensures.adds.are)).leaf rs s);
-      }) is b
+      (page_records c.in_ok-now.ensures.adds.bytes) c.args.records.now.items c.add_at.new.records.items rs c.in_ok-found.found.high (came_to (let h = c.requires.height in omega arith) c.in_ok-found.ensures.left.told c.in_ok-now.ensures.adds c.in_ok-found.ensures.arrives) is b
       (none_over c.key_up_to.result c.in_ok-found.found.high c.args.high.now c.key_up_to.ensures none);
   goes_on =
       search rules;

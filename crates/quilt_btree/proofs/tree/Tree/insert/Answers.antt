@@ -5,38 +5,37 @@ use Rattle.quilt_btree.proofs.ways.Damage.{zero_names, names_more}
 use Rattle.quilt_btree.proofs.growth.Finding.{finds_root, finds_empty}
 use Rattle.quilt_btree.proofs.growth.InnerGrowth.{IsWritten}
 use Rattle.quilt_btree.proofs.growth.KeptPages.{kept_first, kept_low, sound_kept, same_tree, kept_done, room_left, kept_split}
-use Rattle.quilt_btree.proofs.growth.TreeGrowth.{few_records, sound_root, whole_there, whole_done, not_split, root_room, whole_split, empty_room, whole_first}
+use Rattle.quilt_btree.proofs.growth.TreeGrowth.{IsInserting, few_records, sound_root, whole_there, whole_done, not_split, root_room, whole_split, empty_room, whole_first}
 use Rattle.quilt_btree.proofs.Handed.{handed_on}
+use Rattle.quilt_btree.proofs.tree.Tree.insert.Given.{Over}
+use Rattle.quilt_btree.proofs.tree.Tree.insert.Goals.{Start}
 use Rattle.quilt_btree.proofs.tree.Tree.insert.Goals as goal
+
+-- the tree and its store
+inserting : (g : Over) (c : Start g) → IsInserting (g.S.PageStore.told c.args.store.now) (g.S.PageStore.free c.args.store.now)
+    (g.S.PageStore.size c.args.store.now) c.args.self.now
+inserting g c = record {
+  rooted = c.requires.rooted;
+  room = c.requires.room;
+  least = (g.met.S.PageStore.in_range c.args.store.now).0;
+  most = (g.met.S.PageStore.in_range c.args.store.now).1;
+  inside = g.met.S.PageStore.free_pages_are c.args.store.now;
+  many = g.met.S.PageStore.as_many c.args.store.now;
+}
 
 pub returns-in_err-root-clause-sound : goal.returns-in_err-root-clause-sound
 returns-in_err-root-clause-sound g c =
-    rw (handed_on c.from_residual.result c.from_residual.ensures.1) (λ rs w. let range = g.met.S.PageStore.in_range c.args.store.now in
+    rw (handed_on c.from_residual.result c.from_residual.ensures.1) (λ rs w.
     c.in_err-root.ensures.sound (empty_room (g.S.PageStore.told c.args.store.now) (g.S.PageStore.free c.args.store.now)
     (g.S.PageStore.size c.args.store.now) c.args.self.now rs
-    (record {
-      rooted = c.requires.rooted;
-      room = c.requires.room;
-      least = range.0;
-      most = range.1;
-      inside = g.met.S.PageStore.free_pages_are c.args.store.now;
-      many = g.met.S.PageStore.as_many c.args.store.now;
-    }) c.if-self-eq0.true w))
+    (inserting g (goal.at.returns-in_err-root-clause-sound g c).Start) c.if-self-eq0.true w))
 
 pub returns-then-self-eq0-clause-inserts : goal.returns-then-self-eq0-clause-inserts
 returns-then-self-eq0-clause-inserts g c = record {
   inserted =
       λ rs w.
-      let range = g.met.S.PageStore.in_range c.args.store.now in
       whole_first c.args.r.now (g.S.PageStore.told c.args.store.now) (g.S.PageStore.told c.write_new.new.store) (g.S.PageStore.free c.args.store.now)
-      (g.S.PageStore.free c.write_new.new.store) (g.S.PageStore.size c.args.store.now) c.args.self.now rs c.in_ok-root.root c.bytes.result.now (record {
-        rooted = c.requires.rooted;
-        room = c.requires.room;
-        least = range.0;
-        most = range.1;
-        inside = g.met.S.PageStore.free_pages_are c.args.store.now;
-        many = g.met.S.PageStore.as_many c.args.store.now;
-      }) w c.if-self-eq0.true (c.bytes.ensures.leaf ∙ ap Some c.one-leaf.ensures) c.in_ok-root.ensures.page c.in_ok-root.ensures.free c.in_ok-root.ensures.taken c.in_ok-root.ensures.told;
+      (g.S.PageStore.free c.write_new.new.store) (g.S.PageStore.size c.args.store.now) c.args.self.now rs c.in_ok-root.root c.bytes.result.now (inserting g (goal.at.returns-then-self-eq0-clause-inserts g c).Start) w c.if-self-eq0.true (c.bytes.ensures.leaf ∙ ap Some c.one-leaf.ensures) c.in_ok-root.ensures.page c.in_ok-root.ensures.free c.in_ok-root.ensures.taken c.in_ok-root.ensures.told;
   answer =
       λ rs is.
       ap not (finds_empty (g.S.PageStore.told c.args.store.now) c.args.self.now c.args.r.now.key rs c.if-self-eq0.true is);
@@ -51,51 +50,28 @@ returns-then-self-eq0-clause-inserts g c = record {
 
 pub returns-then-self-eq3-clause-sound : goal.returns-then-self-eq3-clause-sound
 returns-then-self-eq3-clause-sound g c rs w =
-    let range = g.met.S.PageStore.in_range c.args.store.now in
     absurd (not_split c.args.r.now (g.S.PageStore.told c.args.store.now) (g.S.PageStore.told c.insert_under.new.store)
     (g.S.PageStore.free c.args.store.now) (g.S.PageStore.free c.insert_under.new.store) (g.S.PageStore.size c.args.store.now)
     c.args.self.now rs c.in-Split.key c.in-Split.right
-    (record {
-      rooted = c.requires.rooted;
-      room = c.requires.room;
-      least = range.0;
-      most = range.1;
-      inside = g.met.S.PageStore.free_pages_are c.args.store.now;
-      many = g.met.S.PageStore.as_many c.args.store.now;
-    })
+    (inserting g (goal.at.returns-then-self-eq3-clause-sound g c).Start)
     c.if-self-eq3.true (rw c.in-Split.is at c.in_ok-insert_under.ensures.inserted) w)
 
 pub returns-in_err-insert_under-clause-sound : goal.returns-in_err-insert_under-clause-sound
 returns-in_err-insert_under-clause-sound g c =
     rw (handed_on c.from_residual-in_err-insert_under.result c.from_residual-in_err-insert_under.ensures.1)
-    (λ rs w. let range = g.met.S.PageStore.in_range c.args.store.now in
+    (λ rs w.
     sound_root _
     c.args.r.now.key
-    (record {
-      rooted = c.requires.rooted;
-      room = c.requires.room;
-      least = range.0;
-      most = range.1;
-      inside = g.met.S.PageStore.free_pages_are c.args.store.now;
-      many = g.met.S.PageStore.as_many c.args.store.now;
-    })
+    (inserting g (goal.at.returns-in_err-insert_under-clause-sound g c).Start)
     c.if-self-eq0.false c.in_err-insert_under.ensures.sound w)
 
 pub returns-in-There-clause-inserts : goal.returns-in-There-clause-inserts
 returns-in-There-clause-inserts g c = record {
   inserted =
       λ rs w.
-      let range = g.met.S.PageStore.in_range c.args.store.now in
       whole_there c.args.r.now (g.S.PageStore.told c.args.store.now) (g.S.PageStore.told c.insert_under.new.store)
       (g.S.PageStore.free c.args.store.now) (g.S.PageStore.free c.insert_under.new.store) (g.S.PageStore.size c.args.store.now) c.args.self.now rs
-      (record {
-        rooted = c.requires.rooted;
-        room = c.requires.room;
-        least = range.0;
-        most = range.1;
-        inside = g.met.S.PageStore.free_pages_are c.args.store.now;
-        many = g.met.S.PageStore.as_many c.args.store.now;
-      })
+      (inserting g (goal.at.returns-in-There-clause-inserts g c).Start)
       c.if-self-eq0.false (rw c.in-There.is at c.in_ok-insert_under.ensures.inserted)
       (c.in_ok-insert_under.ensures.leaves.same c.in-There.is).told
       (c.in_ok-insert_under.ensures.leaves.same c.in-There.is).free w;
@@ -115,18 +91,10 @@ pub returns-in-Done-clause-inserts : goal.returns-in-Done-clause-inserts
 returns-in-Done-clause-inserts g c = record {
   inserted =
       λ rs w.
-      let range = g.met.S.PageStore.in_range c.args.store.now in
       whole_done c.args.r.now (g.S.PageStore.told c.args.store.now) (g.S.PageStore.told c.insert_under.new.store)
       (g.S.PageStore.free c.args.store.now)
       (g.S.PageStore.free c.insert_under.new.store) (g.S.PageStore.size c.args.store.now) c.args.self.now rs
-      (record {
-        rooted = c.requires.rooted;
-        room = c.requires.room;
-        least = range.0;
-        most = range.1;
-        inside = g.met.S.PageStore.free_pages_are c.args.store.now;
-        many = g.met.S.PageStore.as_many c.args.store.now;
-      })
+      (inserting g (goal.at.returns-in-Done-clause-inserts g c).Start)
       c.if-self-eq0.false (rw c.in-Done.is at c.in_ok-insert_under.ensures.inserted) w;
   answer =
       λ rs is.
@@ -142,25 +110,17 @@ returns-in-Done-clause-inserts g c = record {
 pub returns-in_err-root-in-Split-clause-sound : goal.returns-in_err-root-in-Split-clause-sound
 returns-in_err-root-in-Split-clause-sound g c =
     rw (handed_on c.from_residual-in_err-root-in-Split.result c.from_residual-in_err-root-in-Split.ensures.1)
-    (λ rs w. let range = g.met.S.PageStore.in_range c.args.store.now in
+    (λ rs w.
     c.in_err-root-in-Split.ensures.sound (root_room c.args.r.now (g.S.PageStore.told c.args.store.now) (g.S.PageStore.told c.insert_under.new.store)
     (g.S.PageStore.free c.args.store.now) (g.S.PageStore.free c.insert_under.new.store) (g.S.PageStore.size c.args.store.now)
     (g.S.PageStore.size c.insert_under.new.store) c.args.self.now rs
-    (record {
-      rooted = c.requires.rooted;
-      room = c.requires.room;
-      least = range.0;
-      most = range.1;
-      inside = g.met.S.PageStore.free_pages_are c.args.store.now;
-      many = g.met.S.PageStore.as_many c.args.store.now;
-    })
+    (inserting g (goal.at.returns-in_err-root-in-Split-clause-sound g c).Start)
     c.if-self-eq0.false c.in_ok-insert_under.ensures.left.size c.in_ok-insert_under.ensures.leaves.room w))
 
 pub returns-in_ok-root-in-Split-clause-inserts : goal.returns-in_ok-root-in-Split-clause-inserts
 returns-in_ok-root-in-Split-clause-inserts g c = record {
   inserted =
       λ rs w.
-      let range = g.met.S.PageStore.in_range c.args.store.now in
       let ne = c.if-self-eq0.false in
       let tall : c.args.self.now.height ≡ suc (c.args.self.now.height - 1) = omega arith in
       let right_in : (1 ≤ c.in-Split.right) × (c.in-Split.right < g.S.PageStore.size c.args.store.now) =
@@ -169,14 +129,7 @@ returns-in_ok-root-in-Split-clause-inserts g c = record {
       subst (λ n. (1 ≤ c.in_ok-root-in-Split.root) × (c.in_ok-root-in-Split.root < n)) c.in_ok-insert_under.ensures.left.size c.in_ok-root-in-Split.ensures.page in
       whole_split c.args.r.now (g.S.PageStore.told c.args.store.now) (g.S.PageStore.told c.write_new-in-Split.new.store)
       (g.S.PageStore.free c.args.store.now) (g.S.PageStore.free c.write_new-in-Split.new.store) (g.S.PageStore.size c.args.store.now)
-      c.args.self.now rs c.in_ok-root-in-Split.root c.bytes-in-Split.result.now (record {
-        rooted = c.requires.rooted;
-        room = c.requires.room;
-        least = range.0;
-        most = range.1;
-        inside = g.met.S.PageStore.free_pages_are c.args.store.now;
-        many = g.met.S.PageStore.as_many c.args.store.now;
-      }) w (g.S.PageStore.told c.insert_under.new.store) (g.S.PageStore.free c.insert_under.new.store) c.in-Split.key c.in-Split.right (c.args.self.now.height - 1) tall (rw c.in-Split.is at c.in_ok-insert_under.ensures.inserted) (record {
+      c.args.self.now rs c.in_ok-root-in-Split.root c.bytes-in-Split.result.now (inserting g (goal.at.returns-in_ok-root-in-Split-clause-inserts g c).Start) w (g.S.PageStore.told c.insert_under.new.store) (g.S.PageStore.free c.insert_under.new.store) c.in-Split.key c.in-Split.right (c.args.self.now.height - 1) tall (rw c.in-Split.is at c.in_ok-insert_under.ensures.inserted) (record {
         is_written = subst (λ (x : Inner). IsWritten c.bytes-in-Split.result.now x) c.pair-page.ensures c.bytes-in-Split.ensures.inner;
         right_in = right_in;
         new_in = new_in;

@@ -1,15 +1,14 @@
-use Rattle.std.proofs.Common.{sym, ◌++◌, List, take, filter, ◌∙◌, ap, arith}
+use Rattle.std.proofs.Common.{refl, ◌∙◌, ap, arith}
 use Rattle.std.specs.List.{list_all}
-use Rattle.quilt_record.specs.declared.record.Record.{Record}
 use Rattle.quilt_record.specs.Records.{key_cmp}
 use Rattle.quilt_store.proofs.Reading.{only_reads_then, only_reads_ok, only_reads_err}
 use Rattle.quilt_btree.specs.Lists.{is_from_to}
 use Rattle.quilt_record.proofs.Orders.{lt_to_le}
 use Rattle.quilt_btree.proofs.ranges.Spans.{first_within, above_bound}
-use Rattle.quilt_node.specs.Nodes.{page_records}
 use Rattle.quilt_btree.proofs.subtrees.Whole.{sound_whole}
-use Rattle.quilt_btree.proofs.ranges.Rests.{first_ends, first_fills, first_sound, first_result, no_range}
-use Rattle.quilt_btree.proofs.ways.Steps.{told_before}
+use Rattle.quilt_btree.proofs.ranges.Rests.{no_range}
+use Rattle.quilt_btree.proofs.Spots.{leads_from, spot_ends, spot_fills, spot_sound, spot_rest}
+use Rattle.quilt_btree.proofs.ways.Leaves.{same_le}
 use Rattle.quilt_btree.proofs.Handed.{handed_on}
 use Rattle.quilt_btree.proofs.tree.Tree.range.Goals as goal
 
@@ -23,104 +22,47 @@ returns-in_err-found-clause-sound g c =
     (sound_whole _ (g.S.PageStore.told c.args.store.now) c.args.self.now c.if-self-eq0.false c.in_err-found.ensures.sound)
 
 pub returns-then-now-most-clause-range : goal.returns-then-now-most-clause-range
-returns-then-now-most-clause-range g c = λ rs is. first_fills (g.S.PageStore.told c.args.store.now) c.args.self.now c.args.low.now c.args.high.now
-    c.args.most (page_records c.in_ok-now.ensures.adds.bytes) c.add_at.new.records.items rs c.in_ok-found.found.high (record {
-      some = c.if-self-eq0.false;
-      leads = (c.in_ok-found.ensures.arrives c.in_ok-now.ensures.adds.bytes (told_before _ _ _ _ (sym c.in_ok-found.ensures.left.told) c.in_ok-now.ensures.adds.are)).leads;
-      cut = (c.in_ok-found.ensures.arrives c.in_ok-now.ensures.adds.bytes (told_before _ _ _ _ (sym c.in_ok-found.ensures.left.told) c.in_ok-now.ensures.adds.are)).cut;
-      seen = c.in_ok-now.ensures.adds.some;
-      added = c.in_ok-now.ensures.adds.added
-          ∙ ap (λ (l : List Record).
-          take c.args.most (l ++ filter (is_from_to c.args.low.now c.args.high.now)
-          c.in_ok-now.ensures.adds.some)) c.new-records.ensures.items;
-      same = λ rs s. c.in_ok-now.ensures.adds.same
-          (page_records c.in_ok-now.ensures.adds.bytes) ((c.in_ok-found.ensures.arrives c.in_ok-now.ensures.adds.bytes (told_before _ _ _ _ (sym c.in_ok-found.ensures.left.told) c.in_ok-now.ensures.adds.are)).leaf rs s);
-    }) is
+returns-then-now-most-clause-range g c =
+    spot_fills (leads_from _ _ _ _ _ (let ne = c.if-self-eq0.false in omega arith) c.in_ok-found.ensures.arrives) (same_le c.args.low.now)
+    (c.in_ok-found.ensures.range.above refl) c.in_ok-found.ensures.left.told c.in_ok-now.ensures.adds c.new-records.ensures.items
     (let e = c.in_ok-now.ensures.number in let t = c.if-now-most.true in omega arith)
 
 pub returns-in-None-clause-range : goal.returns-in-None-clause-range
-returns-in-None-clause-range g c = λ rs is. first_ends (g.S.PageStore.told c.args.store.now) c.args.self.now c.args.low.now c.args.high.now
-    c.args.most (page_records c.in_ok-now.ensures.adds.bytes) c.add_at.new.records.items rs c.in_ok-found.found.high (record {
-      some = c.if-self-eq0.false;
-      leads = (c.in_ok-found.ensures.arrives c.in_ok-now.ensures.adds.bytes (told_before _ _ _ _ (sym c.in_ok-found.ensures.left.told) c.in_ok-now.ensures.adds.are)).leads;
-      cut = (c.in_ok-found.ensures.arrives c.in_ok-now.ensures.adds.bytes (told_before _ _ _ _ (sym c.in_ok-found.ensures.left.told) c.in_ok-now.ensures.adds.are)).cut;
-      seen = c.in_ok-now.ensures.adds.some;
-      added = c.in_ok-now.ensures.adds.added
-          ∙ ap (λ (l : List Record).
-          take c.args.most (l ++ filter (is_from_to c.args.low.now c.args.high.now)
-          c.in_ok-now.ensures.adds.some)) c.new-records.ensures.items;
-      same = λ rs s. c.in_ok-now.ensures.adds.same
-          (page_records c.in_ok-now.ensures.adds.bytes) ((c.in_ok-found.ensures.arrives c.in_ok-now.ensures.adds.bytes (told_before _ _ _ _ (sym c.in_ok-found.ensures.left.told) c.in_ok-now.ensures.adds.are)).leaf rs s);
-    }) is c.in-None.ensures
+returns-in-None-clause-range g c =
+    spot_ends (leads_from _ _ _ _ _ (let ne = c.if-self-eq0.false in omega arith) c.in_ok-found.ensures.arrives) (same_le c.args.low.now)
+    (c.in_ok-found.ensures.range.above refl) c.in_ok-found.ensures.left.told c.in_ok-now.ensures.adds c.new-records.ensures.items
+    c.in-None.ensures
 
 pub returns-in_err-add_rest-in-Some-clause-sound : goal.returns-in_err-add_rest-in-Some-clause-sound
 returns-in_err-add_rest-in-Some-clause-sound g c =
     rw (handed_on c.from_residual-in_err-add_rest-in-Some.result c.from_residual-in_err-add_rest-in-Some.ensures.1)
-    (first_sound (g.S.PageStore.told c.args.store.now) (g.S.PageStore.told c.add_at.new.store) c.args.self.now c.args.low.now c.args.high.now
-    c.in-Some.next c.args.most (page_records c.in_ok-now.ensures.adds.bytes) c.add_at.new.records.items c.in_ok-found.found.high _
-    (c.in_ok-now.ensures.looks.left.told ∙ c.in_ok-found.ensures.left.told) (record {
-      some = c.if-self-eq0.false;
-      leads = (c.in_ok-found.ensures.arrives c.in_ok-now.ensures.adds.bytes (told_before _ _ _ _ (sym c.in_ok-found.ensures.left.told) c.in_ok-now.ensures.adds.are)).leads;
-      cut = (c.in_ok-found.ensures.arrives c.in_ok-now.ensures.adds.bytes (told_before _ _ _ _ (sym c.in_ok-found.ensures.left.told) c.in_ok-now.ensures.adds.are)).cut;
-      seen = c.in_ok-now.ensures.adds.some;
-      added = c.in_ok-now.ensures.adds.added
-          ∙ ap (λ (l : List Record).
-          take c.args.most (l ++ filter (is_from_to c.args.low.now c.args.high.now)
-          c.in_ok-now.ensures.adds.some)) c.new-records.ensures.items;
-      same = λ rs s. c.in_ok-now.ensures.adds.same
-          (page_records c.in_ok-now.ensures.adds.bytes) ((c.in_ok-found.ensures.arrives c.in_ok-now.ensures.adds.bytes (told_before _ _ _ _ (sym c.in_ok-found.ensures.left.told) c.in_ok-now.ensures.adds.are)).leaf rs s);
-    }) c.in-Some.ensures.0 c.in_err-add_rest-in-Some.ensures.sound)
+    (spot_sound (leads_from _ _ _ _ _ (let ne = c.if-self-eq0.false in omega arith) c.in_ok-found.ensures.arrives) (same_le c.args.low.now)
+    (c.in_ok-found.ensures.range.above refl) c.in_ok-found.ensures.left.told c.in_ok-now.ensures.adds c.new-records.ensures.items
+    _ (c.in_ok-now.ensures.looks.left.told ∙ c.in_ok-found.ensures.left.told) c.in-Some.ensures.0 c.in_err-add_rest-in-Some.ensures.sound)
 
 pub returns-in_ok-add_rest-in-Some-clause-range : goal.returns-in_ok-add_rest-in-Some-clause-range
 returns-in_ok-add_rest-in-Some-clause-range g c =
-    first_result (g.S.PageStore.told c.args.store.now) (g.S.PageStore.told c.add_at.new.store) c.args.self.now c.args.low.now c.args.high.now
-    c.in-Some.next c.args.most (page_records c.in_ok-now.ensures.adds.bytes) c.add_at.new.records.items c.add_rest.new.records.items
-    c.in_ok-found.found.high
-    (c.in_ok-now.ensures.looks.left.told ∙ c.in_ok-found.ensures.left.told) (record {
-      some = c.if-self-eq0.false;
-      leads = (c.in_ok-found.ensures.arrives c.in_ok-now.ensures.adds.bytes (told_before _ _ _ _ (sym c.in_ok-found.ensures.left.told) c.in_ok-now.ensures.adds.are)).leads;
-      cut = (c.in_ok-found.ensures.arrives c.in_ok-now.ensures.adds.bytes (told_before _ _ _ _ (sym c.in_ok-found.ensures.left.told) c.in_ok-now.ensures.adds.are)).cut;
-      seen = c.in_ok-now.ensures.adds.some;
-      added = c.in_ok-now.ensures.adds.added
-          ∙ ap (λ (l : List Record).
-          take c.args.most (l ++ filter (is_from_to c.args.low.now c.args.high.now)
-          c.in_ok-now.ensures.adds.some)) c.new-records.ensures.items;
-      same = λ rs s. c.in_ok-now.ensures.adds.same
-          (page_records c.in_ok-now.ensures.adds.bytes) ((c.in_ok-found.ensures.arrives c.in_ok-now.ensures.adds.bytes (told_before _ _ _ _ (sym c.in_ok-found.ensures.left.told) c.in_ok-now.ensures.adds.are)).leaf rs s);
-    }) c.in-Some.ensures.0 c.in_ok-add_rest-in-Some.ensures.rest
+    spot_rest (leads_from _ _ _ _ _ (let ne = c.if-self-eq0.false in omega arith) c.in_ok-found.ensures.arrives) (same_le c.args.low.now)
+    (c.in_ok-found.ensures.range.above refl) c.in_ok-found.ensures.left.told c.in_ok-now.ensures.adds c.new-records.ensures.items
+    c.add_rest.new.records.items (c.in_ok-now.ensures.looks.left.told ∙ c.in_ok-found.ensures.left.told) c.in-Some.ensures.0 c.in_ok-add_rest-in-Some.ensures.rest
 
 pub returns-then-self-eq0-clause-within : goal.returns-then-self-eq0-clause-within
 returns-then-self-eq0-clause-within g c = ap (list_all (is_from_to c.args.low.now c.args.high.now)) c.new-records.ensures.items
 
 pub returns-then-now-most-clause-within : goal.returns-then-now-most-clause-within
 returns-then-now-most-clause-within g c =
-    first_within c.args.low.now c.args.high.now c.args.most
-    c.in_ok-now.ensures.adds.some c.add_at.new.records.items
-    (c.in_ok-now.ensures.adds.added
-    ∙ ap (λ (l : List Record).
-    take c.args.most (l ++ filter (is_from_to c.args.low.now c.args.high.now)
-    c.in_ok-now.ensures.adds.some)) c.new-records.ensures.items)
+    first_within c.in_ok-now.ensures.adds c.new-records.ensures.items
 
 pub returns-in-None-clause-within : goal.returns-in-None-clause-within
 returns-in-None-clause-within g c =
-    first_within c.args.low.now c.args.high.now c.args.most
-    c.in_ok-now.ensures.adds.some c.add_at.new.records.items
-    (c.in_ok-now.ensures.adds.added
-    ∙ ap (λ (l : List Record).
-    take c.args.most (l ++ filter (is_from_to c.args.low.now c.args.high.now)
-    c.in_ok-now.ensures.adds.some)) c.new-records.ensures.items)
+    first_within c.in_ok-now.ensures.adds c.new-records.ensures.items
 
 pub returns-in_ok-add_rest-in-Some-clause-within : goal.returns-in_ok-add_rest-in-Some-clause-within
 returns-in_ok-add_rest-in-Some-clause-within g c =
     c.in_ok-add_rest-in-Some.ensures.grows.within c.args.low.now
     (lt_to_le (key_cmp c.args.low.now c.in-Some.next)
     (above_bound c.args.low.now c.in-Some.next c.in_ok-found.found.high c.in_ok-found.ensures.range.above c.in-Some.ensures.0))
-    (first_within c.args.low.now c.args.high.now c.args.most
-    c.in_ok-now.ensures.adds.some c.add_at.new.records.items
-    (c.in_ok-now.ensures.adds.added
-    ∙ ap (λ (l : List Record).
-    take c.args.most (l ++ filter (is_from_to c.args.low.now c.args.high.now)
-    c.in_ok-now.ensures.adds.some)) c.new-records.ensures.items))
+    (first_within c.in_ok-now.ensures.adds c.new-records.ensures.items)
 
 pub returns-in_err-found-clause-bad : goal.returns-in_err-found-clause-bad
 returns-in_err-found-clause-bad g c =

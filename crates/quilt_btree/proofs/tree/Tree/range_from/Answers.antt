@@ -1,11 +1,8 @@
-use Rattle.std.proofs.Common.{sym, ◌∙◌, ◌++◌, List, take, filter, ap, subst, arith}
-use Rattle.quilt_record.specs.declared.record.Record.{Record}
+use Rattle.std.proofs.Common.{◌∙◌, arith}
 use Rattle.quilt_record.specs.Records.{key_cmp}
 use Rattle.quilt_record.proofs.Orders.{lt_to_le}
 use Rattle.quilt_store.proofs.Reading.{only_reads_then, only_reads_ok, only_reads_err}
-use Rattle.quilt_btree.specs.Lists.{is_from_to}
-use Rattle.quilt_btree.specs.Spots.{IsSpot}
-use Rattle.quilt_btree.proofs.Spots.{spot_ends, spot_fills, spot_sound, spot_rest, under_next, never_on, placed_at}
+use Rattle.quilt_btree.proofs.Spots.{spot_ends, spot_fills, spot_sound, spot_rest, wide_spot, under_next, never_on, placed_at}
 use Rattle.quilt_btree.proofs.ranges.Rests.{no_range}
 use Rattle.quilt_btree.proofs.ranges.Spans.{first_within, first_few}
 use Rattle.quilt_btree.proofs.Handed.{handed_on}
@@ -16,68 +13,54 @@ returns-then-self-eq0-clause-range g c = λ rs is. c.new-records.ensures.items
     ∙ no_range (g.S.PageStore.told c.args.store.now) c.args.self.now rs c.args.low.now c.args.high.now c.args.most c.if-self-eq0.true is
 
 pub returns-then-len-most-clause-range : goal.returns-then-len-most-clause-range
-returns-then-len-most-clause-range g c = spot_fills (g.S.PageStore.told c.args.store.now) _ c.args.self.now c.in_ok-found.found.page c.in_ok-found.found.low c.in_ok-found.found.high c.args.low.now
-    c.args.high.now c.args.most _ c.add_in.new.records.items c.in_ok-found.ensures.leads.spot c.in_ok-found.ensures.leads.keys.0 c.in_ok-found.ensures.leads.keys.1 c.in_ok-found.ensures.left.told
+returns-then-len-most-clause-range g c = spot_fills c.in_ok-found.ensures.leads.spot c.in_ok-found.ensures.leads.keys.0 c.in_ok-found.ensures.leads.keys.1 c.in_ok-found.ensures.left.told
     c.in_ok-wide.ensures.adds c.new-records.ensures.items
     (let e = c.len.ensures in let t = c.if-len-most.true in omega arith)
 
 pub returns-in-None-clause-range : goal.returns-in-None-clause-range
-returns-in-None-clause-range g c = spot_ends (g.S.PageStore.told c.args.store.now) _ c.args.self.now c.in_ok-found.found.page c.in_ok-found.found.low c.in_ok-found.found.high c.args.low.now
-    c.args.high.now c.args.most _ c.add_in.new.records.items c.in_ok-found.ensures.leads.spot c.in_ok-found.ensures.leads.keys.0 c.in_ok-found.ensures.leads.keys.1 c.in_ok-found.ensures.left.told
+returns-in-None-clause-range g c = spot_ends c.in_ok-found.ensures.leads.spot c.in_ok-found.ensures.leads.keys.0 c.in_ok-found.ensures.leads.keys.1 c.in_ok-found.ensures.left.told
     c.in_ok-wide.ensures.adds c.new-records.ensures.items c.in-None.ensures
 
 pub returns-in_err-add_rest-in-Some-clause-sound : goal.returns-in_err-add_rest-in-Some-clause-sound
 returns-in_err-add_rest-in-Some-clause-sound g c =
     rw (handed_on c.from_residual-in_err-add_rest-in-Some.result c.from_residual-in_err-add_rest-in-Some.ensures.1)
-    (spot_sound (g.S.PageStore.told c.args.store.now) _ c.args.self.now c.in_ok-found.found.page c.in_ok-found.found.low c.in_ok-found.found.high c.args.low.now
-    c.args.high.now c.args.most _ c.add_in.new.records.items c.in_ok-found.ensures.leads.spot c.in_ok-found.ensures.leads.keys.0 c.in_ok-found.ensures.leads.keys.1 c.in_ok-found.ensures.left.told
+    (spot_sound c.in_ok-found.ensures.leads.spot c.in_ok-found.ensures.leads.keys.0 c.in_ok-found.ensures.leads.keys.1 c.in_ok-found.ensures.left.told
     c.in_ok-wide.ensures.adds c.new-records.ensures.items
-    (g.S.PageStore.told c.add_in.new.store) c.in-Some.next _ (c.in_ok-wide.ensures.looks.left.told ∙ c.in_ok-found.ensures.left.told)
+    _ (c.in_ok-wide.ensures.looks.left.told ∙ c.in_ok-found.ensures.left.told)
     c.in-Some.ensures.0 c.in_err-add_rest-in-Some.ensures.sound)
 
 pub returns-in_ok-add_rest-in-Some-clause-range : goal.returns-in_ok-add_rest-in-Some-clause-range
-returns-in_ok-add_rest-in-Some-clause-range g c = spot_rest (g.S.PageStore.told c.args.store.now) _ c.args.self.now c.in_ok-found.found.page c.in_ok-found.found.low c.in_ok-found.found.high c.args.low.now
-    c.args.high.now c.args.most _ c.add_in.new.records.items c.in_ok-found.ensures.leads.spot c.in_ok-found.ensures.leads.keys.0 c.in_ok-found.ensures.leads.keys.1 c.in_ok-found.ensures.left.told
+returns-in_ok-add_rest-in-Some-clause-range g c = spot_rest c.in_ok-found.ensures.leads.spot c.in_ok-found.ensures.leads.keys.0 c.in_ok-found.ensures.leads.keys.1 c.in_ok-found.ensures.left.told
     c.in_ok-wide.ensures.adds c.new-records.ensures.items
-    (g.S.PageStore.told c.add_in.new.store) c.in-Some.next c.add_rest.new.records.items (c.in_ok-wide.ensures.looks.left.told ∙ c.in_ok-found.ensures.left.told)
+    c.add_rest.new.records.items (c.in_ok-wide.ensures.looks.left.told ∙ c.in_ok-found.ensures.left.told)
     c.in-Some.ensures.0 c.in_ok-add_rest-in-Some.ensures.rest
 
 pub returns-then-len-most-clause-spot : goal.returns-then-len-most-clause-spot
 returns-then-len-most-clause-spot g c =
-    subst (λ o. IsSpot o c.args.self.now c.in_ok-wide.wide) c.in_ok-found.ensures.left.told
-    (c.in_ok-wide.ensures.wide c.args.self.now (let ne = c.if-self-eq0.false in omega arith)
-    (subst (λ o. IsSpot o c.args.self.now c.in_ok-found.found) (sym c.in_ok-found.ensures.left.told) c.in_ok-found.ensures.leads.spot))
+    wide_spot c.in_ok-found.found c.in_ok-wide.wide c.in_ok-found.ensures.left.told (let ne = c.if-self-eq0.false in omega arith) c.in_ok-wide.ensures.wide
+    c.in_ok-found.ensures.leads.spot
 
 pub returns-in-None-clause-spot : goal.returns-in-None-clause-spot
 returns-in-None-clause-spot g c =
-    subst (λ o. IsSpot o c.args.self.now c.in_ok-wide.wide) c.in_ok-found.ensures.left.told
-    (c.in_ok-wide.ensures.wide c.args.self.now (let ne = c.if-self-eq0.false in omega arith)
-    (subst (λ o. IsSpot o c.args.self.now c.in_ok-found.found) (sym c.in_ok-found.ensures.left.told) c.in_ok-found.ensures.leads.spot))
+    wide_spot c.in_ok-found.found c.in_ok-wide.wide c.in_ok-found.ensures.left.told (let ne = c.if-self-eq0.false in omega arith) c.in_ok-wide.ensures.wide
+    c.in_ok-found.ensures.leads.spot
 
 pub returns-in_ok-add_rest-in-Some-clause-spot : goal.returns-in_ok-add_rest-in-Some-clause-spot
 returns-in_ok-add_rest-in-Some-clause-spot g c =
-    subst (λ o. IsSpot o c.args.self.now c.in_ok-wide.wide) c.in_ok-found.ensures.left.told
-    (c.in_ok-wide.ensures.wide c.args.self.now (let ne = c.if-self-eq0.false in omega arith)
-    (subst (λ o. IsSpot o c.args.self.now c.in_ok-found.found) (sym c.in_ok-found.ensures.left.told) c.in_ok-found.ensures.leads.spot))
+    wide_spot c.in_ok-found.found c.in_ok-wide.wide c.in_ok-found.ensures.left.told (let ne = c.if-self-eq0.false in omega arith) c.in_ok-wide.ensures.wide
+    c.in_ok-found.ensures.leads.spot
 
 pub returns-then-len-most-clause-fits : goal.returns-then-len-most-clause-fits
 returns-then-len-most-clause-fits g c = record {
   number = let e = c.len.ensures in let t = c.if-len-most.true in omega arith;
-  within = first_within c.args.low.now c.args.high.now c.args.most c.in_ok-wide.ensures.adds.some c.add_in.new.records.items
-      (c.in_ok-wide.ensures.adds.added
-      ∙ ap (λ (l : List Record). take c.args.most (l ++ filter (is_from_to c.args.low.now c.args.high.now) c.in_ok-wide.ensures.adds.some))
-      c.new-records.ensures.items);
+  within = first_within c.in_ok-wide.ensures.adds c.new-records.ensures.items;
 }
 
 pub returns-in-None-clause-fits : goal.returns-in-None-clause-fits
-returns-in-None-clause-fits g c =
-    let is = c.in_ok-wide.ensures.adds.added
-    ∙ ap (λ (l : List Record). take c.args.most (l ++ filter (is_from_to c.args.low.now c.args.high.now) c.in_ok-wide.ensures.adds.some))
-    c.new-records.ensures.items in
-    record {
-      number = omega (arith, first_few c.args.most _ c.add_in.new.records.items is, c.add_in.new.records.ok.0);
-      within = first_within c.args.low.now c.args.high.now c.args.most c.in_ok-wide.ensures.adds.some c.add_in.new.records.items is;
-    }
+returns-in-None-clause-fits g c = record {
+  number = omega (arith, first_few c.in_ok-wide.ensures.adds c.new-records.ensures.items, c.add_in.new.records.ok.0);
+  within = first_within c.in_ok-wide.ensures.adds c.new-records.ensures.items;
+}
 
 pub returns-in_ok-add_rest-in-Some-clause-fits : goal.returns-in_ok-add_rest-in-Some-clause-fits
 returns-in_ok-add_rest-in-Some-clause-fits g c = record {
@@ -85,10 +68,7 @@ returns-in_ok-add_rest-in-Some-clause-fits g c = record {
   within = c.in_ok-add_rest-in-Some.ensures.grows.within c.args.low.now
       (lt_to_le (key_cmp c.args.low.now c.in-Some.next)
       (under_next c.args.low.now c.in-Some.next c.in_ok-found.found.high c.in_ok-found.ensures.leads.keys.1 c.in-Some.ensures.0))
-      (first_within c.args.low.now c.args.high.now c.args.most c.in_ok-wide.ensures.adds.some c.add_in.new.records.items
-      (c.in_ok-wide.ensures.adds.added
-      ∙ ap (λ (l : List Record). take c.args.most (l ++ filter (is_from_to c.args.low.now c.args.high.now) c.in_ok-wide.ensures.adds.some))
-      c.new-records.ensures.items));
+      (first_within c.in_ok-wide.ensures.adds c.new-records.ensures.items);
 }
 
 pub returns-in_err-add_rest-in-Some-clause-left : goal.returns-in_err-add_rest-in-Some-clause-left

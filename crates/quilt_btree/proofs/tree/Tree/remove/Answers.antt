@@ -4,10 +4,21 @@ use Rattle.quilt_btree.proofs.growth.Finding.{finds_root, finds_empty, shrunk_an
 use Rattle.quilt_btree.proofs.growth.KeptPages.{out_none, sound_out, out_missing, out_done, out_underfull}
 use Rattle.quilt_btree.proofs.growth.KeptPages.{out_emptied, out_only, out_shrunk, out_sound, two_done}
 use Rattle.quilt_btree.proofs.growth.KeptPages.{two_underfull, one_empty, two_only}
-use Rattle.quilt_btree.proofs.removals.TreeRemovals.{sound_root, whole_none, whole_missing, whole_done, whole_underfull, whole_emptied, whole_only, many_done}
+use Rattle.quilt_btree.proofs.removals.TreeRemovals.{IsRemoving, sound_root, whole_none, whole_missing, whole_done, whole_underfull, whole_emptied, whole_only, many_done}
 use Rattle.quilt_btree.proofs.removals.TreeRemovals.{many_underfull, one_emptied, one_only, shrunk, shrunk_sound}
 use Rattle.quilt_btree.proofs.Handed.{handed_on}
+use Rattle.quilt_btree.proofs.tree.Tree.remove.Given.{Over}
+use Rattle.quilt_btree.proofs.tree.Tree.remove.Goals.{Else-self-eq0}
 use Rattle.quilt_btree.proofs.tree.Tree.remove.Goals as goal
+
+-- the tree and its store
+removing : (g : Over) (c : Else-self-eq0 g) → IsRemoving (g.S.PageStore.free c.args.store.now) (g.S.PageStore.size c.args.store.now) c.args.self.now
+removing g c = record {
+  rooted = c.requires.rooted;
+  least = (g.met.S.PageStore.in_range c.args.store.now).0;
+  inside = g.met.S.PageStore.free_pages_are c.args.store.now;
+  above = c.if-self-eq0.false;
+}
 
 pub returns-then-self-eq0-clause-removes : goal.returns-then-self-eq0-clause-removes
 returns-then-self-eq0-clause-removes g c = record {
@@ -27,12 +38,7 @@ returns-in_err-remove_under-clause-sound g c =
     rw (handed_on c.from_residual.result c.from_residual.ensures.1)
     (λ rs w. sound_root (g.S.PageStore.told c.args.store.now) (g.S.PageStore.free c.args.store.now) (g.S.PageStore.size c.args.store.now)
     c.args.self.now _ rs
-    (record {
-      rooted = c.requires.rooted;
-      least = (g.met.S.PageStore.in_range c.args.store.now).0;
-      inside = g.met.S.PageStore.free_pages_are c.args.store.now;
-      above = c.if-self-eq0.false;
-    }) c.in_err-remove_under.ensures.sound w)
+    (removing g (goal.at.returns-in_err-remove_under-clause-sound g c).Else-self-eq0) c.in_err-remove_under.ensures.sound w)
 
 pub returns-in-Missing-clause-removes : goal.returns-in-Missing-clause-removes
 returns-in-Missing-clause-removes g c = record {
@@ -40,12 +46,7 @@ returns-in-Missing-clause-removes g c = record {
       let found = rw c.in-Missing.is at c.in_ok-remove_under.ensures in
       λ rs w. whole_missing c.args.k.now (g.S.PageStore.told c.args.store.now) (g.S.PageStore.told c.remove_under.new.store)
       (g.S.PageStore.free c.args.store.now) (g.S.PageStore.free c.remove_under.new.store) (g.S.PageStore.size c.args.store.now) c.args.self.now rs
-      (record {
-        rooted = c.requires.rooted;
-        least = (g.met.S.PageStore.in_range c.args.store.now).0;
-        inside = g.met.S.PageStore.free_pages_are c.args.store.now;
-        above = c.if-self-eq0.false;
-      }) found.removed (found.remains.same refl).told (found.remains.same refl).free w;
+      (removing g (goal.at.returns-in-Missing-clause-removes g c).Else-self-eq0) found.removed (found.remains.same refl).told (found.remains.same refl).free w;
   answer =
       λ rs is.
       finds_root (g.S.PageStore.told c.args.store.now) c.args.k.now false c.args.self.now rs c.if-self-eq0.false
@@ -66,12 +67,7 @@ returns-in-Done-clause-removes g c = record {
       (record { root = c.args.self.now.root; height = c.args.self.now.height; records = c.args.self.now.records - 1 }) c.shrink.ensures.tree
       c.shrink.ensures.answer (λ rs w. whole_done c.args.k.now (g.S.PageStore.told c.args.store.now) (g.S.PageStore.told c.remove_under.new.store)
       (g.S.PageStore.free c.args.store.now) (g.S.PageStore.free c.remove_under.new.store) (g.S.PageStore.size c.args.store.now) c.args.self.now rs
-      (record {
-        rooted = c.requires.rooted;
-        least = (g.met.S.PageStore.in_range c.args.store.now).0;
-        inside = g.met.S.PageStore.free_pages_are c.args.store.now;
-        above = c.if-self-eq0.false;
-      }) found.removed w);
+      (removing g (goal.at.returns-in-Done-clause-removes g c).Else-self-eq0) found.removed w);
   answer =
       shrunk_answer c.shrink.result (g.S.PageStore.told c.args.store.now) c.args.self.now c.args.k.now c.shrink.ensures.answer
       (λ rs is. finds_root (g.S.PageStore.told c.args.store.now) c.args.k.now true c.args.self.now rs c.if-self-eq0.false (rw c.in-Done.is at c.in_ok-remove_under.ensures.finds) is);
@@ -94,12 +90,7 @@ returns-in-Done-clause-sound g c =
       λ e. absurd (c.if-self-eq0.false e),
       λ e. many_done c.args.k.now (g.S.PageStore.told c.args.store.now) (g.S.PageStore.told c.remove_under.new.store)
           (g.S.PageStore.free c.args.store.now) (g.S.PageStore.free c.remove_under.new.store) (g.S.PageStore.size c.args.store.now) c.args.self.now rs
-          (record {
-            rooted = c.requires.rooted;
-            least = (g.met.S.PageStore.in_range c.args.store.now).0;
-            inside = g.met.S.PageStore.free_pages_are c.args.store.now;
-            above = c.if-self-eq0.false;
-          }) found.removed w,
+          (removing g (goal.at.returns-in-Done-clause-sound g c).Else-self-eq0) found.removed w,
     ))
 
 pub returns-in-Underfull-clause-removes : goal.returns-in-Underfull-clause-removes
@@ -113,12 +104,7 @@ returns-in-Underfull-clause-removes g c = record {
       c.shrink-in-Underfull.ensures.tree c.shrink-in-Underfull.ensures.answer
       (λ rs w. whole_underfull c.args.k.now (g.S.PageStore.told c.args.store.now) (g.S.PageStore.told c.remove_under.new.store)
       (g.S.PageStore.free c.args.store.now) (g.S.PageStore.free c.remove_under.new.store) (g.S.PageStore.size c.args.store.now) c.args.self.now rs
-      (record {
-        rooted = c.requires.rooted;
-        least = (g.met.S.PageStore.in_range c.args.store.now).0;
-        inside = g.met.S.PageStore.free_pages_are c.args.store.now;
-        above = c.if-self-eq0.false;
-      }) found.removed w);
+      (removing g (goal.at.returns-in-Underfull-clause-removes g c).Else-self-eq0) found.removed w);
   answer =
       shrunk_answer c.shrink-in-Underfull.result (g.S.PageStore.told c.args.store.now) c.args.self.now c.args.k.now
       c.shrink-in-Underfull.ensures.answer
@@ -143,12 +129,7 @@ returns-in-Underfull-clause-sound g c =
       λ e. absurd (c.if-self-eq0.false e),
       λ e. many_underfull c.args.k.now (g.S.PageStore.told c.args.store.now) (g.S.PageStore.told c.remove_under.new.store)
           (g.S.PageStore.free c.args.store.now) (g.S.PageStore.free c.remove_under.new.store) (g.S.PageStore.size c.args.store.now) c.args.self.now rs
-          (record {
-            rooted = c.requires.rooted;
-            least = (g.met.S.PageStore.in_range c.args.store.now).0;
-            inside = g.met.S.PageStore.free_pages_are c.args.store.now;
-            above = c.if-self-eq0.false;
-          }) found.removed w,
+          (removing g (goal.at.returns-in-Underfull-clause-sound g c).Else-self-eq0) found.removed w,
     ))
 
 pub returns-in_err-give_back-in-Emptied-clause-sound : goal.returns-in_err-give_back-in-Emptied-clause-sound
@@ -158,12 +139,7 @@ returns-in_err-give_back-in-Emptied-clause-sound g c =
     λ rs w. c.in_err-give_back-in-Emptied.ensures.sound
     (one_emptied c.args.k.now (g.S.PageStore.told c.args.store.now) (g.S.PageStore.told c.remove_under.new.store)
     (g.S.PageStore.free c.args.store.now) (g.S.PageStore.free c.remove_under.new.store) (g.S.PageStore.size c.args.store.now) c.args.self.now rs
-    (record {
-      rooted = c.requires.rooted;
-      least = (g.met.S.PageStore.in_range c.args.store.now).0;
-      inside = g.met.S.PageStore.free_pages_are c.args.store.now;
-      above = c.if-self-eq0.false;
-    }) found.removed w).0)
+    (removing g (goal.at.returns-in_err-give_back-in-Emptied-clause-sound g c).Else-self-eq0) found.removed w).0)
 
 pub returns-in_ok-give_back-in-Emptied-clause-removes : goal.returns-in_ok-give_back-in-Emptied-clause-removes
 returns-in_ok-give_back-in-Emptied-clause-removes g c = record {
@@ -176,12 +152,7 @@ returns-in_ok-give_back-in-Emptied-clause-removes g c = record {
       (λ rs w. whole_emptied c.args.k.now (g.S.PageStore.told c.args.store.now) (g.S.PageStore.told c.remove_under.new.store)
       (g.S.PageStore.told c.give_back.new.store) (g.S.PageStore.free c.args.store.now) (g.S.PageStore.free c.remove_under.new.store)
       (g.S.PageStore.free c.give_back.new.store) (g.S.PageStore.size c.args.store.now) c.args.self.now rs
-      (record {
-        rooted = c.requires.rooted;
-        least = (g.met.S.PageStore.in_range c.args.store.now).0;
-        inside = g.met.S.PageStore.free_pages_are c.args.store.now;
-        above = c.if-self-eq0.false;
-      }) found.removed c.in_ok-give_back-in-Emptied.ensures.told c.in_ok-give_back-in-Emptied.ensures.free w);
+      (removing g (goal.at.returns-in_ok-give_back-in-Emptied-clause-removes g c).Else-self-eq0) found.removed c.in_ok-give_back-in-Emptied.ensures.told c.in_ok-give_back-in-Emptied.ensures.free w);
   answer =
       shrunk_answer c.shrink-in-Emptied.result (g.S.PageStore.told c.args.store.now) c.args.self.now c.args.k.now c.shrink-in-Emptied.ensures.answer
       (λ rs is. finds_root (g.S.PageStore.told c.args.store.now) c.args.k.now true c.args.self.now rs c.if-self-eq0.false (rw c.in-Emptied.is at c.in_ok-remove_under.ensures.finds) is);
@@ -206,12 +177,7 @@ returns-in_ok-give_back-in-Emptied-clause-sound g c =
         refl,
         (one_emptied c.args.k.now (g.S.PageStore.told c.args.store.now) (g.S.PageStore.told c.remove_under.new.store)
             (g.S.PageStore.free c.args.store.now) (g.S.PageStore.free c.remove_under.new.store) (g.S.PageStore.size c.args.store.now) c.args.self.now rs
-            (record {
-              rooted = c.requires.rooted;
-              least = (g.met.S.PageStore.in_range c.args.store.now).0;
-              inside = g.met.S.PageStore.free_pages_are c.args.store.now;
-              above = c.if-self-eq0.false;
-            }) found.removed w).1,
+            (removing g (goal.at.returns-in_ok-give_back-in-Emptied-clause-sound g c).Else-self-eq0) found.removed w).1,
       ),
       λ h. absurd (omega arith),
     ))
@@ -222,12 +188,7 @@ returns-in_err-give_back-in-Only-clause-sound g c =
     (let found = rw c.in-Only.is at c.in_ok-remove_under.ensures in
     λ rs w. c.in_err-give_back-in-Only.ensures.sound
     (one_only (g.S.PageStore.told c.args.store.now) (g.S.PageStore.free c.args.store.now) (g.S.PageStore.size c.args.store.now) c.args.self.now c.args.k.now (g.S.PageStore.told c.remove_under.new.store) (g.S.PageStore.free c.remove_under.new.store) c.in-Only.child rs
-    (record {
-      rooted = c.requires.rooted;
-      least = (g.met.S.PageStore.in_range c.args.store.now).0;
-      inside = g.met.S.PageStore.free_pages_are c.args.store.now;
-      above = c.if-self-eq0.false;
-    }) found.removed w).0)
+    (removing g (goal.at.returns-in_err-give_back-in-Only-clause-sound g c).Else-self-eq0) found.removed w).0)
 
 pub returns-in_ok-give_back-in-Only-clause-removes : goal.returns-in_ok-give_back-in-Only-clause-removes
 returns-in_ok-give_back-in-Only-clause-removes g c = record {
@@ -241,13 +202,7 @@ returns-in_ok-give_back-in-Only-clause-removes g c = record {
       (λ rs w. whole_only c.args.k.now (g.S.PageStore.told c.args.store.now) (g.S.PageStore.told c.remove_under.new.store)
       (g.S.PageStore.told c.give_back-in-Only.new.store) (g.S.PageStore.free c.args.store.now) (g.S.PageStore.free c.remove_under.new.store)
       (g.S.PageStore.free c.give_back-in-Only.new.store) (g.S.PageStore.size c.args.store.now) c.in-Only.child c.args.self.now rs
-      (record {
-        rooted = c.requires.rooted;
-        least = (g.met.S.PageStore.in_range c.args.store.now).0;
-        inside = g.met.S.PageStore.free_pages_are c.args.store.now;
-        above =
-            c.if-self-eq0.false;
-      }) found.removed c.in_ok-give_back-in-Only.ensures.told c.in_ok-give_back-in-Only.ensures.free w);
+      (removing g (goal.at.returns-in_ok-give_back-in-Only-clause-removes g c).Else-self-eq0) found.removed c.in_ok-give_back-in-Only.ensures.told c.in_ok-give_back-in-Only.ensures.free w);
   answer =
       shrunk_answer c.shrink-in-Only.result (g.S.PageStore.told c.args.store.now) c.args.self.now c.args.k.now
       c.shrink-in-Only.ensures.answer
@@ -273,19 +228,9 @@ returns-in_ok-give_back-in-Only-clause-sound g c =
     (λ rs w. (
       λ e. absurd
           ((one_only (g.S.PageStore.told c.args.store.now) (g.S.PageStore.free c.args.store.now) (g.S.PageStore.size c.args.store.now) c.args.self.now c.args.k.now (g.S.PageStore.told c.remove_under.new.store) (g.S.PageStore.free c.remove_under.new.store) c.in-Only.child rs
-          (record {
-            rooted = c.requires.rooted;
-            least = (g.met.S.PageStore.in_range c.args.store.now).0;
-            inside = g.met.S.PageStore.free_pages_are c.args.store.now;
-            above = c.if-self-eq0.false;
-          }) found.removed w).2 e),
+          (removing g (goal.at.returns-in_ok-give_back-in-Only-clause-sound g c).Else-self-eq0) found.removed w).2 e),
       λ h. (one_only (g.S.PageStore.told c.args.store.now) (g.S.PageStore.free c.args.store.now) (g.S.PageStore.size c.args.store.now) c.args.self.now c.args.k.now (g.S.PageStore.told c.remove_under.new.store) (g.S.PageStore.free c.remove_under.new.store) c.in-Only.child rs
-          (record {
-            rooted = c.requires.rooted;
-            least = (g.met.S.PageStore.in_range c.args.store.now).0;
-            inside = g.met.S.PageStore.free_pages_are c.args.store.now;
-            above = c.if-self-eq0.false;
-          }) found.removed w).1,
+          (removing g (goal.at.returns-in_ok-give_back-in-Only-clause-sound g c).Else-self-eq0) found.removed w).1,
     ))
 
 pub returns-in_err-remove_under-clause-goes : goal.returns-in_err-remove_under-clause-goes

@@ -1,6 +1,6 @@
 use Rattle.std.proofs.Common.{◌+◌, ◌*◌, ◌≤◌, false, true, inr, length, refl, sym, ◌∙◌, ap, subst, arith}
 use Rattle.std.proofs.Math.ListN.{length-set}
-use Rattle.quilt_pool.proofs.Touching.{discarded_keys}
+use Rattle.quilt_pool.proofs.Touching.{keys_removed}
 use Rattle.quilt_edition.specs.Laws.{later_same}
 use Rattle.quilt_store.specs.Store.{FreesOnly}
 use Rattle.quilt_edition.specs.Keeping.{is_free}
@@ -59,7 +59,7 @@ returns-in_default-clause-told g c =
 
 pub returns-in_default-clause-held : goal.returns-in_default-clause-held
 returns-in_default-clause-held g c =
-    rw c.discard.ensures.table (inr (discarded_keys c.args.page c.args.self.now.pool.table.entries c.args.self.now.pool.distinct))
+    rw c.discard.ensures.table (inr (keys_removed c.args.page c.args.self.now.pool.table.entries c.args.self.now.pool.distinct))
 
 pub returns-in_default-clause-changed : goal.returns-in_default-clause-changed
 returns-in_default-clause-changed g c = rw c.discard.ensures.table
@@ -102,7 +102,7 @@ returns-clause-told g c =
     c.clear.ensures.same.0 c.clear.ensures.same.1 c.clear.ensures.changed s.pool.distinct c.clear.ensures.kept (g.W.Disk.told s.world) s.kept)
 
 pub returns-clause-held : goal.returns-clause-held
-returns-clause-held g c = rw c.discard.ensures.table (inr (discarded_keys c.args.page c.args.self.now.pool.table.entries c.args.self.now.pool.distinct))
+returns-clause-held g c = rw c.discard.ensures.table (inr (keys_removed c.args.page c.args.self.now.pool.table.entries c.args.self.now.pool.distinct))
 
 pub returns-clause-changed : goal.returns-clause-changed
 returns-clause-changed g c =
