@@ -20,7 +20,8 @@ use Rattle.quilt_blocks.proofs.Listed.{held_in}
 use Rattle.quilt_blocks.proofs.PixelLeaves.{leaf_at}
 use Rattle.quilt_buffer.specs.Reach.{reaches, within_reach, is_foreground, blocks_with_colour}
 use Rattle.quilt_blocks.proofs.Squares.{grid_of-same}
-use Rattle.quilt_buffer.proofs.Reaching.{any_member, any_from, InReach, InReach-from, reaches-true}
+use Rattle.quilt_buffer.proofs.Reaching.{InReach, InReach-from, reaches-true}
+use Rattle.quilt_types.proofs.Lists.{any_member, any_from}
 
 apart : (a b : ℕ) → difference_of a b ≡ (a - b) + (b - a)
 apart a b = omega (arith, ints, abs_is (pos a -ℤ pos b))

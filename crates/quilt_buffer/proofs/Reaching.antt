@@ -1,29 +1,15 @@
 -- Pixels, squares and blocks within a distance of each other, and lists of which one passes a test.
-use Rattle.std.proofs.Common.{◌≡◌, ℕ, ◌+◌, ◌<◌, ◌≤◌, Bool, true, false, ◌&&◌, ◌||◌, ◌⊎◌, inl, inr, ⊎_elim, nat_le, nat_lt, List, [], ◌∷◌, length, filter, cond}
-use Rattle.std.proofs.Common.{refl, sym, ◌∙◌, ap, arith, Contains, le-leb, lt-ltb, leb-true, ltb-true}
+use Rattle.std.proofs.Common.{◌≡◌, ℕ, ◌+◌, ◌<◌, ◌≤◌, Bool, true, false, ◌&&◌, ◌⊎◌, ⊎_elim, nat_le, nat_lt, List, [], ◌∷◌, length, filter, cond}
+use Rattle.std.proofs.Common.{sym, ◌∙◌, ap, arith, Contains, le-leb, lt-ltb, leb-true, ltb-true}
 use Rattle.std.specs.List.{list_any}
 use Rattle.std.specs.Cmp.{both_ways}
 use Rattle.std.proofs.lemmas.Bool.{and_parts, and_from, cases_lt, true≢false, false_from_ne_true, cond-true, cond-false}
-use Rattle.std.proofs.lemmas.List.Folds.{list_any_at}
 use Rattle.quilt_types.specs.declared.plane.Pixel.{Pixel}
 use Rattle.quilt_types.specs.declared.plane.Block.{Block}
 use Rattle.quilt_types.specs.Plane.{Holds}
-use Rattle.quilt_loc.proofs.Members.{Contains-here, Contains-there, Contains-filter, Contains-filter_from}
+use Rattle.quilt_loc.proofs.Members.{Contains-here, Contains-filter, Contains-filter_from}
 use Rattle.quilt_buffer.specs.Reach.{reaches, reaches_some, reaches_all, within_reach}
-
-or_parts : (a b : Bool) → a || b ≡ true → (a ≡ true) ⊎ (b ≡ true)
-or_parts true b e = inl refl
-or_parts false b e = inr e
-
--- a member that passes
-pub any_member : {X : Type 0} (p : X → Bool) (xs : List X) → list_any p xs ≡ true → (x : X) × Contains xs x × (p x ≡ true)
-any_member p [] e = absurd (true≢false (sym e))
-any_member p (x ∷ xs) e =
-    ⊎_elim (λ t. (x, Contains-here x xs, t))
-    (λ r. let m = any_member p xs r in (m.0, Contains-there x xs m.0 m.1, m.2)) (or_parts (p x) (list_any p xs) e)
-
-pub any_from : {X : Type 0} (p : X → Bool) (xs : List X) (x : X) → Contains xs x → p x ≡ true → list_any p xs ≡ true
-any_from p xs x c h = list_any_at p xs c.0 x c.1 (ap p c.2 ∙ h)
+use Rattle.quilt_types.proofs.Lists.{any_member, any_from}
 
 some_member : {X : Type 0} (xs : List X) → 0 < length xs → (x : X) × Contains xs x
 some_member [] lt = absurd (omega arith)

@@ -1,5 +1,6 @@
 pub mod Bytes
 pub mod Cells
+pub mod Lanes
 pub mod Places
 pub mod Points
 pub mod Rows

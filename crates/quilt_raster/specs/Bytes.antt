@@ -11,3 +11,7 @@ cell_colours bytes = []
 -- the colour of a pixel of a square that lies in a grid with its upper left pixel at the corner
 abbrev pub from_corner : ℕ → Grid → Pixel → Pixel → ℕ
 from_corner n g corner p = colour_at n g (record { x = corner.x + p.x; y = corner.y + p.y })
+
+-- two bytes, eight times
+abbrev pub eight_pairs : ℕ → ℕ → List ℕ
+eight_pairs a b = a ∷ b ∷ a ∷ b ∷ a ∷ b ∷ a ∷ b ∷ a ∷ b ∷ a ∷ b ∷ a ∷ b ∷ a ∷ b ∷ []

@@ -1,14 +1,15 @@
-ghost use Rattle.std.specs.Prelude.{◌≡◌, ℕ, ◌+◌, ◌*◌, ◌<◌, ◌≤◌, true, length, slice_index, IfOk, OnOk, IfSome, IsNone};
+ghost use Rattle.std.specs.Prelude.{◌≡◌, ℕ, ◌+◌, ◌*◌, ◌/◌, ◌%◌, ◌<◌, ◌≤◌, true, length, slice_index, IfOk, OnOk, IfSome, IsNone};
 ghost use Rattle.quilt_types.specs.Plane.{side as side_of, IsBlock};
 ghost use Rattle.quilt_loc.specs.Codes.{code_from, code_to};
 ghost use Rattle.quilt_blocks.specs.Adding.{AddsColours};
 ghost use Rattle.quilt_blocks.specs.Mosaic.{HasColour};
-ghost use Rattle.quilt_raster.specs.Bytes.{cell_colours, from_corner};
+ghost use Rattle.quilt_raster.specs.Bytes.{cell_colours, from_corner, eight_pairs};
 
 use quilt_blocks::{LeafList, Maker};
 use quilt_loc::{quarters, whole_square};
 use quilt_types::{Block, Colour, Pixel};
 use std::alloc::{AllocError, Global};
+use std::simd::prelude::*;
 
 /// The leaves of a raster: the colours of a square of a level from 1 to 12, row by row, in two bytes each, the high one
 /// first. It goes over the square quadrant by quadrant, and keeps no list of its pixels (Shaffer, Samet and Nelson 1990).
@@ -81,18 +82,41 @@ pub fn one_colour(colours: &[u8], level: u8, square: Block) -> Option<Colour>
     Some(colour)
 }
 
-/// Whether the colours at this many places of a raster from this place on are all this one.
+/// Whether the colours at this many places of a raster from this place on are all this one. Eight are tested together.
 fn is_run(colours: &[u8], from: usize, count: usize, colour: Colour) -> bool
     requires { 2 * (from + count) ≤ length colours.now }
     ensures all { result ≡ true → (k : ℕ) → from ≤ k → k < from + count → slice_index (cell_colours colours.now) k ≡ colour.0 }
     ensures one { count ≡ 1 → slice_index (cell_colours colours.now) from ≡ colour.0 → result ≡ true }
 {
+    if count == 8 {
+        return are_eight(colours, from, colour);
+    }
     for place in from..from + count {
         if colour_in(colours, place) != colour {
             return false;
         }
     }
     true
+}
+
+/// Whether the colours at eight places of a raster from this place on are all this one.
+fn are_eight(colours: &[u8], from: usize, colour: Colour) -> bool
+    requires { 2 * (from + 8) ≤ length colours.now }
+    ensures { result ≡ true → (k : ℕ) → from ≤ k → k < from + 8 → slice_index (cell_colours colours.now) k ≡ colour.0 }
+{
+    let found = u8x16::from_slice(&colours[2 * from..]);
+    found.simd_ne(eight_times(colour)).to_bitmask() == 0
+}
+
+/// The bytes of a colour, eight times.
+fn eight_times(colour: Colour) -> u8x16
+    ensures { result ≡ eight_pairs (colour.0 / 256) (colour.0 % 256) }
+{
+    let high = (colour.0 / 256) as u8;
+    let low = (colour.0 % 256) as u8;
+    u8x16::from_array([
+        high, low, high, low, high, low, high, low, high, low, high, low, high, low, high, low,
+    ])
 }
 
 /// The colour at a place of a raster: of its two bytes there, the high one comes first.

@@ -3,7 +3,6 @@ use Rattle.std.proofs.Common.{◌≡◌, ℕ, ◌+◌, ◌*◌, ◌<◌, ◌≤�
 use Rattle.std.proofs.Common.{Less}
 use Rattle.std.specs.List.{last_or}
 use Rattle.std.specs.Ordering.{is_lt, is_le}
-use Rattle.std.specs.Prelude.{unwrap_or}
 use Rattle.std.specs.Option.{option_or}
 use Rattle.std.proofs.lemmas.Bool.{cases_lt, cases_Bool}
 use Rattle.quilt_types.specs.declared.plane.Pixel.{Pixel}
@@ -31,7 +30,7 @@ use Rattle.quilt_btree.specs.Trees.{IsTree}
 use Rattle.quilt_btree.proofs.lists.Lists.{filter_cond, floor_between}
 use Rattle.quilt_record.proofs.Orders.{lt_le, not_le}
 use Rattle.std.specs.Cmp.{tied_itself}
-use Rattle.std.proofs.lemmas.Option.{none-some, same_Some}
+use Rattle.std.proofs.lemmas.Option.{same_Some}
 use Rattle.quilt_spell.specs.OfLayer.{leaf_record}
 use Rattle.quilt_region.specs.Regions.{pixel_key, SpellsGrid, HasRegion}
 use Rattle.quilt_spell.specs.Written.{by_key}

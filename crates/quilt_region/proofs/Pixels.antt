@@ -1,5 +1,5 @@
 -- A window of one pixel, and the leaf that holds it.
-use Rattle.std.proofs.Common.{◌≡◌, ℕ, ◌+◌, ◌^◌, ◌<◌, ◌≤◌, List, [], ◌∷◌, length, map, refl, ap, ⊎_elim, Contains, arith}
+use Rattle.std.proofs.Common.{◌≡◌, ℕ, ◌^◌, ◌<◌, ◌≤◌, List, [], ◌∷◌, length, map, refl, ap, ⊎_elim, Contains, arith}
 use Rattle.std.proofs.Math.Nat.{pow-le-pow_right}
 use Rattle.quilt_types.specs.declared.plane.Block.{Block}
 use Rattle.quilt_types.specs.declared.plane.Window.{Window}

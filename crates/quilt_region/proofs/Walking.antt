@@ -39,7 +39,7 @@ use Rattle.quilt_btree.proofs.subtrees.Whole.{no_records}
 use Rattle.quilt_region.specs.Laws.{first_key, last_key}
 use Rattle.quilt_spell.specs.OfLayer.{leaf_record}
 use Rattle.quilt_region.specs.Regions.{region_records, HasRegion}
-use Rattle.quilt_region.specs.Walks.{IsAhead}
+use Rattle.quilt_region.specs.Walks.{IsAhead, StandsInTree}
 use Rattle.quilt_region.proofs.Counting.{saved_then, saved_more, saved_less, saved_none}
 use Rattle.quilt_region.proofs.Records.{range_filter, spelled_leaf, in_range}
 use Rattle.quilt_region.proofs.Trees.{tree_rises}
@@ -190,6 +190,26 @@ square_end n b end le is at =
 pub ahead_along : (told now : Option (List (List ℕ))) (t : Tree) (c : Cursor) (layer n : ℕ) (rest : List (Block × ℕ)) → now ≡ told
     → IsAhead told t c layer n rest → IsAhead now t c layer n rest
 ahead_along told now t c layer n rest e h = subst (λ (z : Option (List (List ℕ))). IsAhead z t c layer n rest) (sym e) h
+
+-- ---- between which records the cursor stands
+pub stands_along : (told now : Option (List (List ℕ))) (t : Tree) (c : Cursor) → now ≡ told → StandsInTree told t c → StandsInTree now t c
+stands_along told now t c e h = subst (λ (z : Option (List (List ℕ))). StandsInTree z t c) (sym e) h
+
+pub stands_sought : (told : Option (List (List ℕ))) (t : Tree) (c : Cursor) (k : Key) (rs : List Record) → IsTree told t rs → IsSought told t c k rs
+    → StandsInTree told t c
+stands_sought told t c k rs is sought =
+    record { before = sought.before; after = sought.after; tree = subst (IsTree told t) sought.records is; stands = sought.stands }
+
+pub stands_over : (told : Option (List (List ℕ))) (t : Tree) (c later : Cursor) (h : StandsInTree told t c) (o : Option Record) (r : Record)
+    → MatchOption o (h.after ≡ []) (λ x. GoesOver told t x later h.before h.after) → o ≡ Some r → StandsInTree told t later
+stands_over told t c later h None r none is = absurd (none-some r is)
+stands_over told t c later h (Some x) r over is =
+    record {
+      before = h.before ++ x ∷ [];
+      after = over.rest;
+      tree = subst (IsTree told t) (ap (λ l. h.before ++ l) over.records ∙ sym (append_assoc h.before (x ∷ []) over.rest)) h.tree;
+      stands = over.stands;
+    }
 
 -- ---- how many leaves of a side there are
 abbrev pub has_side : ℕ → Block × ℕ → Bool

@@ -4,6 +4,7 @@ ghost use Rattle.quilt_types.specs.Plane.{corner, in_block, IsBlock};
 ghost use Rattle.quilt_types.specs.Layers.{Grid};
 ghost use Rattle.quilt_types.specs.Algebra.{grid_of};
 ghost use Rattle.quilt_loc.specs.Codes.{code_from, code_to};
+ghost use Rattle.quilt_btree.specs.Stops.{NamesPage};
 ghost use Rattle.quilt_store.specs.Stops.{IsNotDamage};
 ghost use Rattle.quilt_region.specs.Painting.{HasColours};
 ghost use Rattle.quilt_region.specs.Windows.{IsKnown, IsCutOut, records_within, known_colour};
@@ -31,6 +32,7 @@ pub fn fill(
         → list ≡ record { level = level; grid = grid_of level (known_colour level g known.now) }) }
     ensures level { IfOk result (λ list. list.level ≡ level) }
     ensures sound { IfErr result (λ e. (g : Grid) → records.now ≡ records_within level layer g known.now.read → IsCutOut level g known.now.read → IsNotDamage e) }
+    ensures zero { IfErr result (NamesPage 1) }
     ensures no_fault { IsErrOf result Device → ⊥ }
 {
     let mut maker = Maker::new(alloc, level);
@@ -60,6 +62,7 @@ fn put_around(
     ensures colours { OnOk result ((g : Grid) → records.now ≡ records_within level layer g known.now.read
         → HasColours level (known_colour level g known.now) maker.old.colours → HasColours level (known_colour level g known.now) maker.new.colours) }
     ensures sound { IfErr result (λ e. (g : Grid) → records.now ≡ records_within level layer g known.now.read → IsCutOut level g known.now.read → IsNotDamage e) }
+    ensures zero { IfErr result (NamesPage 1) }
     ensures no_fault { IsErrOf result Device → ⊥ }
 {
     if b == known.read {
@@ -91,6 +94,7 @@ fn put_beside(maker: &mut Maker, b: Block, known: &Known) -> Result<(), Stop>
     ensures colours { OnOk result ((g : Grid) → HasColours maker.old.level (known_colour maker.old.level g known.now) maker.old.colours
         → HasColours maker.old.level (known_colour maker.old.level g known.now) maker.new.colours) }
     ensures sound { IfErr result IsNotDamage }
+    ensures zero { IfErr result (NamesPage 1) }
     ensures no_fault { IsErrOf result Device → ⊥ }
 {
     match maker.push(b, colour_beside(b, known)) {

@@ -1,5 +1,6 @@
-ghost use Rattle.std.specs.Prelude.{◌≡◌, true, Some, ◌+◌, ◌*◌, ◌<◌, ◌≤◌, IfOk, IfErr, OnOk, List, length};
+ghost use Rattle.std.specs.Prelude.{◌≡◌, ◌≢◌, true, Some, ◌+◌, ◌*◌, ◌<◌, ◌≤◌, IfOk, IfErr, OnOk, List, length};
 ghost use Rattle.quilt_record.specs.declared.record.Record.{Record};
+ghost use Rattle.quilt_types.specs.declared.stop.Stop.TheVariants.{Damaged};
 ghost use Rattle.quilt_types.specs.Plane.{side, in_block, IsBlock};
 ghost use Rattle.quilt_types.specs.Layers.{Grid, colour_at as colour_in};
 ghost use Rattle.quilt_store.specs.Calls.{OnlyReads};
@@ -7,6 +8,7 @@ ghost use Rattle.quilt_world.specs.Tale.{Goes};
 ghost use Rattle.quilt_blocks.specs.Cutting.{leaves_by_code, leaf_pair};
 ghost use Rattle.quilt_btree.specs.Lists.{floor_of};
 ghost use Rattle.quilt_btree.specs.Floors.{floor_pages, HoldsFirst, ReadsNone};
+ghost use Rattle.quilt_btree.specs.Damage.{NamesBad};
 ghost use Rattle.quilt_btree.specs.Stops.{NamesPage};
 ghost use Rattle.quilt_store.specs.Stops.{IsNotDamage};
 ghost use Rattle.quilt_btree.specs.Trees.{IsRooted, IsTree};
@@ -41,6 +43,7 @@ pub fn read_list<S: PageStore>(
     ensures level { IfOk result (λ l. l.level ≡ level) }
     ensures sound { IfErr result (λ e. (g : Grid) → HasRegion (S.told store.old) tree.now layer level g → IsNotDamage e) }
     ensures zero { IfErr result (λ e. (rs : List Record) → IsTree (S.told store.old) tree.now rs → NamesPage 1 e) }
+    ensures bad { IfErr result (λ e. e ≢ Damaged 0 → NamesBad (S.told store.old) tree.now.height tree.now.root e) }
     ensures left { OnlyReads S.PageStore store.old store.new result }
     ensures reads { IfOk result (λ l. (g : Grid) → HasRegion (S.told store.old) tree.now layer level g
         → Goes (λ old new. new ≤ old + 6 + 3 * length (leaves_by_code level g)) (S.reads store.old) (S.reads store.new)) }
@@ -70,6 +73,7 @@ pub fn colour_at<S: PageStore>(
     ensures answered { IfOk result (λ c. (rs : List Record) → IsTree (S.told store.old) tree.now rs → IsColourFound level layer rs p c.0) }
     ensures sound { IfErr result (λ e. (g : Grid) → HasRegion (S.told store.old) tree.now layer level g → IsNotDamage e) }
     ensures zero { IfErr result (λ e. (rs : List Record) → IsTree (S.told store.old) tree.now rs → NamesPage 1 e) }
+    ensures bad { IfErr result (λ e. e ≢ Damaged 0 → NamesBad (S.told store.old) tree.now.height tree.now.root e) }
     ensures left { OnlyReads S.PageStore store.old store.new result }
     ensures reads { Goes (λ old new. new ≤ old + 6) (S.reads store.old) (S.reads store.new) }
     ensures held { OnOk result ((rs : List Record) → IsTree (S.told store.old) tree.now rs
@@ -102,6 +106,7 @@ pub(crate) fn leaf_with<S: PageStore>(
         → floor_of (pixel_key layer p) rs ≡ Some (leaf_record level layer (leaf_pair l))) }
     ensures sound { IfErr result (λ e. (g : Grid) → HasRegion (S.told store.old) tree.now layer level g → IsNotDamage e) }
     ensures zero { IfErr result (λ e. (rs : List Record) → IsTree (S.told store.old) tree.now rs → NamesPage 1 e) }
+    ensures bad { IfErr result (λ e. e ≢ Damaged 0 → NamesBad (S.told store.old) tree.now.height tree.now.root e) }
     ensures left { OnlyReads S.PageStore store.old store.new result }
     ensures reads { Goes (λ old new. new ≤ old + 6) (S.reads store.old) (S.reads store.new) }
     ensures held { OnOk result ((rs : List Record) → IsTree (S.told store.old) tree.now rs
@@ -137,6 +142,8 @@ pub(crate) fn records_in<S: PageStore>(
     ensures records { IfOk result (λ records. (g : Grid) → HasRegion (S.told store.old) tree.now layer level g
         → records.items ≡ records_within level layer g b) }
     ensures sound { IfErr result (λ e. (g : Grid) → HasRegion (S.told store.old) tree.now layer level g → IsNotDamage e) }
+    ensures zero { IfErr result (λ e. (rs : List Record) → IsTree (S.told store.old) tree.now rs → NamesPage 1 e) }
+    ensures bad { IfErr result (λ e. e ≢ Damaged 0 → NamesBad (S.told store.old) tree.now.height tree.now.root e) }
     ensures left { OnlyReads S.PageStore store.old store.new result }
     ensures reads { IfOk result (λ records. (g : Grid) → HasRegion (S.told store.old) tree.now layer level g
         → Goes (λ old new. new ≤ old + 6 + 3 * length (leaves_within level g b)) (S.reads store.old) (S.reads store.new)) }

@@ -1,12 +1,16 @@
-ghost use Rattle.std.specs.Prelude.{◌≡◌, ◌≢◌, ℕ, ◌+◌, ◌*◌, ◌^◌, ◌<◌, ◌≤◌, true, false, length, Contains, IfOk, IfErr, IfSome};
+ghost use Rattle.std.specs.Prelude.{◌≡◌, ◌≢◌, ℕ, ◌+◌, ◌*◌, ◌^◌, ◌<◌, ◌≤◌, true, false, List, length, Contains, IfOk, IfErr, IfSome};
 ghost use Rattle.quilt_types.specs.declared.plane.Block.{Block as AnyBlock};
+ghost use Rattle.quilt_types.specs.declared.stop.Stop.TheVariants.{Damaged};
 ghost use Rattle.quilt_types.specs.Plane.{parent_of, side as side_of, is_window, IsBlock, Within};
 ghost use Rattle.quilt_types.specs.Layers.{Grid, colour_at};
 ghost use Rattle.quilt_types.specs.Quadtrees.{leaves};
+ghost use Rattle.quilt_record.specs.declared.record.Record.{Record};
 ghost use Rattle.quilt_store.specs.Calls.{OnlyReads};
 ghost use Rattle.quilt_world.specs.Tale.{Goes};
 ghost use Rattle.quilt_store.specs.Stops.{IsNotDamage};
-ghost use Rattle.quilt_btree.specs.Trees.{IsRooted};
+ghost use Rattle.quilt_btree.specs.Damage.{NamesBad};
+ghost use Rattle.quilt_btree.specs.Stops.{NamesPage};
+ghost use Rattle.quilt_btree.specs.Trees.{IsRooted, IsTree};
 ghost use Rattle.quilt_region.specs.Regions.{HasRegion};
 ghost use Rattle.quilt_region.specs.Windows.{HoldsWindow, HasAround, IsCutOut, IsKnown, KnowsAround, leaves_within};
 
@@ -73,6 +77,8 @@ pub fn block_with<S: PageStore>(
     ensures few { IfOk result (λ r. (g : Grid) (a : AnyBlock) → HasRegion (S.told store.old) tree.now layer level g → IsBlock level a
         → HoldsWindow a w → length (leaves_within level g r.0) ≤ 1 + length (leaves_within level g a)) }
     ensures sound { IfErr result (λ e. (g : Grid) → HasRegion (S.told store.old) tree.now layer level g → IsNotDamage e) }
+    ensures zero { IfErr result (λ e. (rs : List Record) → IsTree (S.told store.old) tree.now rs → NamesPage 1 e) }
+    ensures bad { IfErr result (λ e. e ≢ Damaged 0 → NamesBad (S.told store.old) tree.now.height tree.now.root e) }
     ensures left { OnlyReads S.PageStore store.old store.new result }
     ensures reads { Goes (λ old new. new ≤ old + 6) (S.reads store.old) (S.reads store.new) }
 {
@@ -104,6 +110,8 @@ fn has_around<S: PageStore>(
     ensures no { IfOk result (λ t. t ≡ false → (g : Grid) → HasRegion (S.told store.old) tree.now layer level g → IsCutOut level g b
         → HasAround level g larger b c.0 → ⊥) }
     ensures sound { IfErr result (λ e. (g : Grid) → HasRegion (S.told store.old) tree.now layer level g → IsNotDamage e) }
+    ensures zero { IfErr result (λ e. (rs : List Record) → IsTree (S.told store.old) tree.now rs → NamesPage 1 e) }
+    ensures bad { IfErr result (λ e. e ≢ Damaged 0 → NamesBad (S.told store.old) tree.now.height tree.now.root e) }
     ensures left { OnlyReads S.PageStore store.old store.new result }
     ensures reads { Goes (λ old new. new ≤ old + 24) (S.reads store.old) (S.reads store.new) }
 {
@@ -134,6 +142,8 @@ fn has_quarter<S: PageStore>(
     ensures no { IfOk result (λ t. t ≡ false → (g : Grid) → HasRegion (S.told store.old) tree.now layer level g
         → (q ≡ b → ⊥) × (Contains (leaves level g) (q, c.0) → ⊥)) }
     ensures sound { IfErr result (λ e. (g : Grid) → HasRegion (S.told store.old) tree.now layer level g → IsNotDamage e) }
+    ensures zero { IfErr result (λ e. (rs : List Record) → IsTree (S.told store.old) tree.now rs → NamesPage 1 e) }
+    ensures bad { IfErr result (λ e. e ≢ Damaged 0 → NamesBad (S.told store.old) tree.now.height tree.now.root e) }
     ensures left { OnlyReads S.PageStore store.old store.new result }
     ensures reads { Goes (λ old new. new ≤ old + 6) (S.reads store.old) (S.reads store.new) }
 {
@@ -170,6 +180,8 @@ pub fn block_up_to<S: PageStore>(
     ensures ends { IfOk result (λ top. (g : Grid) → HasRegion (S.told store.old) tree.now layer level g → IsCutOut level g b
         → top.side < side_of level → HasAround level g (parent_of top) top c.0 → ⊥) }
     ensures sound { IfErr result (λ e. (g : Grid) → HasRegion (S.told store.old) tree.now layer level g → IsNotDamage e) }
+    ensures zero { IfErr result (λ e. (rs : List Record) → IsTree (S.told store.old) tree.now rs → NamesPage 1 e) }
+    ensures bad { IfErr result (λ e. e ≢ Damaged 0 → NamesBad (S.told store.old) tree.now.height tree.now.root e) }
     ensures left { OnlyReads S.PageStore store.old store.new result }
     ensures reads { (j : ℕ) → b.side ≡ 2 ^ j → Goes (λ old new. new + 24 * j ≤ old + 24 * level) (S.reads store.old) (S.reads store.new) }
 {
@@ -203,6 +215,8 @@ pub fn known_beside<S: PageStore>(
     ensures small { IfOk result (λ o. IfSome o (λ k. k.top.side < most)) }
     ensures knows { IfOk result (λ o. IfSome o (λ k. (g : Grid) → HasRegion (S.told store.old) tree.now layer level g → KnowsAround level g w k)) }
     ensures sound { IfErr result (λ e. (g : Grid) → HasRegion (S.told store.old) tree.now layer level g → IsNotDamage e) }
+    ensures zero { IfErr result (λ e. (rs : List Record) → IsTree (S.told store.old) tree.now rs → NamesPage 1 e) }
+    ensures bad { IfErr result (λ e. e ≢ Damaged 0 → NamesBad (S.told store.old) tree.now.height tree.now.root e) }
     ensures left { OnlyReads S.PageStore store.old store.new result }
     ensures reads { Goes (λ old new. new ≤ old + 30) (S.reads store.old) (S.reads store.new) }
 {

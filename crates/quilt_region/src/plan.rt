@@ -1,6 +1,6 @@
 ghost use Rattle.std.specs.Prelude.{◌≡◌, ◌≢◌, ℕ, ◌+◌, ◌*◌, ◌^◌, ◌≤◌, true, IfOk, IfErr, IsErrOf, List, length};
 ghost use Rattle.quilt_types.specs.declared.plane.Block.{Block as AnyBlock};
-ghost use Rattle.quilt_types.specs.declared.stop.Stop.TheVariants.{Device};
+ghost use Rattle.quilt_types.specs.declared.stop.Stop.TheVariants.{Device, Damaged};
 ghost use Rattle.quilt_types.specs.Plane.{is_window, IsBlock};
 ghost use Rattle.quilt_types.specs.Layers.{Grid, IsGrid};
 ghost use Rattle.quilt_types.specs.Algebra.{painted};
@@ -9,7 +9,9 @@ ghost use Rattle.quilt_record.specs.declared.edits.Edits.{Edits as AnyEdits};
 ghost use Rattle.quilt_store.specs.Calls.{OnlyReads};
 ghost use Rattle.quilt_world.specs.Tale.{Goes};
 ghost use Rattle.quilt_store.specs.Stops.{IsNotDamage};
-ghost use Rattle.quilt_btree.specs.Trees.{IsRooted};
+ghost use Rattle.quilt_btree.specs.Damage.{NamesBad};
+ghost use Rattle.quilt_btree.specs.Stops.{NamesPage};
+ghost use Rattle.quilt_btree.specs.Trees.{IsRooted, IsTree};
 ghost use Rattle.quilt_region.specs.Regions.{HasRegion, SpellsGrid};
 ghost use Rattle.quilt_region.specs.Plans.{ReplacesGrid, IsEditedBy, PutsAllRecords};
 ghost use Rattle.quilt_region.specs.Windows.{HoldsWindow, IsKnown, KnowsAround, leaves_within, records_within};
@@ -49,6 +51,8 @@ pub fn plan_rect<S: PageStore>(
     ensures plan { IfOk result (λ edits. (g : Grid) → HasRegion (S.told store.old) tree.now layer level g
         → ReplacesGrid level layer g (painted level g w c.0) edits) }
     ensures sound { IfErr result (λ e. (g : Grid) → HasRegion (S.told store.old) tree.now layer level g → IsNotDamage e) }
+    ensures zero { IfErr result (λ e. (rs : List AnyRecord) → IsTree (S.told store.old) tree.now rs → NamesPage 1 e) }
+    ensures bad { IfErr result (λ e. e ≢ Damaged 0 → NamesBad (S.told store.old) tree.now.height tree.now.root e) }
     ensures left { OnlyReads S.PageStore store.old store.new result }
 
     // Of the leaves it reads no more than one and those that begin in any one block that has the whole window.
@@ -94,6 +98,8 @@ fn plan_pixel<S: PageStore>(
     ensures plan { IfOk result (λ edits. (g : Grid) → HasRegion (S.told store.old) tree.now layer level g
         → ReplacesGrid level layer g (painted level g w c.0) edits) }
     ensures sound { IfErr result (λ e. (g : Grid) → HasRegion (S.told store.old) tree.now layer level g → IsNotDamage e) }
+    ensures zero { IfErr result (λ e. (rs : List AnyRecord) → IsTree (S.told store.old) tree.now rs → NamesPage 1 e) }
+    ensures bad { IfErr result (λ e. e ≢ Damaged 0 → NamesBad (S.told store.old) tree.now.height tree.now.root e) }
     ensures left { OnlyReads S.PageStore store.old store.new result }
     ensures reads { IfOk result (λ _. Goes (λ old new. new ≤ old + (6 + 24 * level)) (S.reads store.old) (S.reads store.new)) }
 {
@@ -126,6 +132,8 @@ fn plan_together<S: PageStore>(
     ensures plan { IfOk result (λ edits. (g : Grid) → HasRegion (S.told store.old) tree.now layer level g
         → ReplacesGrid level layer g (painted level g w c.0) edits) }
     ensures sound { IfErr result (λ e. (g : Grid) → HasRegion (S.told store.old) tree.now layer level g → IsNotDamage e) }
+    ensures zero { IfErr result (λ e. (rs : List AnyRecord) → IsTree (S.told store.old) tree.now rs → NamesPage 1 e) }
+    ensures bad { IfErr result (λ e. e ≢ Damaged 0 → NamesBad (S.told store.old) tree.now.height tree.now.root e) }
     ensures left { OnlyReads S.PageStore store.old store.new result }
 
     // The levels up to that of the smallest block that has the whole window cost nothing.
@@ -157,6 +165,8 @@ fn what_is_around<S: PageStore>(
     ensures few { IfOk result (λ k. (g : Grid) (a : AnyBlock) → HasRegion (S.told store.old) tree.now layer level g → IsBlock level a
         → HoldsWindow a w → length (leaves_within level g k.read) ≤ 1 + length (leaves_within level g a)) }
     ensures sound { IfErr result (λ e. (g : Grid) → HasRegion (S.told store.old) tree.now layer level g → IsNotDamage e) }
+    ensures zero { IfErr result (λ e. (rs : List AnyRecord) → IsTree (S.told store.old) tree.now rs → NamesPage 1 e) }
+    ensures bad { IfErr result (λ e. e ≢ Damaged 0 → NamesBad (S.told store.old) tree.now.height tree.now.root e) }
     ensures left { OnlyReads S.PageStore store.old store.new result }
     ensures holds { IfOk result (λ k. HoldsWindow k.read w) }
     ensures reads { IfOk result (λ k. (j : ℕ) → k.read.side ≡ 2 ^ j
@@ -188,6 +198,7 @@ pub fn plan_known(
     ensures plan { IfOk result (λ edits. (g : Grid) → records.now ≡ records_within level layer g known.now.read → KnowsAround level g w known.now
         → ReplacesGrid level layer g (painted level g w known.now.around.0) edits) }
     ensures sound { IfErr result (λ e. (g : Grid) → records.now ≡ records_within level layer g known.now.read → KnowsAround level g w known.now → IsNotDamage e) }
+    ensures zero { IfErr result (NamesPage 1) }
     ensures no_fault { IsErrOf result Device → ⊥ }
 {
     let old = fill(alloc, records, layer, level, known)?;

@@ -1,15 +1,19 @@
-ghost use Rattle.std.specs.Prelude.{◌≡◌, ℕ, ◌+◌, ◌*◌, ◌^◌, ◌<◌, ◌≤◌, true, false, ◌++◌, IfOk, IfErr, OnOk, IfSome, IsNone, List, length, take, flat_map};
+ghost use Rattle.std.specs.Prelude.{◌≡◌, ◌≢◌, ℕ, ◌+◌, ◌*◌, ◌^◌, ◌<◌, ◌≤◌, true, false, ◌++◌, IfOk, IfErr, OnOk, IfSome, IsNone, List, length, take, flat_map};
 ghost use Rattle.std.specs.Prelude.{Contains};
 ghost use Rattle.std.specs.List.{sum_by};
 ghost use Rattle.quilt_types.specs.declared.plane.Pixel.{Pixel as AnyPixel};
 ghost use Rattle.quilt_types.specs.declared.plane.Block.{Block as AnyBlock};
+ghost use Rattle.quilt_types.specs.declared.stop.Stop.TheVariants.{Damaged};
 ghost use Rattle.quilt_types.specs.Plane.{quarters_of, is_window, Holds, IsBlock};
 ghost use Rattle.quilt_types.specs.Layers.{Grid};
 ghost use Rattle.quilt_types.specs.Algebra.{painted};
+ghost use Rattle.quilt_record.specs.declared.record.Record.{Record as AnyRecord};
 ghost use Rattle.quilt_store.specs.Calls.{OnlyReads};
 ghost use Rattle.quilt_world.specs.Tale.{Goes};
 ghost use Rattle.quilt_store.specs.Stops.{IsNotDamage};
-ghost use Rattle.quilt_btree.specs.Trees.{IsRooted};
+ghost use Rattle.quilt_btree.specs.Damage.{NamesBad};
+ghost use Rattle.quilt_btree.specs.Stops.{NamesPage};
+ghost use Rattle.quilt_btree.specs.Trees.{IsRooted, IsTree};
 ghost use Rattle.quilt_region.specs.Regions.{HasRegion};
 ghost use Rattle.quilt_region.specs.Plans.{ReplacesGrid, records_without};
 ghost use Rattle.quilt_region.specs.Quarters.{InWindow, IsCommonWindow, AreSeveral, records_without_in};
@@ -50,6 +54,8 @@ pub fn plan_apart<S: PageStore>(
     ensures plan { IfOk result
         (λ o. IfSome o (λ edits. (g : Grid) → HasRegion (S.told store.old) tree.now layer level g → ReplacesGrid level layer g (painted level g w c.0) edits)) }
     ensures sound { IfErr result (λ e. (g : Grid) → HasRegion (S.told store.old) tree.now layer level g → IsNotDamage e) }
+    ensures zero { IfErr result (λ e. (rs : List AnyRecord) → IsTree (S.told store.old) tree.now rs → NamesPage 1 e) }
+    ensures bad { IfErr result (λ e. e ≢ Damaged 0 → NamesBad (S.told store.old) tree.now.height tree.now.root e) }
     ensures left { OnlyReads S.PageStore store.old store.new result }
     ensures large { IfOk result (λ o. IfSome o (λ edits. (a : AnyBlock) → IsBlock level a → HoldsWindow a w → 64 ≤ a.side)) }
     ensures reads { IfOk result
@@ -94,6 +100,8 @@ fn plan_in_block<S: PageStore>(
     ensures plan { IfOk result
         (λ o. IfSome o (λ edits. (g : Grid) → HasRegion (S.told store.old) tree.now layer level g → ReplacesGrid level layer g (painted level g w c.0) edits)) }
     ensures sound { IfErr result (λ e. (g : Grid) → HasRegion (S.told store.old) tree.now layer level g → IsNotDamage e) }
+    ensures zero { IfErr result (λ e. (rs : List AnyRecord) → IsTree (S.told store.old) tree.now rs → NamesPage 1 e) }
+    ensures bad { IfErr result (λ e. e ≢ Damaged 0 → NamesBad (S.told store.old) tree.now.height tree.now.root e) }
     ensures left { OnlyReads S.PageStore store.old store.new result }
     ensures reads { IfOk result
         (λ o. IfSome o (λ edits. (g : Grid) → HasRegion (S.told store.old) tree.now layer level g
@@ -152,6 +160,8 @@ fn plan_quarters<S: PageStore>(
     ensures several { IfOk result (λ t. t ≡ true → (g : Grid) (q : AnyBlock) (p : AnyPixel) → HasRegion (S.told store.old) tree.now layer level g
         → Contains (take count (quarters_of b)) q → Holds q p → InWindow w p → AreSeveral level g (painted level g w c.0) b) }
     ensures sound { IfErr result (λ e. (g : Grid) → HasRegion (S.told store.old) tree.now layer level g → IsNotDamage e) }
+    ensures zero { IfErr result (λ e. (rs : List AnyRecord) → IsTree (S.told store.old) tree.now rs → NamesPage 1 e) }
+    ensures bad { IfErr result (λ e. e ≢ Damaged 0 → NamesBad (S.told store.old) tree.now.height tree.now.root e) }
     ensures left { OnlyReads S.PageStore store.old store.new result }
     ensures reads { IfOk result (λ t. t ≡ true → (g : Grid) → HasRegion (S.told store.old) tree.now layer level g
         → Goes (λ old new. new ≤ old + (36 * count + 3 * sum_by (λ q. length (leaves_within level g q)) (take count (quarters_of b))))
@@ -222,6 +232,8 @@ fn plan_part<S: PageStore>(
     ensures add { OnOk result ((g : Grid) → HasRegion (S.told store.old) tree.now layer level g → KnowsAround level g w known.now
         → add.new.items ≡ add.old.items ++ records_without level layer (painted level g w known.now.around.0) g) }
     ensures sound { IfErr result (λ e. (g : Grid) → HasRegion (S.told store.old) tree.now layer level g → KnowsAround level g w known.now → IsNotDamage e) }
+    ensures zero { IfErr result (λ e. (rs : List AnyRecord) → IsTree (S.told store.old) tree.now rs → NamesPage 1 e) }
+    ensures bad { IfErr result (λ e. e ≢ Damaged 0 → NamesBad (S.told store.old) tree.now.height tree.now.root e) }
     ensures left { OnlyReads S.PageStore store.old store.new result }
     ensures reads { OnOk result ((g : Grid) → HasRegion (S.told store.old) tree.now layer level g
         → Goes (λ old new. new ≤ old + (6 + 3 * length (leaves_within level g known.now.read))) (S.reads store.old) (S.reads store.new)) }

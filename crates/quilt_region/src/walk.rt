@@ -1,16 +1,20 @@
-ghost use Rattle.std.specs.Prelude.{◌≡◌, ℕ, ◌+◌, ◌*◌, ◌≤◌, ◌==◌, List, [], ◌∷◌, slice_index, count_by, length, IfOk, IfErr};
+ghost use Rattle.std.specs.Prelude.{◌≡◌, ◌≢◌, ℕ, ◌+◌, ◌*◌, ◌≤◌, ◌==◌, List, [], ◌∷◌, slice_index, count_by, length, IfOk, IfErr};
 ghost use Rattle.quilt_types.specs.declared.plane.Block.{Block as AnyBlock};
+ghost use Rattle.quilt_types.specs.declared.stop.Stop.TheVariants.{Damaged};
 ghost use Rattle.quilt_types.specs.Plane.{side as side_of, IsBlock};
 ghost use Rattle.quilt_types.specs.Layers.{Grid};
 ghost use Rattle.quilt_types.specs.Quadtrees.{leaves};
 ghost use Rattle.quilt_loc.specs.Codes.{code_from};
+ghost use Rattle.quilt_record.specs.declared.record.Record.{Record};
 ghost use Rattle.quilt_blocks.specs.Cutting.{leaves_by_code};
 ghost use Rattle.quilt_store.specs.Calls.{OnlyReads};
 ghost use Rattle.quilt_world.specs.Tale.{Goes};
 ghost use Rattle.quilt_store.specs.Stops.{IsNotDamage};
-ghost use Rattle.quilt_btree.specs.Trees.{IsRooted};
+ghost use Rattle.quilt_btree.specs.Damage.{NamesBad};
+ghost use Rattle.quilt_btree.specs.Stops.{NamesPage};
+ghost use Rattle.quilt_btree.specs.Trees.{IsRooted, IsTree};
 ghost use Rattle.quilt_region.specs.Regions.{HasRegion};
-ghost use Rattle.quilt_region.specs.Walks.{IsAhead};
+ghost use Rattle.quilt_region.specs.Walks.{IsAhead, StandsInTree};
 
 use crate::bounds::first_key;
 use crate::leaf_records::{DAMAGED, leaf_of};
@@ -35,6 +39,8 @@ pub fn leaf_counts<S: PageStore>(
     ensures counts { IfOk result (λ counts. (g : Grid) → HasRegion (S.told store.old) tree.now layer level g → (k : ℕ) → k ≤ 12
         → slice_index counts k ≡ count_by (λ e. e.0.side == side_of k) (leaves level g)) }
     ensures sound { IfErr result (λ e. (g : Grid) → HasRegion (S.told store.old) tree.now layer level g → IsNotDamage e) }
+    ensures zero { IfErr result (λ e. (rs : List Record) → IsTree (S.told store.old) tree.now rs → NamesPage 1 e) }
+    ensures bad { IfErr result (λ e. e ≢ Damaged 0 → NamesBad (S.told store.old) tree.now.height tree.now.root e) }
     ensures left { OnlyReads S.PageStore store.old store.new result }
     ensures reads { IfOk result (λ counts. (g : Grid) → HasRegion (S.told store.old) tree.now layer level g
         → Goes (λ old new. new ≤ old + (6 + 3 * length (leaves_by_code level g))) (S.reads store.old) (S.reads store.new)) }
@@ -61,6 +67,8 @@ fn count_ahead<S: PageStore>(
     ensures counts { IfOk result (λ counts. (g : Grid) → IsAhead (S.told store.old) tree.now cursor.old layer level (leaves_by_code level g)
         → (k : ℕ) → k ≤ 12 → slice_index counts k ≡ count_by (λ e. e.0.side == side_of k) (leaves_by_code level g)) }
     ensures sound { IfErr result (λ e. (g : Grid) → IsAhead (S.told store.old) tree.now cursor.old layer level (leaves_by_code level g) → IsNotDamage e) }
+    ensures zero { IfErr result (λ e. StandsInTree (S.told store.old) tree.now cursor.old → NamesPage 1 e) }
+    ensures bad { IfErr result (λ e. e ≢ Damaged 0 → NamesBad (S.told store.old) tree.now.height tree.now.root e) }
     ensures left { OnlyReads S.PageStore store.old store.new result }
     ensures reads { IfOk result (λ counts. (g : Grid) → IsAhead (S.told store.old) tree.now cursor.old layer level (leaves_by_code level g)
         → Goes (λ old new. new ≤ old + (3 + 3 * length (leaves_by_code level g))) (S.reads store.old) (S.reads store.new)) }
@@ -95,8 +103,11 @@ fn next_leaf<S: PageStore>(
     ensures next { IfOk result (λ l. (e : AnyBlock × ℕ) (rest : List (AnyBlock × ℕ)) → IsBlock level e.0
         → IsAhead (S.told store.old) tree.now cursor.old layer level (e ∷ rest)
         → (l.block ≡ e.0) × IsAhead (S.told store.old) tree.now cursor.new layer level rest) }
+    ensures stays { IfOk result (λ _. StandsInTree (S.told store.old) tree.now cursor.old → StandsInTree (S.told store.old) tree.now cursor.new) }
     ensures sound { IfErr result (λ stop. (e : AnyBlock × ℕ) (rest : List (AnyBlock × ℕ)) → IsBlock level e.0 → code_from e.0 ≡ code
         → IsAhead (S.told store.old) tree.now cursor.old layer level (e ∷ rest) → IsNotDamage stop) }
+    ensures zero { IfErr result (λ e. StandsInTree (S.told store.old) tree.now cursor.old → NamesPage 1 e) }
+    ensures bad { IfErr result (λ e. e ≢ Damaged 0 → NamesBad (S.told store.old) tree.now.height tree.now.root e) }
     ensures left { OnlyReads S.PageStore store.old store.new result }
     ensures reads { Goes (λ old new. new ≤ old + 3) (S.reads store.old) (S.reads store.new) }
 {
@@ -119,6 +130,8 @@ fn end_layer<S: PageStore>(
     requires rooted { IsRooted (S.size store.old) tree.now }
     requires some { 1 ≤ tree.now.height }
     ensures sound { IfErr result (λ stop. (n : ℕ) → IsAhead (S.told store.old) tree.now cursor.old layer n [] → IsNotDamage stop) }
+    ensures zero { IfErr result (λ e. StandsInTree (S.told store.old) tree.now cursor.old → NamesPage 1 e) }
+    ensures bad { IfErr result (λ e. e ≢ Damaged 0 → NamesBad (S.told store.old) tree.now.height tree.now.root e) }
     ensures left { OnlyReads S.PageStore store.old store.new result }
     ensures reads { Goes (λ old new. new ≤ old + 3) (S.reads store.old) (S.reads store.new) }
 {

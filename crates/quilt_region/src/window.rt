@@ -1,13 +1,17 @@
-ghost use Rattle.std.specs.Prelude.{◌≡◌, ℕ, ◌+◌, ◌*◌, ◌≤◌, true, IfOk, IfErr, OnOk, length};
+ghost use Rattle.std.specs.Prelude.{◌≡◌, ◌≢◌, ℕ, ◌+◌, ◌*◌, ◌≤◌, true, IfOk, IfErr, OnOk, List, length};
 ghost use Rattle.std.specs.List.{sum_by};
 ghost use Rattle.quilt_types.specs.declared.plane.Pixel.{Pixel as AnyPixel};
+ghost use Rattle.quilt_types.specs.declared.stop.Stop.TheVariants.{Damaged};
 ghost use Rattle.quilt_types.specs.Plane.{is_window, side as side_of, Holds, IsBlock};
 ghost use Rattle.quilt_types.specs.Layers.{Grid, colour_at};
 ghost use Rattle.quilt_loc.specs.Codes.{code_from, code_to};
+ghost use Rattle.quilt_record.specs.declared.record.Record.{Record};
 ghost use Rattle.quilt_store.specs.Calls.{OnlyReads};
 ghost use Rattle.quilt_world.specs.Tale.{Goes};
 ghost use Rattle.quilt_store.specs.Stops.{IsNotDamage};
-ghost use Rattle.quilt_btree.specs.Trees.{IsRooted};
+ghost use Rattle.quilt_btree.specs.Damage.{NamesBad};
+ghost use Rattle.quilt_btree.specs.Stops.{NamesPage};
+ghost use Rattle.quilt_btree.specs.Trees.{IsRooted, IsTree};
 ghost use Rattle.quilt_region.specs.Painting.{HasColours};
 ghost use Rattle.quilt_region.specs.Regions.{HasRegion};
 ghost use Rattle.quilt_region.specs.Windows.{leaves_within};
@@ -41,6 +45,8 @@ pub fn read_window<S: PageStore>(
     ensures list { IfOk result (λ l. (g : Grid) → HasRegion (S.told store.old) tree.now layer level g → AgreesIn level w g l.grid) }
     ensures level { IfOk result (λ l. l.level ≡ level) }
     ensures sound { IfErr result (λ e. (g : Grid) → HasRegion (S.told store.old) tree.now layer level g → IsNotDamage e) }
+    ensures zero { IfErr result (λ e. (rs : List Record) → IsTree (S.told store.old) tree.now rs → NamesPage 1 e) }
+    ensures bad { IfErr result (λ e. e ≢ Damaged 0 → NamesBad (S.told store.old) tree.now.height tree.now.root e) }
     ensures left { OnlyReads S.PageStore store.old store.new result }
     ensures reads { IfOk result (λ l. (g : Grid) (s : ℕ) → HasRegion (S.told store.old) tree.now layer level g → IsSideOver w s
         → Goes (λ old new. new ≤ old + sum_by (λ b. 12 + 3 * length (leaves_within level g b)) (cover_of s w)) (S.reads store.old) (S.reads store.new)) }
@@ -92,6 +98,8 @@ fn put_window<S: PageStore>(
     ensures colours { OnOk result ((g : Grid) → HasRegion (S.told store.old) tree.now layer level g
         → HasColours level (cover_colour level g side w) maker.old.colours → HasColours level (cover_colour level g side w) maker.new.colours) }
     ensures sound { IfErr result (λ e. (g : Grid) → HasRegion (S.told store.old) tree.now layer level g → IsNotDamage e) }
+    ensures zero { IfErr result (λ e. (rs : List Record) → IsTree (S.told store.old) tree.now rs → NamesPage 1 e) }
+    ensures bad { IfErr result (λ e. e ≢ Damaged 0 → NamesBad (S.told store.old) tree.now.height tree.now.root e) }
     ensures left { OnlyReads S.PageStore store.old store.new result }
     ensures reads { OnOk result ((g : Grid) → HasRegion (S.told store.old) tree.now layer level g
         → Goes (λ old new. new ≤ old + cost_in level g (cover_of side w) b) (S.reads store.old) (S.reads store.new)) }
@@ -133,6 +141,8 @@ fn put_read<S: PageStore>(
     ensures colours { OnOk result ((g : Grid) (f : AnyPixel → ℕ) → HasRegion (S.told store.old) tree.now layer level g
         → ((p : AnyPixel) → Holds b p → f p ≡ colour_at level g p) → HasColours level f maker.old.colours → HasColours level f maker.new.colours) }
     ensures sound { IfErr result (λ e. (g : Grid) → HasRegion (S.told store.old) tree.now layer level g → IsNotDamage e) }
+    ensures zero { IfErr result (λ e. (rs : List Record) → IsTree (S.told store.old) tree.now rs → NamesPage 1 e) }
+    ensures bad { IfErr result (λ e. e ≢ Damaged 0 → NamesBad (S.told store.old) tree.now.height tree.now.root e) }
     ensures left { OnlyReads S.PageStore store.old store.new result }
     ensures reads { OnOk result ((g : Grid) → HasRegion (S.told store.old) tree.now layer level g
         → Goes (λ old new. new ≤ old + (12 + 3 * length (leaves_within level g b))) (S.reads store.old) (S.reads store.new)) }

@@ -1,4 +1,5 @@
 pub mod Algebra
+pub mod Bits
 pub mod Bytes
 pub mod CodeTable
 pub mod Codes

@@ -41,12 +41,12 @@ leaves n g = map (coloured n g) (maximal_blocks n (is_uniform n g))
 -- Points: blocks with at most so many.
 
 -- how many of the points lie in the block
-abbrev pub points_in : PointMap → Block → ℕ
-points_in points b = count_by (λ e. in_block b e.0) (finmap.entries points)
+abbrev pub occupancy : PointMap → Block → ℕ
+occupancy points b = count_by (λ e. in_block b e.0) (finmap.entries points)
 
 -- the block holds no more points than the capacity
 abbrev pub holds_few : ℕ → PointMap → Block → Bool
-holds_few capacity points b = nat_le (points_in points b) capacity
+holds_few capacity points b = nat_le (occupancy points b) capacity
 
 -- the blocks of a point layer, by y and then x: the maximal blocks that hold no more points than the capacity
 unfoldable pub point_blocks : ℕ → ℕ → PointMap → List Block

@@ -4,6 +4,7 @@
 mod code;
 mod location_code;
 mod name;
+mod page_bits;
 mod plane;
 mod points;
 mod rings;
@@ -13,6 +14,7 @@ mod text;
 pub use code::Code;
 pub use location_code::{code_of, pixel_of};
 pub use name::Name;
+pub use page_bits::{is_listed, list_page, unlist_page};
 pub use plane::{Block, Colour, Corner, Kind, Pixel, Point, Seg, Window};
 pub use points::PointList;
 pub use rings::RingList;

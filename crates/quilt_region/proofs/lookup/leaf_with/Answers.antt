@@ -126,3 +126,8 @@ returns-in-Some-leaf_of-clause-row g c rs is =
     sym (c.in_ok-r.ensures.floor rs is ∙ ap (λ (k : Key). floor_of k rs) c.key_with-k.ensures) ∙ c.in-Some.is
     ∙ ap (λ (r : Record). Some r) (is_there c.leaf_of.result c.in-Some-leaf_of.leaf (λ l. c.in-Some.r ≡ leaf_record c.args.level c.args.layer (leaf_pair l)) c.in-Some-leaf_of.is
     c.leaf_of.ensures.record)
+
+pub returns-in_err-r-clause-bad : goal.returns-in_err-r-clause-bad
+returns-in_err-r-clause-bad g c =
+    let p = err_from_is_err_and c.from_residual.result c.from_residual.ensures.1 in
+    rw (p.1, p.2) (λ other. c.in_err-r.ensures.bad)

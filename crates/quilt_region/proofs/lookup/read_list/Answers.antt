@@ -5,7 +5,7 @@ use Rattle.quilt_world.specs.Tale.{Goes}
 use Rattle.quilt_store.proofs.Reading.{only_reads_free}
 use Rattle.quilt_region.proofs.Beside.{if_err_weaker}
 use Rattle.quilt_region.proofs.Records.{range_read, region_length}
-use Rattle.quilt_region.proofs.Results.{list_whole, sound_whole, sound_zero, if_ok}
+use Rattle.quilt_region.proofs.Results.{list_whole, sound_whole, sound_zero, if_ok, zero_bad}
 use Rattle.quilt_region.proofs.lookup.read_list.Goals as goal
 
 pub returns-in_err-records-clause-zero : goal.returns-in_err-records-clause-zero
@@ -54,3 +54,6 @@ returns-clause-reads g c =
     let many = c.in_ok-records.records.ok.0 ∙ ap length all ∙ region_length n c.args.layer grid in
     subst (λ (k : ℕ). Goes {A = ℕ} (λ old new. new ≤ old + 6 + 3 * k) (g.S.PageStore.reads c.args.store.now)
     (g.S.PageStore.reads c.range.new.store)) many c.in_ok-records.ensures.reads)
+
+pub returns-clause-bad : goal.returns-clause-bad
+returns-clause-bad g c = if_err_weaker c.list_of.result (λ e zero. zero_bad e _ _ _ zero) c.list_of.ensures.zero

@@ -3,7 +3,7 @@ use Rattle.quilt_loc.proofs.Blocks.{IsBlock-up, side_most}
 use Rattle.quilt_world.specs.Tale.{Goes}
 use Rattle.quilt_blocks.proofs.Chains.{member_pos}
 use Rattle.quilt_region.proofs.Beside.{if_err_weaker, if_ok_weaker}
-use Rattle.quilt_region.proofs.Results.{if_ok_from}
+use Rattle.quilt_region.proofs.Results.{if_ok_from, sound_zero}
 use Rattle.quilt_region.proofs.WithinKeys.{length_within, read_within}
 use Rattle.quilt_region.proofs.lookup.records_in.Goals as goal
 
@@ -66,3 +66,6 @@ returns-clause-reads g c =
     let many = records.ok.0 ∙ ap length all ∙ length_within n c.args.layer grid c.args.b in
     subst (λ (k : ℕ). Goes {A = ℕ} (λ old new. new ≤ old + 6 + 3 * k) (g.S.PageStore.reads c.args.store.now)
     (g.S.PageStore.reads c.range.new.store)) many reads)
+
+pub returns-clause-zero : goal.returns-clause-zero
+returns-clause-zero g c = if_err_weaker c.range.result (λ e sound rs is. sound_zero e (sound rs is)) c.range.ensures.sound

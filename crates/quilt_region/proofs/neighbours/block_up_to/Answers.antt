@@ -12,6 +12,8 @@ use Rattle.quilt_region.specs.Windows.{HasAround}
 use Rattle.quilt_region.proofs.Beside.{true_false}
 use Rattle.quilt_region.proofs.Counting.{saved_then, saved_more, saved_none}
 use Rattle.quilt_region.proofs.Nearby.{not_whole, around_more, around_self, level_more, level_room}
+use Rattle.quilt_btree.specs.Trees.{IsTree}
+use Rattle.quilt_region.proofs.Results.{bad_along}
 use Rattle.quilt_region.proofs.neighbours.block_up_to.Goals as goal
 
 pub loop-larger-init : goal.loop-larger-init
@@ -103,3 +105,13 @@ returns-in_err-has_around-clause-left g c =
 
 pub returns-then-not-branch-clause-left : goal.returns-then-not-branch-clause-left
 returns-then-not-branch-clause-left g c = only_reads_ok _ (only_reads_then _ g.met.S.PageStore.goes_on _ _ _ c.loop-larger.invariant.left c.in_ok-has_around.ensures.left) _
+
+pub returns-in_err-has_around-clause-zero : goal.returns-in_err-has_around-clause-zero
+returns-in_err-has_around-clause-zero g c =
+    let p = err_from_is_err_and c.from_residual.result c.from_residual.ensures.1 in
+    rw (p.1, p.2) (λ rs is. c.in_err-has_around.ensures.zero rs (subst (λ told. IsTree told c.args.tree.now rs) (sym c.loop-larger.invariant.left.told) is))
+
+pub returns-in_err-has_around-clause-bad : goal.returns-in_err-has_around-clause-bad
+returns-in_err-has_around-clause-bad g c =
+    let p = err_from_is_err_and c.from_residual.result c.from_residual.ensures.1 in
+    rw (p.1, p.2) (bad_along _ _ c.args.tree.now _ c.loop-larger.invariant.left.told c.in_err-has_around.ensures.bad)

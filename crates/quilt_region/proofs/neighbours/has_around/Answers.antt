@@ -14,6 +14,8 @@ use Rattle.quilt_region.specs.Regions.{HasRegion}
 use Rattle.quilt_region.specs.Windows.{HasAround}
 use Rattle.quilt_world.proofs.ReadCounts.{reads_then}
 use Rattle.quilt_region.proofs.Nearby.{around_has, around_several, quarter_leaf}
+use Rattle.quilt_btree.specs.Trees.{IsTree}
+use Rattle.quilt_region.proofs.Results.{bad_along}
 use Rattle.quilt_region.proofs.neighbours.has_around.Goals as goal
 
 larger_block : (n : ℕ) (b larger : Block) → IsBlock n b → b.side < 2 ^ n → larger ≡ parent_of b → IsBlock n larger
@@ -113,3 +115,13 @@ returns-in_err-has_quarter-clause-left g c =
 
 pub returns-then-not-branch-clause-left : goal.returns-then-not-branch-clause-left
 returns-then-not-branch-clause-left g c = only_reads_ok _ (only_reads_then _ g.met.S.PageStore.goes_on _ _ _ c.loop-q.invariant.left c.in_ok-has_quarter.ensures.left) _
+
+pub returns-in_err-has_quarter-clause-zero : goal.returns-in_err-has_quarter-clause-zero
+returns-in_err-has_quarter-clause-zero g c =
+    let p = err_from_is_err_and c.from_residual.result c.from_residual.ensures.1 in
+    rw (p.1, p.2) (λ rs is. c.in_err-has_quarter.ensures.zero rs (subst (λ told. IsTree told c.args.tree.now rs) (sym c.loop-q.invariant.left.told) is))
+
+pub returns-in_err-has_quarter-clause-bad : goal.returns-in_err-has_quarter-clause-bad
+returns-in_err-has_quarter-clause-bad g c =
+    let p = err_from_is_err_and c.from_residual.result c.from_residual.ensures.1 in
+    rw (p.1, p.2) (bad_along _ _ c.args.tree.now _ c.loop-q.invariant.left.told c.in_err-has_quarter.ensures.bad)

@@ -7,6 +7,8 @@ use Rattle.quilt_region.specs.Regions.{HasRegion}
 use Rattle.quilt_region.specs.Windows.{HasAround}
 use Rattle.quilt_region.proofs.Beside.{true_false}
 use Rattle.quilt_region.proofs.Nearby.{not_whole, around_self}
+use Rattle.quilt_btree.specs.Trees.{IsTree}
+use Rattle.quilt_region.proofs.Results.{bad_along}
 use Rattle.quilt_region.proofs.neighbours.known_beside.Goals as goal
 
 pub has_around-requires-clause-small : goal.has_around-requires-clause-small
@@ -45,3 +47,13 @@ returns-then-branch-clause-left g c = only_reads_ok _ (only_reads_then _ g.met.S
 
 pub returns-clause-left : goal.returns-clause-left
 returns-clause-left g c = only_reads_ok _ (only_reads_then _ g.met.S.PageStore.goes_on _ _ _ c.in_ok-b.ensures.left c.in_ok-has_around.ensures.left) _
+
+pub returns-in_err-has_around-clause-zero : goal.returns-in_err-has_around-clause-zero
+returns-in_err-has_around-clause-zero g c =
+    let p = err_from_is_err_and c.from_residual-in_err-has_around.result c.from_residual-in_err-has_around.ensures.1 in
+    rw (p.1, p.2) (λ rs is. c.in_err-has_around.ensures.zero rs (subst (λ told. IsTree told c.args.tree.now rs) (sym c.in_ok-b.ensures.left.told) is))
+
+pub returns-in_err-has_around-clause-bad : goal.returns-in_err-has_around-clause-bad
+returns-in_err-has_around-clause-bad g c =
+    let p = err_from_is_err_and c.from_residual-in_err-has_around.result c.from_residual-in_err-has_around.ensures.1 in
+    rw (p.1, p.2) (bad_along _ _ c.args.tree.now _ c.in_ok-b.ensures.left.told c.in_err-has_around.ensures.bad)

@@ -1,17 +1,16 @@
-use Rattle.std.proofs.Common.{◌≡◌, ◌+◌, ◌*◌, ◌<◌, [], ◌∷◌, sym, ◌∙◌, ap, subst, arith}
+use Rattle.std.proofs.Common.{◌+◌, ◌*◌, [], ◌∷◌, sym, ◌∙◌, ap, subst, arith}
 use Rattle.std.proofs.lemmas.Result.{err_from_is_err_and}
-use Rattle.quilt_types.specs.declared.plane.Block.{Block}
 use Rattle.quilt_store.proofs.Reading.{only_reads_then, only_reads_err, only_reads_free}
 use Rattle.quilt_blocks.specs.Cutting.{leaf_pair}
 use Rattle.quilt_blocks.proofs.Cuts.{leaf_is}
 use Rattle.quilt_record.specs.declared.record.Record.{Record}
 use Rattle.quilt_region.specs.Regions.{HasRegion}
-use Rattle.quilt_region.specs.Windows.{KnowsAround}
 use Rattle.quilt_region.proofs.Beside.{if_err_weaker, if_ok_weaker}
 use Rattle.quilt_region.proofs.Counting.{then_saved, saved_less}
 use Rattle.quilt_region.proofs.Nearby.{window_in, leaf_cut}
 use Rattle.quilt_region.proofs.Pixels.{leaf_rows, pixel_in_block}
-use Rattle.quilt_region.proofs.Results.{if_ok}
+use Rattle.quilt_region.proofs.Results.{if_ok, bad_along, zero_bad}
+use Rattle.quilt_btree.specs.Trees.{IsTree}
 use Rattle.quilt_region.proofs.plan.plan_pixel.Goals as goal
 
 pub leaf_with-requires-clause-in_x : goal.leaf_with-requires-clause-in_x
@@ -93,3 +92,19 @@ pub returns-clause-left : goal.returns-clause-left
 returns-clause-left g c =
     only_reads_free _ c.plan_known.result (only_reads_then _ g.met.S.PageStore.goes_on _ _ _ c.in_ok-leaf.ensures.left c.in_ok-top.ensures.left)
     c.plan_known.ensures.no_fault
+
+pub returns-in_err-top-clause-zero : goal.returns-in_err-top-clause-zero
+returns-in_err-top-clause-zero g c =
+    let p = err_from_is_err_and c.from_residual-in_err-top.result c.from_residual-in_err-top.ensures.1 in
+    rw (p.1, p.2) (λ rs is. c.in_err-top.ensures.zero rs (subst (λ told. IsTree told c.args.tree.now rs) (sym c.in_ok-leaf.ensures.left.told) is))
+
+pub returns-clause-zero : goal.returns-clause-zero
+returns-clause-zero g c = if_err_weaker c.plan_known.result (λ e zero rs is. zero) c.plan_known.ensures.zero
+
+pub returns-in_err-top-clause-bad : goal.returns-in_err-top-clause-bad
+returns-in_err-top-clause-bad g c =
+    let p = err_from_is_err_and c.from_residual-in_err-top.result c.from_residual-in_err-top.ensures.1 in
+    rw (p.1, p.2) (bad_along _ _ c.args.tree.now _ c.in_ok-leaf.ensures.left.told c.in_err-top.ensures.bad)
+
+pub returns-clause-bad : goal.returns-clause-bad
+returns-clause-bad g c = if_err_weaker c.plan_known.result (λ e zero. zero_bad e _ _ _ zero) c.plan_known.ensures.zero

@@ -13,6 +13,8 @@ use Rattle.quilt_world.proofs.ReadCounts.{reads_more}
 use Rattle.quilt_region.proofs.Counting.{then_saved, saved_less}
 use Rattle.quilt_region.proofs.Nearby.{power_le}
 use Rattle.quilt_region.proofs.plans.QuarterPlans.{some_at}
+use Rattle.quilt_btree.specs.Trees.{IsTree}
+use Rattle.quilt_region.proofs.Results.{bad_along}
 use Rattle.quilt_region.proofs.plan.plan_rect.Goals as goal
 
 pub returns-in-Some-clause-reads : goal.returns-in-Some-clause-reads
@@ -78,3 +80,13 @@ returns-then-is_one_pixel-clause-pixel g c wide high = if_ok_weaker c.plan_pixel
 
 pub returns-in-None-clause-left : goal.returns-in-None-clause-left
 returns-in-None-clause-left g c = only_reads_then _ g.met.S.PageStore.goes_on _ _ _ c.in_ok-edits.ensures.left c.plan_together.ensures.left
+
+pub returns-in-None-clause-zero : goal.returns-in-None-clause-zero
+returns-in-None-clause-zero g c =
+    if_err_weaker c.plan_together.result
+    (λ e zero rs is. zero rs (subst (λ told. IsTree told c.args.tree.now rs) (sym c.in_ok-edits.ensures.left.told) is))
+    c.plan_together.ensures.zero
+
+pub returns-in-None-clause-bad : goal.returns-in-None-clause-bad
+returns-in-None-clause-bad g c =
+    if_err_weaker c.plan_together.result (λ e bad. bad_along _ _ c.args.tree.now e c.in_ok-edits.ensures.left.told bad) c.plan_together.ensures.bad

@@ -9,7 +9,8 @@ use Rattle.quilt_region.specs.Windows.{leaves_within}
 use Rattle.quilt_region.proofs.Beside.{if_err_weaker, if_ok_weaker}
 use Rattle.quilt_region.proofs.Counting.{reads_plain, saved_then, saved_more}
 use Rattle.quilt_region.proofs.Nearby.{power_le}
-use Rattle.quilt_region.proofs.Results.{if_ok}
+use Rattle.quilt_region.proofs.Results.{if_ok, bad_along, zero_bad}
+use Rattle.quilt_btree.specs.Trees.{IsTree}
 use Rattle.quilt_region.proofs.plan.plan_together.Goals as goal
 
 pub returns-in_err-records-clause-sound : goal.returns-in_err-records-clause-sound
@@ -58,3 +59,19 @@ returns-in_err-records-clause-left g c =
 pub returns-clause-left : goal.returns-clause-left
 returns-clause-left g c = only_reads_free _ c.plan_known.result (only_reads_then _ g.met.S.PageStore.goes_on _ _ _ c.in_ok-known.ensures.left c.in_ok-records.ensures.left)
     c.plan_known.ensures.no_fault
+
+pub returns-in_err-records-clause-zero : goal.returns-in_err-records-clause-zero
+returns-in_err-records-clause-zero g c =
+    let p = err_from_is_err_and c.from_residual-in_err-records.result c.from_residual-in_err-records.ensures.1 in
+    rw (p.1, p.2) (λ rs is. c.in_err-records.ensures.zero rs (subst (λ told. IsTree told c.args.tree.now rs) (sym c.in_ok-known.ensures.left.told) is))
+
+pub returns-clause-zero : goal.returns-clause-zero
+returns-clause-zero g c = if_err_weaker c.plan_known.result (λ e zero rs is. zero) c.plan_known.ensures.zero
+
+pub returns-in_err-records-clause-bad : goal.returns-in_err-records-clause-bad
+returns-in_err-records-clause-bad g c =
+    let p = err_from_is_err_and c.from_residual-in_err-records.result c.from_residual-in_err-records.ensures.1 in
+    rw (p.1, p.2) (bad_along _ _ c.args.tree.now _ c.in_ok-known.ensures.left.told c.in_err-records.ensures.bad)
+
+pub returns-clause-bad : goal.returns-clause-bad
+returns-clause-bad g c = if_err_weaker c.plan_known.result (λ e zero. zero_bad e _ _ _ zero) c.plan_known.ensures.zero

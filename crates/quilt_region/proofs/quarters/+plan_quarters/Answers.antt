@@ -20,6 +20,8 @@ use Rattle.quilt_region.proofs.Parts.{block_room, window_room}
 use Rattle.quilt_region.proofs.plans.QuarterPlans.{without_part, part_several, with_part, top_inside}
 use Rattle.quilt_region.proofs.plans.QuarterPlans.{quarter_is, list_step, same_step, sum_step, last_or_before}
 use Rattle.quilt_region.proofs.plans.QuarterPlans.{some_at}
+use Rattle.quilt_btree.specs.Trees.{IsTree}
+use Rattle.quilt_region.proofs.Results.{bad_along}
 use Rattle.quilt_region.proofs.quarters.+plan_quarters.Goals as goal
 
 abbrev zero_block : Block
@@ -227,3 +229,23 @@ returns-in_err-plan_part-clause-left g t c =
 
 pub returns-clause-left : goal.returns-clause-left
 returns-clause-left g t c = only_reads_ok _ (only_reads_then _ g.met.S.PageStore.goes_on _ _ _ c.in_ok-known.ensures.left (only_reads_then _ g.met.S.PageStore.goes_on _ _ _ c.in_ok-plan_quarters.ensures.left c.in_ok-plan_part.ensures.left)) _
+
+pub returns-in_err-plan_quarters-clause-zero : goal.returns-in_err-plan_quarters-clause-zero
+returns-in_err-plan_quarters-clause-zero g t c =
+    let p = err_from_is_err_and c.from_residual-in_err-plan_quarters.result c.from_residual-in_err-plan_quarters.ensures.1 in
+    rw (p.1, p.2) (λ rs is. c.in_err-plan_quarters.ensures.zero rs (subst (λ told. IsTree told c.args.tree.now rs) (sym c.in_ok-known.ensures.left.told) is))
+
+pub returns-in_err-plan_part-clause-zero : goal.returns-in_err-plan_part-clause-zero
+returns-in_err-plan_part-clause-zero g t c =
+    let p = err_from_is_err_and c.from_residual-in_err-plan_part.result c.from_residual-in_err-plan_part.ensures.1 in
+    rw (p.1, p.2) (λ rs is. c.in_err-plan_part.ensures.zero rs (subst (λ told. IsTree told c.args.tree.now rs) (sym (c.in_ok-plan_quarters.ensures.left.told ∙ c.in_ok-known.ensures.left.told)) is))
+
+pub returns-in_err-plan_quarters-clause-bad : goal.returns-in_err-plan_quarters-clause-bad
+returns-in_err-plan_quarters-clause-bad g t c =
+    let p = err_from_is_err_and c.from_residual-in_err-plan_quarters.result c.from_residual-in_err-plan_quarters.ensures.1 in
+    rw (p.1, p.2) (bad_along _ _ c.args.tree.now _ c.in_ok-known.ensures.left.told c.in_err-plan_quarters.ensures.bad)
+
+pub returns-in_err-plan_part-clause-bad : goal.returns-in_err-plan_part-clause-bad
+returns-in_err-plan_part-clause-bad g t c =
+    let p = err_from_is_err_and c.from_residual-in_err-plan_part.result c.from_residual-in_err-plan_part.ensures.1 in
+    rw (p.1, p.2) (bad_along _ _ c.args.tree.now _ (c.in_ok-plan_quarters.ensures.left.told ∙ c.in_ok-known.ensures.left.told) c.in_err-plan_part.ensures.bad)

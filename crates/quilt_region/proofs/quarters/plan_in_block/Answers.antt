@@ -9,6 +9,7 @@ use Rattle.quilt_region.proofs.plans.KnownPlans.{corner_in}
 use Rattle.quilt_region.proofs.Nearby.{window_corner}
 use Rattle.quilt_region.proofs.plans.Quarters.{quarter_with, few_in_quarters}
 use Rattle.quilt_region.proofs.plans.QuarterPlans.{inside_from, quarters_whole, can_be, sorted_is, from_none}
+use Rattle.quilt_region.proofs.Results.{zero_named, zero_bad}
 use Rattle.quilt_region.proofs.quarters.plan_in_block.Goals as goal
 
 memory_sound : (page : _) → Memory ≡ Damaged page → ⊥
@@ -53,3 +54,13 @@ returns-clause-reads g c grid h =
     let few = few_in_quarters n c.args.b c.requires.level.1 c.requires.block c.requires.wide grid in
     reads_more (36 * 4 + 3 * _) (144 + 3 * length (leaves_within n grid c.args.b)) _ _ (omega arith)
     (c.in_ok-plan_quarters.ensures.reads c.if-not-branch.false grid h)
+
+pub returns-in_err-edits-clause-zero : goal.returns-in_err-edits-clause-zero
+returns-in_err-edits-clause-zero g c =
+    let p = err_from_is_err_and c.from_residual-in_err-edits.result c.from_residual-in_err-edits.ensures.1 in
+    rw (p.1, p.2) (λ rs is. zero_named _ c.in_err-edits.ensures.zero)
+
+pub returns-in_err-edits-clause-bad : goal.returns-in_err-edits-clause-bad
+returns-in_err-edits-clause-bad g c =
+    let p = err_from_is_err_and c.from_residual-in_err-edits.result c.from_residual-in_err-edits.ensures.1 in
+    rw (p.1, p.2) (zero_bad _ _ _ _ (zero_named _ c.in_err-edits.ensures.zero))

@@ -2,6 +2,7 @@ use Rattle.std.proofs.Common.{◌*◌, length, ◌∙◌}
 use Rattle.std.proofs.lemmas.Result.{err_from_is_err_and}
 use Rattle.quilt_region.specs.Windows.{leaves_within}
 use Rattle.quilt_region.proofs.Counting.{reads_plain}
+use Rattle.quilt_region.proofs.Results.{zero_bad}
 use Rattle.quilt_region.proofs.quarters.plan_part.Goals as goal
 
 pub returns-in_err-records-clause-sound : goal.returns-in_err-records-clause-sound
@@ -16,3 +17,13 @@ returns-in_err-edits-clause-sound g c =
 
 pub returns-clause-reads : goal.returns-clause-reads
 returns-clause-reads g c grid h = reads_plain 6 (3 * length (leaves_within c.args.level grid c.args.known.now.read)) _ _ (c.in_ok-records.ensures.reads grid h)
+
+pub returns-in_err-edits-clause-zero : goal.returns-in_err-edits-clause-zero
+returns-in_err-edits-clause-zero g c =
+    let p = err_from_is_err_and c.from_residual-in_err-edits.result c.from_residual-in_err-edits.ensures.1 in
+    rw (p.1, p.2) (λ rs is. c.in_err-edits.ensures.zero)
+
+pub returns-in_err-edits-clause-bad : goal.returns-in_err-edits-clause-bad
+returns-in_err-edits-clause-bad g c =
+    let p = err_from_is_err_and c.from_residual-in_err-edits.result c.from_residual-in_err-edits.ensures.1 in
+    rw (p.1, p.2) (zero_bad _ _ _ _ c.in_err-edits.ensures.zero)

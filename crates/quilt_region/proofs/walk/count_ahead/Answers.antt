@@ -6,7 +6,8 @@ use Rattle.quilt_blocks.specs.Cutting.{leaves_by_code}
 use Rattle.quilt_loc.proofs.Blocks.{IsBlock-up}
 use Rattle.quilt_blocks.proofs.Chains.{member_pos}
 use Rattle.quilt_world.proofs.ReadCounts.{reads_then}
-use Rattle.quilt_region.proofs.Walking.{ahead_along, square_end, none_counted, leaf_ahead, count_next, all_counted, counts_most}
+use Rattle.quilt_region.proofs.Walking.{ahead_along, square_end, none_counted, leaf_ahead, count_next, all_counted, counts_most, stands_along}
+use Rattle.quilt_region.proofs.Results.{bad_along}
 use Rattle.quilt_region.proofs.walk.count_ahead.Goals as goal
 
 pub loop-code-init : goal.loop-code-init
@@ -15,6 +16,7 @@ loop-code-init g c = record {
   most = λ k small. (let z : get_or (replicate {A = ℕ} 13 0) k 0 ≡ 0 = get_or-replicate 13 k 0 0 (omega arith) in omega arith);
   seen = λ grid ahead. none_counted (g.S.PageStore.told c.args.store.now) c.args.tree.now c.args.layer c.args.level c.requires.level.1 c.args.cursor.now grid
       (g.S.PageStore.reads c.args.store.now) ahead;
+  stands = λ h. h;
   left = only_reads_same _ tt _ (g.met.S.PageStore.same_time _);
 }
 
@@ -64,6 +66,7 @@ loop-code-preserved g c =
           let step = c.in_ok-leaf.ensures.next d rest block (ahead_along _ _ _ _ _ _ (d ∷ rest) inv.left.told h) in
           (step.0, ahead_along _ _ _ _ _ _ rest (sym inv.left.told) step.1))
           (omega arith) c.exponent_of.ensures.value to c.in_ok-leaf.ensures.reads;
+      stands = λ h. stands_along _ _ _ _ (sym inv.left.told) (c.in_ok-leaf.ensures.stays (stands_along _ _ _ _ inv.left.told (inv.stands h)));
       left = read_on _ g.met.S.PageStore.goes_on _ _ _ inv.left c.in_ok-leaf.ensures.left;
     }
 
@@ -104,3 +107,25 @@ returns-clause-reads g c grid ahead =
 
 pub end_of-code-requires : goal.end_of-code-requires
 end_of-code-requires g c = IsBlock-up c.args.level 12 c.in_ok-leaf.leaf.block c.requires.level.1 c.in_ok-leaf.ensures.block
+
+pub returns-in_err-leaf-clause-zero : goal.returns-in_err-leaf-clause-zero
+returns-in_err-leaf-clause-zero g c =
+    let p = err_from_is_err_and c.from_residual.result c.from_residual.ensures.1 in
+    let inv = c.loop-code.invariant in
+    rw (p.1, p.2) (λ h. c.in_err-leaf.ensures.zero (stands_along _ _ _ _ inv.left.told (inv.stands h)))
+
+pub returns-in_err-end_layer-clause-zero : goal.returns-in_err-end_layer-clause-zero
+returns-in_err-end_layer-clause-zero g c =
+    let p = err_from_is_err_and c.from_residual-in_err-end_layer.result c.from_residual-in_err-end_layer.ensures.1 in
+    let inv = c.loop-code.invariant in
+    rw (p.1, p.2) (λ h. c.in_err-end_layer.ensures.zero (stands_along _ _ _ _ inv.left.told (inv.stands h)))
+
+pub returns-in_err-leaf-clause-bad : goal.returns-in_err-leaf-clause-bad
+returns-in_err-leaf-clause-bad g c =
+    let p = err_from_is_err_and c.from_residual.result c.from_residual.ensures.1 in
+    rw (p.1, p.2) (bad_along _ _ c.args.tree.now _ c.loop-code.invariant.left.told c.in_err-leaf.ensures.bad)
+
+pub returns-in_err-end_layer-clause-bad : goal.returns-in_err-end_layer-clause-bad
+returns-in_err-end_layer-clause-bad g c =
+    let p = err_from_is_err_and c.from_residual-in_err-end_layer.result c.from_residual-in_err-end_layer.ensures.1 in
+    rw (p.1, p.2) (bad_along _ _ c.args.tree.now _ c.loop-code.invariant.left.told c.in_err-end_layer.ensures.bad)

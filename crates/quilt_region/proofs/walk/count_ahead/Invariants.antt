@@ -2,7 +2,7 @@ use Rattle.std.proofs.Common.{◌≡◌, ℕ, ◌-◌, ◌≤◌, length, get_or
 use Rattle.quilt_types.specs.Layers.{Grid}
 use Rattle.quilt_blocks.specs.Cutting.{leaves_by_code}
 use Rattle.quilt_store.specs.Calls.{IsOnlyRead}
-use Rattle.quilt_region.specs.Walks.{IsAhead}
+use Rattle.quilt_region.specs.Walks.{IsAhead, StandsInTree}
 use Rattle.quilt_region.proofs.Walking.{IsCounted}
 use Rattle.quilt_region.proofs.walk.count_ahead.Given as goal
 
@@ -16,5 +16,6 @@ invariant-loop-code g l = record {
   seen : (grid : Grid) → IsAhead (g.S.PageStore.told l.initial.store) l.tree l.initial.cursor l.layer l.level (leaves_by_code l.level grid)
       → IsCounted (g.S.PageStore.told l.initial.store) l.tree l.cursor l.layer l.level (leaves_by_code l.level grid) l.code l.counts
       (g.S.PageStore.reads l.initial.store) (g.S.PageStore.reads l.store);
+  stands : StandsInTree (g.S.PageStore.told l.initial.store) l.tree l.initial.cursor → StandsInTree (g.S.PageStore.told l.initial.store) l.tree l.cursor;
   left : IsOnlyRead g.S.PageStore l.initial.store l.store;
 }

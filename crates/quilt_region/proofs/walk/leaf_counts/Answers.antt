@@ -3,7 +3,8 @@ use Rattle.std.proofs.lemmas.Result.{IfOk-weaker, IfErr-weaker, err_from_is_err_
 use Rattle.quilt_blocks.specs.Cutting.{leaves_by_code}
 use Rattle.quilt_measure.proofs.Parts.{same_leaves}
 use Rattle.quilt_world.proofs.ReadCounts.{reads_then}
-use Rattle.quilt_region.proofs.Walking.{ahead_along, has_side, some_records, walk_begins}
+use Rattle.quilt_region.proofs.Walking.{ahead_along, has_side, some_records, walk_begins, stands_along, stands_sought}
+use Rattle.quilt_region.proofs.Results.{sound_zero, bad_along}
 use Rattle.quilt_region.proofs.walk.leaf_counts.Goals as goal
 
 pub returns-in_err-cursor-clause-sound : goal.returns-in_err-cursor-clause-sound
@@ -43,3 +44,24 @@ returns-clause-reads g c =
     (leaves_by_code c.args.level grid) c.in_ok-cursor.ensures.left.told
     (walk_begins _ _ _ c.args.level grid c.requires.level.1 h c.in_ok-cursor.cursor _ c.first_key.ensures (c.in_ok-cursor.ensures.sought h.records h.tree)))))
     c.count_ahead.ensures.reads
+
+pub returns-in_err-cursor-clause-zero : goal.returns-in_err-cursor-clause-zero
+returns-in_err-cursor-clause-zero g c =
+    let p = err_from_is_err_and c.from_residual.result c.from_residual.ensures.1 in
+    rw (p.1, p.2) (λ rs is. sound_zero _ (c.in_err-cursor.ensures.sound rs is))
+
+pub returns-clause-zero : goal.returns-clause-zero
+returns-clause-zero g c =
+    IfErr-weaker c.count_ahead.result _ _
+    (λ e zero rs is.
+    zero (stands_along _ _ _ _ c.in_ok-cursor.ensures.left.told (stands_sought _ _ _ _ rs is (c.in_ok-cursor.ensures.sought rs is))))
+    c.count_ahead.ensures.zero
+
+pub returns-in_err-cursor-clause-bad : goal.returns-in_err-cursor-clause-bad
+returns-in_err-cursor-clause-bad g c =
+    let p = err_from_is_err_and c.from_residual.result c.from_residual.ensures.1 in
+    rw (p.1, p.2) (λ other. c.in_err-cursor.ensures.bad)
+
+pub returns-clause-bad : goal.returns-clause-bad
+returns-clause-bad g c =
+    IfErr-weaker c.count_ahead.result _ _ (λ e bad. bad_along _ _ c.args.tree.now e c.in_ok-cursor.ensures.left.told bad) c.count_ahead.ensures.bad

@@ -2,7 +2,8 @@ use Rattle.std.proofs.Common.{sym, ◌∙◌, ap}
 use Rattle.std.proofs.lemmas.Option.{same_Some, none-some}
 use Rattle.std.proofs.lemmas.Result.{err_from_is_err_and}
 use Rattle.quilt_blocks.specs.declared.leaf.Leaf.{Leaf}
-use Rattle.quilt_region.proofs.Walking.{goes_over, read_over}
+use Rattle.quilt_region.proofs.Walking.{goes_over, read_over, stands_over}
+use Rattle.quilt_region.proofs.Results.{sound_zero}
 use Rattle.quilt_region.proofs.walk.next_leaf.Goals as goal
 
 pub returns-in_err-r-clause-sound : goal.returns-in_err-r-clause-sound
@@ -31,3 +32,13 @@ returns-in_default-leaf_of-2-clause-sound g c e rest block from h page is =
     let read = read_over c.args.layer c.args.level e _ c.in-Some.r c.leaf_of.result c.requires.layer block over.0 c.in-Some.is
     c.leaf_of.ensures.one in
     none-some _ (sym c.in_default-leaf_of.is ∙ read)
+
+pub returns-in_err-r-clause-zero : goal.returns-in_err-r-clause-zero
+returns-in_err-r-clause-zero g c =
+    let p = err_from_is_err_and c.from_residual.result c.from_residual.ensures.1 in
+    rw (p.1, p.2) (λ h. sound_zero _ (c.in_err-r.ensures.sound h.before h.after h.tree h.stands))
+
+pub returns-in-Some-leaf_of-clause-stays : goal.returns-in-Some-leaf_of-clause-stays
+returns-in-Some-leaf_of-clause-stays g c h =
+    stands_over (g.S.PageStore.told c.args.store.now) c.args.tree.now c.args.cursor.now c.next.new.c h c.in_ok-r.field-0 c.in-Some.r
+    (c.in_ok-r.ensures.next h.before h.after h.tree h.stands) c.in-Some.is

@@ -10,13 +10,14 @@ use Rattle.quilt_loc.proofs.Blocks.{IsBlock-up}
 use Rattle.quilt_loc.proofs.Intervals.{half_codes}
 use Rattle.quilt_blocks.specs.Painting.{Painted}
 use Rattle.quilt_blocks.proofs.Adding.{part_at}
-use Rattle.quilt_btree.specs.Trees.{IsRooted}
+use Rattle.quilt_btree.specs.Trees.{IsRooted, IsTree}
 use Rattle.quilt_region.specs.Regions.{HasRegion}
 use Rattle.quilt_region.specs.Windows.{leaves_within}
 use Rattle.quilt_region.specs.Covers.{cover_of, cover_colour, cost_in}
 use Rattle.quilt_world.proofs.ReadCounts.{reads_then, reads_more}
 use Rattle.quilt_region.proofs.Covers.{beside_cover, met_cover, in_cover, wide_over, half_over, cost_here, cost_quarters, quarter_sum}
 use Rattle.quilt_region.proofs.Parts.{block_room, window_room, HasColours-push}
+use Rattle.quilt_region.proofs.Results.{bad_along}
 use Rattle.quilt_region.proofs.window.+put_window.Goals as goal
 
 abbrev zero_block : Block
@@ -148,3 +149,13 @@ returns-clause-reads g t c grid h =
     let some = sum_by-take-le cost (quarters_of b) c.loop-q.q-index in
     let all = cost_quarters n grid (cover_of c.args.side c.args.w) b c.requires.block wide in
     reads_more (sum_by cost (take c.loop-q.q-index (quarters_of b))) (cost b) _ _ (omega arith) (c.loop-q.invariant.reads grid h)
+
+pub returns-in_err-put_window-clause-zero : goal.returns-in_err-put_window-clause-zero
+returns-in_err-put_window-clause-zero g t c =
+    let p = err_from_is_err_and c.from_residual.result c.from_residual.ensures.1 in
+    rw (p.1, p.2) (λ rs is. c.in_err-put_window.ensures.zero rs (subst (λ told. IsTree told c.args.tree.now rs) (sym c.loop-q.invariant.left.told) is))
+
+pub returns-in_err-put_window-clause-bad : goal.returns-in_err-put_window-clause-bad
+returns-in_err-put_window-clause-bad g t c =
+    let p = err_from_is_err_and c.from_residual.result c.from_residual.ensures.1 in
+    rw (p.1, p.2) (bad_along _ _ c.args.tree.now _ c.loop-q.invariant.left.told c.in_err-put_window.ensures.bad)

@@ -9,6 +9,8 @@ use Rattle.quilt_world.proofs.ReadCounts.{reads_then}
 use Rattle.quilt_region.proofs.Counting.{reads_plain}
 use Rattle.quilt_region.proofs.Covers.{smaller_cut, larger_colour}
 use Rattle.quilt_region.proofs.Parts.{HasColours-push}
+use Rattle.quilt_btree.specs.Trees.{IsTree}
+use Rattle.quilt_region.proofs.Results.{bad_along, zero_bad}
 use Rattle.quilt_region.proofs.window.put_read.Goals as goal
 
 pub returns-in-Ok-clause-colours : goal.returns-in-Ok-clause-colours
@@ -52,3 +54,19 @@ returns-clause-reads g c =
     reads_then 6 (6 + 3 * own) (12 + 3 * own) _ _ _ (omega arith) c.in_ok-leaf.ensures.reads (reads_plain 6 (3 * own) _ _
     (c.in_ok-records.ensures.reads grid after)))
     c.put_records.ensures.end
+
+pub returns-in_err-records-clause-zero : goal.returns-in_err-records-clause-zero
+returns-in_err-records-clause-zero g c =
+    let p = err_from_is_err_and c.from_residual-in_err-records.result c.from_residual-in_err-records.ensures.1 in
+    rw (p.1, p.2) (λ rs is. c.in_err-records.ensures.zero rs (subst (λ told. IsTree told c.args.tree.now rs) (sym c.in_ok-leaf.ensures.left.told) is))
+
+pub returns-clause-zero : goal.returns-clause-zero
+returns-clause-zero g c = if_err_weaker c.put_records.result (λ e zero rs is. zero) c.put_records.ensures.zero
+
+pub returns-in_err-records-clause-bad : goal.returns-in_err-records-clause-bad
+returns-in_err-records-clause-bad g c =
+    let p = err_from_is_err_and c.from_residual-in_err-records.result c.from_residual-in_err-records.ensures.1 in
+    rw (p.1, p.2) (bad_along _ _ c.args.tree.now _ c.in_ok-leaf.ensures.left.told c.in_err-records.ensures.bad)
+
+pub returns-clause-bad : goal.returns-clause-bad
+returns-clause-bad g c = if_err_weaker c.put_records.result (λ e zero. zero_bad e _ _ _ zero) c.put_records.ensures.zero
