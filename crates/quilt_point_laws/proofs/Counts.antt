@@ -1,5 +1,5 @@
 -- One point more: how many a block holds, and what the test of a point layer's blocks makes of it.
-use Rattle.std.proofs.Common.{◌≡◌, ℕ, ◌+◌, ◌<◌, ◌≤◌, ◌⊎◌, ◌↔◌, Bool, true, false, cond, List, [], ◌∷◌, length, Some, None, refl, sym, ◌∙◌, ap, subst, inl, inr}
+use Rattle.std.proofs.Common.{◌≡◌, ℕ, ◌+◌, ◌<◌, ◌≤◌, ◌⊎◌, ◌↔◌, Bool, true, false, cond, ◌∷◌, Some, None, refl, sym, ◌∙◌, ap, subst, inl, inr}
 use Rattle.std.proofs.Common.{⊎_elim, arith, Contains, filter, le-leb, leb-true}
 use Rattle.std.specs.FinMap as finmap
 use Rattle.std.specs.Cmp.{on_total}
@@ -9,7 +9,7 @@ use Rattle.quilt_types.specs.declared.plane.Pixel.{Pixel}
 use Rattle.quilt_types.specs.declared.plane.Block.{Block}
 use Rattle.quilt_types.specs.Plane.{in_block, pixel_cmp, Holds, IsBlock, Within}
 use Rattle.quilt_types.specs.Layers.{PointMap}
-use Rattle.quilt_types.specs.Quadtrees.{points_in, holds_few}
+use Rattle.quilt_types.specs.Quadtrees.{occupancy, holds_few}
 use Rattle.quilt_spell.specs.Apart.{Apart}
 use Rattle.quilt_loc.proofs.Members.{Contains-here, Contains-there, Contains-cons_cases, Contains-filter, Contains-filter_from}
 use Rattle.quilt_loc.proofs.Blocks.{Holds-from, in_block-true}
@@ -20,6 +20,7 @@ use Rattle.quilt_loc.proofs.PlaneOrders.{pixel_total}
 use Rattle.quilt_spell.proofs.facts.FactKeys.{pixel_same, one_label}
 use Rattle.quilt_blocks.proofs.Maximal.{GoesDown}
 use Rattle.quilt_point_laws.proofs.Narrowing.{Narrows}
+use Rattle.quilt_spell.proofs.facts.LayerAlone.{few_if_one}
 
 -- the second map has the point besides those of the first, which has none at its pixel
 pub record Comes (small big : PointMap) (p : Pixel) (label : ℕ) : Type 0 where
@@ -93,24 +94,16 @@ one_le true true h = omega arith
 one_le true false h = let e : true ≡ false = sym (h refl) in cc
 one_le false t h = omega arith
 
-pub points_in_le : (points : PointMap) (a b : Block) → Within a b → points_in points a ≤ points_in points b
-points_in_le points a b w =
+pub occupancy_le : (points : PointMap) (a b : Block) → Within a b → occupancy points a ≤ occupancy points b
+occupancy_le points a b w =
     sum_by-le-sum_by (λ e. cond (in_block a e.0) 1 0) (λ e. cond (in_block b e.0) 1 0) (finmap.entries points)
     (λ e. one_le (in_block a e.0) (in_block b e.0) (λ h. in_block-true b e.0 (Within-holds a b e.0 w (Holds-from a e.0 h))))
 
 pub few_down : (n capacity : ℕ) (points : PointMap) → GoesDown n (holds_few capacity points)
 few_down n capacity points = record {
-  down = λ a b ha hb w u. let l = points_in_le points a b w in let few = leb-true (points_in points b) capacity u in
-      le-leb (points_in points a) capacity (omega arith);
+  down = λ a b ha hb w u. let l = occupancy_le points a b w in let few = leb-true (occupancy points b) capacity u in
+      le-leb (occupancy points a) capacity (omega arith);
 }
-
--- elements that are all one are one at most
-most_one : {X : Type 0} (xs : List X) → Apart xs → ((a b : X) → Contains xs a → Contains xs b → a ≡ b) → length xs ≤ 1
-most_one [] h one = omega arith
-most_one (x ∷ []) h one = omega arith
-most_one (x ∷ (y ∷ ys)) h one =
-    let d = Contains-here y ys in
-    absurd (h.0 (subst (Contains (y ∷ ys)) (one y x (Contains-there x (y ∷ ys) y d) (Contains-here x (y ∷ ys))) d))
 
 one_pixel : (b : Block) → b.side ≡ 1 → (p q : Pixel) → in_block b p ≡ true → in_block b q ≡ true → p ≡ q
 one_pixel b s p q hp hq =
@@ -126,19 +119,19 @@ pub few_pixel : (n capacity : ℕ) (points : PointMap) → 1 ≤ capacity → (b
 few_pixel n capacity points least b hb s =
     let test : Pixel × ℕ → Bool = λ e. in_block b e.0 in
     let es = finmap.entries points in
-    let most = most_one (filter test es) (Apart-filter test es (entries_apart points)) (λ d e c k.
+    let most = few_if_one (filter test es) (Apart-filter test es (entries_apart points)) (λ d e c k.
     let w = Contains-filter_from test es d c in
     let v = Contains-filter_from test es e k in
     let x = one_pixel b s d.0 e.0 w.1 v.1 in
     let y = one_label points d.0 e.0 d.1 e.1 w.0 v.0 x in
     λ i. (x i, y i)) in
     let long = length-filter test es in
-    le-leb (points_in points b) capacity (omega arith)
+    le-leb (occupancy points b) capacity (omega arith)
 
 module _ (small big : PointMap) (p : Pixel) (label : ℕ) (h : Comes small big p label) where
   -- one more where the block holds the pixel
-  pub points_in-more : (b : Block) → in_block b p ≡ true → points_in big b ≡ points_in small b + 1
-  points_in-more b on =
+  pub occupancy-more : (b : Block) → in_block b p ≡ true → occupancy big b ≡ occupancy small b + 1
+  occupancy-more b on =
       let test : Pixel × ℕ → Bool = λ e. in_block b e.0 in
       let s = finmap.entries small in
       let g = finmap.entries big in
@@ -159,8 +152,8 @@ module _ (small big : PointMap) (p : Pixel) (label : ℕ) (h : Comes small big p
       omega arith
 
   -- and as many elsewhere
-  pub points_in-same : (b : Block) → (Holds b p → ⊥) → points_in big b ≡ points_in small b
-  points_in-same b out =
+  pub occupancy-same : (b : Block) → (Holds b p → ⊥) → occupancy big b ≡ occupancy small b
+  occupancy-same b out =
       let test : Pixel × ℕ → Bool = λ e. in_block b e.0 in
       let s = finmap.entries small in
       let g = finmap.entries big in
@@ -179,21 +172,21 @@ module _ (small big : PointMap) (p : Pixel) (label : ℕ) (h : Comes small big p
   pub few_narrows : (capacity : ℕ) → Narrows (holds_few capacity small) (holds_few capacity big) p
   few_narrows capacity = record {
     less = λ b u.
-        let few = leb-true (points_in big b) capacity u in
-        ⊎_elim (λ t. let m = points_in-more b t in le-leb (points_in small b) capacity (omega arith))
-        (λ f. let m = points_in-same b (λ on. both_ways (in_block b p) f (in_block-true b p on)) in
-        le-leb (points_in small b) capacity (omega arith)) (cases_Bool (in_block b p));
+        let few = leb-true (occupancy big b) capacity u in
+        ⊎_elim (λ t. let m = occupancy-more b t in le-leb (occupancy small b) capacity (omega arith))
+        (λ f. let m = occupancy-same b (λ on. both_ways (in_block b p) f (in_block-true b p on)) in
+        le-leb (occupancy small b) capacity (omega arith)) (cases_Bool (in_block b p));
     same = λ b out u.
-        let few = leb-true (points_in small b) capacity u in
-        let m = points_in-same b out in
-        le-leb (points_in big b) capacity (omega arith);
+        let few = leb-true (occupancy small b) capacity u in
+        let m = occupancy-same b out in
+        le-leb (occupancy big b) capacity (omega arith);
   }
 
   -- there is room for the point, or there is none
-  pub room_passes : (capacity : ℕ) (b : Block) → Holds b p → points_in small b < capacity → holds_few capacity big b ≡ true
-  room_passes capacity b on lt = let m = points_in-more b (in_block-true b p on) in le-leb (points_in big b) capacity (omega arith)
+  pub room_passes : (capacity : ℕ) (b : Block) → Holds b p → occupancy small b < capacity → holds_few capacity big b ≡ true
+  room_passes capacity b on lt = let m = occupancy-more b (in_block-true b p on) in le-leb (occupancy big b) capacity (omega arith)
 
-  pub full_fails : (capacity : ℕ) (b : Block) → Holds b p → capacity ≤ points_in small b → holds_few capacity big b ≡ false
+  pub full_fails : (capacity : ℕ) (b : Block) → Holds b p → capacity ≤ occupancy small b → holds_few capacity big b ≡ false
   full_fails capacity b on full =
-      let m = points_in-more b (in_block-true b p on) in
-      ⊎_elim (λ t. let few = leb-true (points_in big b) capacity t in absurd (omega arith)) (λ f. f) (cases_Bool (holds_few capacity big b))
+      let m = occupancy-more b (in_block-true b p on) in
+      ⊎_elim (λ t. let few = leb-true (occupancy big b) capacity t in absurd (omega arith)) (λ f. f) (cases_Bool (holds_few capacity big b))

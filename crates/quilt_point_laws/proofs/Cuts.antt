@@ -6,7 +6,7 @@ use Rattle.quilt_types.specs.declared.plane.Block.{Block}
 use Rattle.quilt_types.specs.declared.plane.Pixel.{Pixel}
 use Rattle.quilt_types.specs.Plane.{corner, quarters_of, in_block, IsBlock, Within}
 use Rattle.quilt_types.specs.Layers.{PointMap}
-use Rattle.quilt_types.specs.Facts.{Fact, HoldsPoint, HoldsNoPoint, or_none, point_facts}
+use Rattle.quilt_types.specs.Facts.{Fact, HoldsPoint, HoldsNoPoint, point_facts}
 use Rattle.quilt_blocks.specs.Cutting.{cut}
 use Rattle.quilt_spell.specs.Apart.{Apart}
 use Rattle.quilt_loc.proofs.Members.{Contains-nil, Contains-cons_cases, Contains-flat_map_from}
@@ -16,6 +16,7 @@ use Rattle.quilt_loc.proofs.Quartered.{quarters_are}
 use Rattle.quilt_blocks.proofs.Maximal.{Within-self}
 use Rattle.quilt_point_laws.proofs.Counts.{entries_apart}
 use Rattle.quilt_point_laws.proofs.OnBlocks.{on_one, on_from}
+use Rattle.quilt_spell.proofs.facts.FactKeys.{or_none_apart}
 
 pub Apart-one : {X : Type 0} (x : X) → Apart (x ∷ [])
 Apart-one x = (λ c. Contains-nil x c, tt)
@@ -97,10 +98,6 @@ module _ (n : ℕ) (fits : Block → Bool) where
   pub cut_apart : (k : ℕ) (b : Block) → IsBlock n b → b.side ≡ 2 ^ k → Apart (cut fits k b)
   cut_apart zero b hb s = Apart-one b
   cut_apart (suc k) b hb s = apart_step k b hb s (λ r hr sr. cut_apart k r hr sr) (fits b)
-
-pub or_none_apart : (none : Fact) (fs : List Fact) → Apart fs → Apart (or_none none fs)
-or_none_apart none [] h = Apart-one none
-or_none_apart none (f ∷ fs) h = h
 
 pub point_facts_apart : (points : PointMap) (b : Block) → Apart (point_facts points b)
 point_facts_apart points b =

@@ -6,7 +6,7 @@ use Rattle.quilt_types.specs.declared.plane.Block.{Block}
 use Rattle.quilt_types.specs.declared.plane.Pixel.{Pixel}
 use Rattle.quilt_types.specs.Plane.{pixel_cmp, Holds}
 use Rattle.quilt_types.specs.Layers.{Points, PointMap}
-use Rattle.quilt_types.specs.Quadtrees.{points_in, holds_few, point_blocks}
+use Rattle.quilt_types.specs.Quadtrees.{occupancy, holds_few, point_blocks}
 use Rattle.quilt_types.specs.Facts.{HoldsPoint, facts}
 use Rattle.quilt_loc.proofs.Blocks.{in_block-true}
 use Rattle.quilt_spell.proofs.Maps.{entry_from_get, get_from_entry}
@@ -34,7 +34,7 @@ find_is n capacity points p label b mb hb = (
 module _ (small big : PointMap) (p : Pixel) (label : ℕ) (h : Comes small big p label) (n capacity : ℕ) (b c : Block)
     (gb : IsMaximal n (holds_few capacity big) b) (hb : Holds b p) (gc : IsMaximal n (holds_few capacity small) c) (hc : Holds c p) where
   -- where the block without the point has room, it is the one of before: nothing merges
-  pub no_merge : points_in small c < capacity → b ≡ c
+  pub no_merge : occupancy small c < capacity → b ≡ c
   no_merge room =
       let u = room_passes small big p label h capacity c hc room in
       let ds = few_down n capacity small in
@@ -43,13 +43,13 @@ module _ (small big : PointMap) (p : Pixel) (label : ℕ) (h : Comes small big p
       one_maximal n (holds_few capacity big) db b c p gb tc hb hc
 
   -- what merges holds as many as there may be
-  pub merge_holds : (b ≡ c → ⊥) → points_in small c ≡ capacity
+  pub merge_holds : (b ≡ c → ⊥) → occupancy small c ≡ capacity
   merge_holds other =
-      let few = leb-true (points_in small c) capacity gc.passes in
-      ⊎_elim (λ lt. absurd (other (no_merge lt))) (λ ge. omega arith) (cases_lt (points_in small c) capacity)
+      let few = leb-true (occupancy small c) capacity gc.passes in
+      ⊎_elim (λ lt. absurd (other (no_merge lt))) (λ ge. omega arith) (cases_lt (occupancy small c) capacity)
 
   -- and the block of before was another
-  pub merge_is : points_in small c ≡ capacity → b ≡ c → ⊥
+  pub merge_is : occupancy small c ≡ capacity → b ≡ c → ⊥
   merge_is e is =
       let f = full_fails small big p label h capacity c hc (omega arith) in
       both_ways (holds_few capacity big c) f (ap (holds_few capacity big) (sym is) ∙ gb.passes)

@@ -8,7 +8,7 @@ use Rattle.quilt_types.specs.declared.plane.Block.{Block}
 use Rattle.quilt_types.specs.declared.plane.Pixel.{Pixel}
 use Rattle.quilt_types.specs.Plane.{corner, in_block, block_cmp, IsBlock, Within}
 use Rattle.quilt_types.specs.Layers.{Points, PointMap}
-use Rattle.quilt_types.specs.Quadtrees.{points_in, holds_few, point_blocks}
+use Rattle.quilt_types.specs.Quadtrees.{occupancy, holds_few, point_blocks}
 use Rattle.quilt_types.specs.Facts.{Fact, HoldsPoint, HoldsNoPoint, point_facts, facts}
 use Rattle.quilt_types.specs.Codes.{depth}
 use Rattle.quilt_loc.proofs.Members.{Contains-nil, Contains-here, Contains-there, Contains-cons_cases, Contains-map, Contains-map_from, Contains-filter}
@@ -115,13 +115,13 @@ module _ (small big : PointMap) (news : List (Pixel × ℕ)) (h : Gains small bi
           );
         }
 
-    count : length g.held + length g.news ≡ points_in big g.block
+    count : length g.held + length g.news ≡ occupancy big g.block
     count =
         let l = AreIn-length big g.block (g.news ++ g.held) with_news in
         let s = length-append g.news g.held in
         omega arith
 
-    before : length g.held ≡ points_in small g.block
+    before : length g.held ≡ occupancy small g.block
     before = AreIn-length small g.block g.held w.held
 
     room_gone : (f : Fact) → Contains (cond (eqb (length g.held) 0) (HoldsNoPoint g.block ∷ []) []) f ↔ ((f ≡ HoldsNoPoint g.block) × IsBare small g.block)
@@ -163,7 +163,7 @@ module _ (small big : PointMap) (news : List (Pixel × ℕ)) (h : Gains small bi
     changed_by true t =
         let le = leb-true (length g.held + length g.news) capacity t in
         let same = count in
-        let fits : holds_few capacity big g.block ≡ true = le-leb (points_in big g.block) capacity (omega arith) in
+        let fits : holds_few capacity big g.block ≡ true = le-leb (occupancy big g.block) capacity (omega arith) in
         let one = w.some in
         let a = (w.among one.0).0 one.1 in
         record {
@@ -176,7 +176,7 @@ module _ (small big : PointMap) (news : List (Pixel × ℕ)) (h : Gains small bi
     changed_by false f =
         let same = count in
         let fails : holds_few capacity big g.block ≡ false =
-        ⊎_elim (λ t. let le = leb-true (points_in big g.block) capacity t in
+        ⊎_elim (λ t. let le = leb-true (occupancy big g.block) capacity t in
         absurd (both_ways (nat_le (length g.held + length g.news) capacity) f (le-leb (length g.held + length g.news) capacity (omega arith))))
         (λ u. u) (cases_Bool (holds_few capacity big g.block)) in
         let test : Pixel × ℕ → Bool = λ e. in_block g.block e.0 in

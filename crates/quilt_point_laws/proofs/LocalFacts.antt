@@ -8,7 +8,7 @@ use Rattle.quilt_types.specs.declared.plane.Pixel.{Pixel}
 use Rattle.quilt_types.specs.declared.plane.Block.{Block}
 use Rattle.quilt_types.specs.Plane.{in_block, Holds, Within}
 use Rattle.quilt_types.specs.Layers.{Points, PointMap}
-use Rattle.quilt_types.specs.Quadtrees.{points_in, holds_few}
+use Rattle.quilt_types.specs.Quadtrees.{occupancy, holds_few}
 use Rattle.quilt_types.specs.Facts.{Fact, IsOfKind, HoldsPoint, HoldsNoPoint, point_facts, facts}
 use Rattle.quilt_blocks.specs.Cutting.{cut}
 use Rattle.quilt_point_laws.specs.Swapping.{Swaps}
@@ -25,7 +25,7 @@ pub Swaps-turned : (old new gone come : List Fact) → Swaps old new gone come �
 Swaps-turned old new gone come s = record { goes = s.comes; comes = s.goes }
 
 -- a block with no points counts none
-pub bare_from : (points : PointMap) (b : Block) → points_in points b ≡ 0 → IsBare points b
+pub bare_from : (points : PointMap) (b : Block) → occupancy points b ≡ 0 → IsBare points b
 bare_from points b z q k c t =
     let test : Pixel × ℕ → Bool = λ e. in_block b e.0 in
     let m = Contains-filter test (finmap.entries points) (q, k) c t in
@@ -37,7 +37,7 @@ empty_list : (xs : List (Pixel × ℕ)) → ((e : Pixel × ℕ) → Contains xs 
 empty_list [] h = refl
 empty_list (x ∷ xs) h = absurd (h x (Contains-here x xs))
 
-pub bare_is : (points : PointMap) (b : Block) → IsBare points b → points_in points b ≡ 0
+pub bare_is : (points : PointMap) (b : Block) → IsBare points b → occupancy points b ≡ 0
 bare_is points b bare =
     let test : Pixel × ℕ → Bool = λ e. in_block b e.0 in
     sym (length-filter test (finmap.entries points))
@@ -100,7 +100,7 @@ module _ (small big : PointMap) (p : Pixel) (label : ℕ) (h : Comes small big p
     the_block b gb on = one_maximal n (holds_few capacity small) ds b c p gb gc on hc
 
     -- ---- the block has room
-    module _ (room : points_in small c < capacity) where
+    module _ (room : occupancy small c < capacity) where
       passes : holds_few capacity big c ≡ true
       passes = room_passes small big p label h capacity c hc room
 
@@ -140,23 +140,23 @@ module _ (small big : PointMap) (p : Pixel) (label : ℕ) (h : Comes small big p
         λ m. ⊎_elim (λ e. cc) (λ w. never_new w.block c w.on) (fact_from n capacity small (HoldsPoint c p label) m),
       )
 
-      gone_by : (t : Bool) → eqb (points_in small c) 0 ≡ t → (f : Fact) → Contains (cond t (HoldsNoPoint c ∷ []) []) f
+      gone_by : (t : Bool) → eqb (occupancy small c) 0 ≡ t → (f : Fact) → Contains (cond t (HoldsNoPoint c ∷ []) []) f
           ↔ (Contains before f × (Contains after f → ⊥))
       gone_by true t f = (
         λ m. ⊎_elim
-            (λ e. subst (λ (z : Fact). Contains before z × (Contains after z → ⊥)) e (room_goes_is (bare_from small c (eqb-true (points_in small c) 0 t))))
+            (λ e. subst (λ (z : Fact). Contains before z × (Contains after z → ⊥)) e (room_goes_is (bare_from small c (eqb-true (occupancy small c) 0 t))))
             (λ no. absurd (Contains-nil f no)) (Contains-cons_cases (HoldsNoPoint c) [] f m),
         λ w. subst (Contains (HoldsNoPoint c ∷ [])) (sym (room_goes_from f w.0 w.1).0) (Contains-here (HoldsNoPoint c) []),
       )
       gone_by false t f = (
         λ m. absurd (Contains-nil f m),
-        λ w. absurd (both_ways (eqb (points_in small c) 0) t (eq-eqb (points_in small c) 0 (bare_is small c (room_goes_from f w.0 w.1).1))),
+        λ w. absurd (both_ways (eqb (occupancy small c) 0) t (eq-eqb (occupancy small c) 0 (bare_is small c (room_goes_from f w.0 w.1).1))),
       )
 
       -- the blocks stay; one fact comes, and the one that there was no point goes
       pub room_swaps : Swaps before after (room_gone small c) (room_come c p label)
       room_swaps = record {
-        goes = λ f. gone_by (eqb (points_in small c) 0) refl f;
+        goes = λ f. gone_by (eqb (occupancy small c) 0) refl f;
         comes = λ f. (
           λ m. ⊎_elim (λ e. subst (λ (z : Fact). Contains after z × (Contains before z → ⊥)) e room_comes_is) (λ no. absurd (Contains-nil f no))
               (Contains-cons_cases (HoldsPoint c p label) [] f m),
@@ -165,7 +165,7 @@ module _ (small big : PointMap) (p : Pixel) (label : ℕ) (h : Comes small big p
       }
 
     -- ---- the block is full
-    module _ (full : capacity ≤ points_in small c) where
+    module _ (full : capacity ≤ occupancy small c) where
       pub fails : holds_few capacity big c ≡ false
       fails = full_fails small big p label h capacity c hc full
 

@@ -1,15 +1,15 @@
 -- The facts of a point layer: each is on one of its blocks, and says of it what is true.
-use Rattle.std.proofs.Common.{◌≡◌, ℕ, ◌⊎◌, Bool, true, List, [], ◌∷◌, map, refl, sym, ◌∙◌, subst, inl, inr, ⊎_elim, Contains, filter, flat_map}
+use Rattle.std.proofs.Common.{◌≡◌, ℕ, ◌⊎◌, Bool, true, List, [], map, refl, sym, ◌∙◌, subst, inl, inr, ⊎_elim, Contains, filter, flat_map}
 use Rattle.std.specs.FinMap as finmap
 use Rattle.quilt_types.specs.declared.plane.Pixel.{Pixel}
 use Rattle.quilt_types.specs.declared.plane.Block.{Block}
 use Rattle.quilt_types.specs.Plane.{in_block}
 use Rattle.quilt_types.specs.Layers.{Points, PointMap}
 use Rattle.quilt_types.specs.Quadtrees.{holds_few, point_blocks}
-use Rattle.quilt_types.specs.Facts.{Fact, IsOfKind, HoldsPoint, HoldsNoPoint, or_none, point_facts, facts}
+use Rattle.quilt_types.specs.Facts.{Fact, IsOfKind, HoldsPoint, HoldsNoPoint, point_facts, facts}
 use Rattle.quilt_loc.proofs.Members.{Contains-nil, Contains-here, Contains-there, Contains-cons_cases, Contains-map, Contains-map_from, Contains-filter}
 use Rattle.quilt_loc.proofs.Members.{Contains-filter_from, Contains-flat_map, Contains-flat_map_from}
-use Rattle.quilt_spell.proofs.facts.FactMembers.{or_none_member}
+use Rattle.quilt_spell.proofs.facts.FactMembers.{or_none_member, or_none_some, or_none_none}
 use Rattle.quilt_blocks.proofs.Maximal.{IsMaximal, IsMaximal-from, Contains-maximal}
 
 -- no point of the block
@@ -26,14 +26,6 @@ pub on_one : (points others : PointMap) (b d : Block) (f : Fact) → IsOn points
 on_one points others b d (HoldsPoint x q k) h g = sym h.0 ∙ g.0
 on_one points others b d (HoldsNoPoint x) h g = sym h.0 ∙ g.0
 on_one points others b d f h g = absurd h
-
-or_none_some : (none : Fact) (fs : List Fact) (f : Fact) → Contains fs f → Contains (or_none none fs) f
-or_none_some none [] f c = absurd (Contains-nil f c)
-or_none_some none (g ∷ fs) f c = c
-
-or_none_none : (none : Fact) (fs : List Fact) → ((f : Fact) → Contains fs f → ⊥) → Contains (or_none none fs) none
-or_none_none none [] h = Contains-here none []
-or_none_none none (g ∷ fs) h = absurd (h g (Contains-here g fs))
 
 nothing_in : (fs : List Fact) → fs ≡ [] → (f : Fact) → Contains fs f → ⊥
 nothing_in fs e f c = Contains-nil f (subst (λ (l : List Fact). Contains l f) e c)

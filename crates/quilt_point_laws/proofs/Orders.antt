@@ -14,7 +14,8 @@ use Rattle.quilt_spell.proofs.Lists.{Apart-filter, Apart-map, Apart-flat_map, sa
 use Rattle.quilt_spell.proofs.facts.FactMembers.{or_none_member}
 use Rattle.quilt_loc.proofs.Quartered.{quarters_are}
 use Rattle.quilt_blocks.proofs.Maximal.{Within-self}
-use Rattle.quilt_point_laws.proofs.Cuts.{quarters_apart, or_none_apart}
+use Rattle.quilt_point_laws.proofs.Cuts.{quarters_apart}
+use Rattle.quilt_spell.proofs.facts.FactKeys.{or_none_apart}
 
 abbrev Held : Type 0
 Held = List (Pixel × ℕ)

@@ -9,7 +9,7 @@ use Rattle.quilt_types.specs.declared.plane.Block.{Block}
 use Rattle.quilt_types.specs.declared.plane.Pixel.{Pixel}
 use Rattle.quilt_types.specs.Plane.{in_block, is_pixel, Holds}
 use Rattle.quilt_types.specs.Layers.{Points, PointMap, IsPointMap}
-use Rattle.quilt_types.specs.Quadtrees.{points_in, holds_few, point_blocks}
+use Rattle.quilt_types.specs.Quadtrees.{occupancy, holds_few, point_blocks}
 use Rattle.quilt_types.specs.Facts.{Fact, HoldsPoint, HoldsNoPoint, point_facts, facts}
 use Rattle.quilt_record.specs.Records.{record_of}
 use Rattle.quilt_point_laws.specs.Swapping.{Swaps}
@@ -36,7 +36,7 @@ use Rattle.quilt_point_laws.proofs.Cuts.{Apart-one}
 use Rattle.quilt_point_laws.proofs.Orders.{held_same, held_apart, spread_same, spread_apart}
 use Rattle.quilt_point_laws.proofs.Leads.{points_lead}
 
-pub AreIn-length : (points : PointMap) (b : Block) (held : List (Pixel × ℕ)) → AreIn points b held → length held ≡ points_in points b
+pub AreIn-length : (points : PointMap) (b : Block) (held : List (Pixel × ℕ)) → AreIn points b held → length held ≡ occupancy points b
 AreIn-length points b held h =
     let test : Pixel × ℕ → Bool = λ e. in_block b e.0 in
     same_length held (filter test (finmap.entries points)) h.once (Apart-filter test (finmap.entries points) (entries_apart points)) h.members
@@ -70,7 +70,7 @@ apart_by false f = tt
 module _ (small big : PointMap) (p : Pixel) (label : ℕ) (h : Comes small big p label) (n capacity : ℕ) (least : 1 ≤ capacity)
     (c : Block) (gc : IsMaximal n (holds_few capacity small) c) (hc : Holds c p) (k : ℕ) (s : c.side ≡ 2 ^ k)
     (held : List (Pixel × ℕ)) (are : AreIn small c held) where
-  long : length held ≡ points_in small c
+  long : length held ≡ occupancy small c
   long = AreIn-length small c held are
 
   with_new : AreIn big c ((p, label) ∷ held)

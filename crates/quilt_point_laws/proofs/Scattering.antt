@@ -8,7 +8,7 @@ use Rattle.quilt_types.specs.declared.plane.Block.{Block}
 use Rattle.quilt_types.specs.declared.plane.Pixel.{Pixel}
 use Rattle.quilt_types.specs.Plane.{corner, in_block, IsBlock, Within}
 use Rattle.quilt_types.specs.Layers.{Points, PointMap}
-use Rattle.quilt_types.specs.Quadtrees.{points_in, holds_few}
+use Rattle.quilt_types.specs.Quadtrees.{occupancy, holds_few}
 use Rattle.quilt_types.specs.Facts.{Fact, IsOfKind, HoldsPoint, HoldsNoPoint, point_facts, facts}
 use Rattle.quilt_blocks.specs.Cutting.{cut}
 use Rattle.quilt_point_laws.specs.Swapping.{Swaps}
@@ -44,8 +44,8 @@ module _ (n : ℕ) (wide thin : Block → Bool) (less : (b : Block) → thin b �
   cut_one c gc k s e = cut_law n thin dt pixel k c gc.block s (λ lt t. gc.last lt (less _ t)) e
 
 module _ (small big : PointMap) (more : (e : Pixel × ℕ) → Contains (finmap.entries small) e → Contains (finmap.entries big) e) where
-  points_in_more : (b : Block) → points_in small b ≤ points_in big b
-  points_in_more b =
+  occupancy_more : (b : Block) → occupancy small b ≤ occupancy big b
+  occupancy_more b =
       let test : Pixel × ℕ → Bool = λ e. in_block b e.0 in
       let es = finmap.entries small in
       let gs = finmap.entries big in
@@ -56,7 +56,7 @@ module _ (small big : PointMap) (more : (e : Pixel × ℕ) → Contains (finmap.
       omega arith
 
   few_less : (capacity : ℕ) (b : Block) → holds_few capacity big b ≡ true → holds_few capacity small b ≡ true
-  few_less capacity b u = let few = leb-true (points_in big b) capacity u in let m = points_in_more b in le-leb (points_in small b) capacity (omega arith)
+  few_less capacity b u = let few = leb-true (occupancy big b) capacity u in let m = occupancy_more b in le-leb (occupancy small b) capacity (omega arith)
 
   -- no new point is in the block
   abbrev pub IsOld : Block → Type 0
@@ -71,8 +71,8 @@ module _ (small big : PointMap) (more : (e : Pixel × ℕ) → Contains (finmap.
       (λ e m. let w = Contains-filter_from test gs e m in Contains-filter test es e (old e w.0 w.1) w.1) in
       let ls = length-filter test es in
       let lg = length-filter test gs in
-      let few = leb-true (points_in small c) capacity u in
-      le-leb (points_in big c) capacity (omega arith)
+      let few = leb-true (occupancy small c) capacity u in
+      le-leb (occupancy big c) capacity (omega arith)
 
   old_on : (c : Block) → IsOld c → (f : Fact) → IsOn small c f ↔ IsOn big c f
   old_on c old f = (there f, back f)

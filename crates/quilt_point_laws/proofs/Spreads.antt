@@ -1,6 +1,6 @@
 -- The recursion over quarters on a list of points gives the facts of the blocks that the definition has.
-use Rattle.std.proofs.Common.{◌≡◌, ℕ, zero, suc, ◌^◌, Bool, true, false, cond, nat_le, List, [], ◌∷◌, ◌++◌, length, refl, sym, ◌∙◌, ap, ap₂, arith, Contains}
-use Rattle.std.proofs.Common.{filter, flat_map, pow-suc, pow_pos, append_assoc}
+use Rattle.std.proofs.Common.{◌≡◌, ℕ, zero, suc, ◌^◌, Bool, true, false, cond, nat_le, List, [], ◌∷◌, ◌++◌, length, refl, sym, ◌∙◌, ap, arith}
+use Rattle.std.proofs.Common.{filter, flat_map, pow-suc, pow_pos}
 use Rattle.std.specs.FinMap as finmap
 use Rattle.std.proofs.lemmas.List.Sums.{length-filter}
 use Rattle.std.proofs.lemmas.List.Concat.{flat_map-append}
@@ -12,28 +12,10 @@ use Rattle.quilt_types.specs.Quadtrees.{holds_few}
 use Rattle.quilt_types.specs.Facts.{point_facts}
 use Rattle.quilt_blocks.specs.Cutting.{cut}
 use Rattle.quilt_point_laws.specs.Spreading.{spread}
-use Rattle.quilt_loc.proofs.Members.{Contains-here, Contains-there}
 use Rattle.quilt_loc.proofs.Blocks.{Holds-from, in_block-true}
 use Rattle.quilt_loc.proofs.Nesting.{Within-holds}
 use Rattle.quilt_loc.proofs.Quartered.{quarters_are}
-
-twice_step : {X : Type 0} (p q : X → Bool) (x : X) (b : Bool) (xs : List X) → p x ≡ b → (q x ≡ true → p x ≡ true)
-    → filter q (cond b (x ∷ xs) xs) ≡ cond (q x) (x ∷ filter q xs) (filter q xs)
-twice_step p q x true xs e h = refl
-twice_step p q x false xs e h = out (q x) refl
-  where
-    out : (c : Bool) → q x ≡ c → filter q xs ≡ cond c (x ∷ filter q xs) (filter q xs)
-    out true t = let z : true ≡ false = sym (h t) ∙ e in cc
-    out false f = refl
-
--- what passes both tests passes the narrower one
-pub filter_twice : {X : Type 0} (p q : X → Bool) → ((x : X) → q x ≡ true → p x ≡ true) → (xs : List X) → filter q (filter p xs) ≡ filter q xs
-filter_twice p q h [] = refl
-filter_twice p q h (x ∷ xs) = twice_step p q x (p x) (filter p xs) refl (h x) ∙ ap (λ l. cond (q x) (x ∷ l) l) (filter_twice p q h xs)
-
-flat_map_same : {X Y : Type 0} (f g : X → List Y) (xs : List X) → ((x : X) → Contains xs x → f x ≡ g x) → flat_map f xs ≡ flat_map g xs
-flat_map_same f g [] h = refl
-flat_map_same f g (x ∷ xs) h = ap₂ (λ a b. a ++ b) (h x (Contains-here x xs)) (flat_map_same f g xs (λ y c. h y (Contains-there x xs y c)))
+use Rattle.quilt_types.proofs.Lists.{filter_twice, flat_map_same}
 
 flat_map_twice : {X Y Z : Type 0} (f : Y → List Z) (g : X → List Y) (xs : List X) → flat_map f (flat_map g xs) ≡ flat_map (λ x. flat_map f (g x)) xs
 flat_map_twice f g [] = refl

@@ -3,13 +3,13 @@ use Rattle.std.specs.Prelude.{ℕ, List, [], ◌∷◌, flat_map, ◌==◌, if�
 use Rattle.quilt_types.specs.declared.plane.Block.{Block}
 use Rattle.quilt_types.specs.declared.plane.Pixel.{Pixel}
 use Rattle.quilt_types.specs.Layers.{PointMap}
-use Rattle.quilt_types.specs.Quadtrees.{points_in, holds_few}
+use Rattle.quilt_types.specs.Quadtrees.{occupancy, holds_few}
 use Rattle.quilt_types.specs.Facts.{Fact, HoldsPoint, HoldsNoPoint, point_facts}
 use Rattle.quilt_blocks.specs.Cutting.{cut}
 
 -- where the block has room: that it holds no point, if it held none
 abbrev pub room_gone : PointMap → Block → List Fact
-room_gone small c = if points_in small c == 0 then HoldsNoPoint c ∷ [] else []
+room_gone small c = if occupancy small c == 0 then HoldsNoPoint c ∷ [] else []
 
 -- where the block has room: that it holds the new point
 abbrev pub room_come : Block → Pixel → ℕ → List Fact

@@ -15,7 +15,7 @@ use Rattle.quilt_types.specs.declared.stop.Stop.TheVariants.{Device, Memory, Dam
 use Rattle.quilt_types.specs.Plane.{side, in_block, is_pixel, pixel_cmp}
 use Rattle.quilt_types.specs.Layers.{PointMap}
 use Rattle.quilt_types.specs.Facts.{Fact, HoldsPoint, HoldsNoPoint, same_pixel}
-use Rattle.quilt_types.specs.Quadtrees.{points_in, point_blocks}
+use Rattle.quilt_types.specs.Quadtrees.{occupancy, point_blocks}
 use Rattle.quilt_loc.specs.Codes.{code_at, Rises}
 use Rattle.quilt_loc.proofs.Members.{Contains-nil, Contains-cons_cases, Contains-filter}
 use Rattle.quilt_loc.proofs.Blocks.{in_block-true, side_most}
@@ -150,7 +150,7 @@ module _ (n : ℕ) (points : PointMap) (b : Block) (at : Pixel) (holds : in_bloc
       let w = block_fact_from n 1 points (HoldsPoint b p.at p.label) r.fact in
       let test : Pixel × ℕ → Bool = λ d. in_block b d.0 in
       let es = finmap.entries points in
-      let few = leb-true (points_in points b) 1 (block_is n 1 points b r.block).passes in
+      let few = leb-true (occupancy points b) 1 (block_is n 1 points b r.block).passes in
       let many = length-filter test es in
       let same = (w.on).0 in
       let here : Contains (filter test es) (p.at, p.label) =
@@ -286,6 +286,11 @@ pub zero_named : (e : Stop) → IsNotDamage e → NamesPage 1 e
 zero_named Device h = tt
 zero_named Memory h = tt
 zero_named (Damaged page) h = absurd (h page refl)
+
+pub zero_page : (e : Stop) → ((page : ℕ) → e ≡ Damaged page → page ≡ 0) → NamesPage 1 e
+zero_page Device zero = tt
+zero_page Memory zero = tt
+zero_page (Damaged page) zero = let is = zero page refl in omega arith
 
 -- ---- answers that may be none
 pub if_some_weaker : {X : Type 0} (o : Option X) (P Q : X → Type 0) → ((x : X) → P x → Q x) → IfSome o P → IfSome o Q

@@ -14,7 +14,7 @@ use Rattle.quilt_types.specs.declared.plane.Block.{Block}
 use Rattle.quilt_types.specs.Plane.{corner, in_block, is_pixel, IsBlock}
 use Rattle.quilt_types.specs.Layers.{PointMap, IsPointMap}
 use Rattle.quilt_types.specs.Facts.{Fact, HoldsPoint, HoldsNoPoint, or_none, point_facts}
-use Rattle.quilt_types.specs.Quadtrees.{points_in, point_blocks}
+use Rattle.quilt_types.specs.Quadtrees.{occupancy, point_blocks}
 use Rattle.quilt_loc.specs.Codes.{Rises, code_at, code_from}
 use Rattle.quilt_loc.proofs.Members.{Contains-here, Contains-map, Contains-map_from, Contains-filter, Contains-filter_from}
 use Rattle.quilt_loc.proofs.Blocks.{side_most}
@@ -196,7 +196,7 @@ module _ (rs : List Record) (layer n capacity : ℕ) (points : PointMap) (le : n
           let fact : Pixel × ℕ → Fact = λ e. HoldsPoint b e.0 e.1 in
           let test : Pixel × ℕ → Bool = λ e. in_block b e.0 in
           let es = finmap.entries points in
-          let few = leb-true (points_in points b) capacity (block_is n capacity points b mb).passes in
+          let few = leb-true (occupancy points b) capacity (block_is n capacity points b mb).passes in
           let many = length-filter test es in
           let mapped = length-map (filter test es) fact in
           or_none_length (HoldsNoPoint b) (map fact (filter test es)) capacity spells.valid.least (omega arith)

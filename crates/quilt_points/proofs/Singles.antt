@@ -16,7 +16,7 @@ use Rattle.quilt_types.specs.declared.stop.Stop.{Stop}
 use Rattle.quilt_types.specs.Plane.{side, is_pixel, in_block, IsBlock}
 use Rattle.quilt_types.specs.Layers.{PointMap}
 use Rattle.quilt_types.specs.Facts.{HoldsPoint, HoldsNoPoint}
-use Rattle.quilt_types.specs.Quadtrees.{points_in, holds_few, point_blocks}
+use Rattle.quilt_types.specs.Quadtrees.{occupancy, holds_few, point_blocks}
 use Rattle.quilt_loc.proofs.Blocks.{Holds-from}
 use Rattle.quilt_loc.proofs.Members.{Contains-nil, Contains-here, Contains-there, Contains-cons_cases, Contains-filter, Contains-filter_from}
 use Rattle.quilt_loc.proofs.Quartered.{Within-whole}
@@ -60,7 +60,7 @@ module _ (n : ℕ) (points : PointMap) (b : Block) where
       let w = block_fact_from n 1 points (HoldsPoint b p.at p.label) r.fact in
       let es = finmap.entries points in
       let entry : Pixel × ℕ = (p.at, p.label) in
-      let few = leb-true (points_in points b) 1 (block_is n 1 points b r.block).passes in
+      let few = leb-true (occupancy points b) 1 (block_is n 1 points b r.block).passes in
       let many = length-filter here es in
       let same = (w.on).0 in
       let there : Contains (filter here es) entry = Contains-filter here es entry (w.on).1 (ap (λ (z : Block). in_block z p.at) same ∙ (w.on).2) in

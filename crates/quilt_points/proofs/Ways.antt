@@ -9,7 +9,7 @@ use Rattle.quilt_types.specs.declared.plane.Block.{Block}
 use Rattle.quilt_types.specs.declared.plane.Point.{Point}
 use Rattle.quilt_types.specs.Plane.{side, block_cmp, parent_of, quarters_of, Holds, IsBlock}
 use Rattle.quilt_types.specs.Layers.{PointMap}
-use Rattle.quilt_types.specs.Quadtrees.{points_in, holds_few, point_blocks}
+use Rattle.quilt_types.specs.Quadtrees.{occupancy, holds_few, point_blocks}
 use Rattle.quilt_loc.proofs.Nesting.{Within-holds, Within-trans, same_block_from, side_pos, IsBlock-parent_of, Within-parent_of}
 use Rattle.quilt_loc.proofs.Quartered.{is_quarter, quarters_are, side_le}
 use Rattle.quilt_loc.proofs.PlaneOrders.{block_total}
@@ -67,7 +67,7 @@ module _ (n capacity : ℕ) (points : PointMap) (p : Pixel) (label : ℕ) (some 
         → AreIn (finmap.remove points p) q (point_entries here)
     sibling_stays q c other here are = AreIn-same (finmap.remove points p) points p label comes q (quarter_out q c other) (point_entries here) are
 
-    long : (all : List Point) → AreIn (finmap.remove points p) (parent_of x) (point_entries all) → length all ≡ points_in (finmap.remove points p) (parent_of x)
+    long : (all : List Point) → AreIn (finmap.remove points p) (parent_of x) (point_entries all) → length all ≡ occupancy (finmap.remove points p) (parent_of x)
     long all are = sym (length-map all point_entry) ∙ AreIn-length (finmap.remove points p) (parent_of x) (point_entries all) are
 
     pub way_up : (all : List Point) → AreIn (finmap.remove points p) (parent_of x) (point_entries all) → length all ≤ capacity
@@ -78,7 +78,7 @@ module _ (n capacity : ℕ) (points : PointMap) (p : Pixel) (label : ℕ) (some 
       base_holds = way.base_holds;
       within = Within-trans way.base x (parent_of x) way.within (Within-parent_of n x way.block lt);
       block = up_block;
-      few = let l = long all are in le-leb (points_in (finmap.remove points p) (parent_of x)) capacity (omega arith);
+      few = let l = long all are in le-leb (occupancy (finmap.remove points p) (parent_of x)) capacity (omega arith);
       are = are;
     }
 
@@ -86,7 +86,7 @@ module _ (n capacity : ℕ) (points : PointMap) (p : Pixel) (label : ℕ) (some 
         → holds_few capacity (finmap.remove points p) (parent_of x) ≡ false
     way_many all are many =
         let l = long all are in
-        ⊎_elim (λ t. let few = leb-true (points_in (finmap.remove points p) (parent_of x)) capacity t in absurd (omega arith)) (λ f. f)
+        ⊎_elim (λ t. let few = leb-true (occupancy (finmap.remove points p) (parent_of x)) capacity t in absurd (omega arith)) (λ f. f)
         (cases_Bool (holds_few capacity (finmap.remove points p) (parent_of x)))
 
     -- the next quarter's points, which are known where it is the block

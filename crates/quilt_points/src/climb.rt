@@ -2,15 +2,19 @@ ghost use Rattle.std.specs.Prelude.{◌≡◌, ◌≢◌, ℕ, ◌+◌, ◌*◌,
 ghost use Rattle.std.specs.FinMap as finmap;
 ghost use Rattle.quilt_types.specs.declared.plane.Pixel.{Pixel as AnyPixel};
 ghost use Rattle.quilt_types.specs.declared.plane.Point.{Point as AnyPoint};
+ghost use Rattle.quilt_types.specs.declared.stop.Stop.TheVariants.{Damaged};
 ghost use Rattle.quilt_types.specs.Plane.{side, is_pixel, parent_of, quarters_of, IsBlock};
 ghost use Rattle.quilt_types.specs.Layers.{PointMap};
 ghost use Rattle.quilt_types.specs.Quadtrees.{point_blocks, holds_few};
+ghost use Rattle.quilt_record.specs.declared.record.Record.{Record as AnyRecord};
 ghost use Rattle.quilt_point_laws.specs.Laws.{AreIn};
 ghost use Rattle.quilt_store.specs.Calls.{OnlyReads};
 ghost use Rattle.quilt_world.specs.Tale.{Goes};
 ghost use Rattle.quilt_store.specs.Stops.{IsNotDamage};
+ghost use Rattle.quilt_btree.specs.Damage.{NamesBad};
 ghost use Rattle.quilt_btree.specs.Spots.{IsSpotIf};
-ghost use Rattle.quilt_btree.specs.Trees.{IsRooted};
+ghost use Rattle.quilt_btree.specs.Stops.{NamesPage};
+ghost use Rattle.quilt_btree.specs.Trees.{IsRooted, IsTree};
 ghost use Rattle.quilt_points.specs.Layers.{HasPoints, point_entries};
 ghost use Rattle.quilt_points.specs.Climbing.{IsOnWay};
 
@@ -44,6 +48,8 @@ pub(crate) fn topmost<S: PageStore>(
     ensures block { IfOk result (λ top. IsBlock layer.level top.block) }
     ensures pixels { IfOk result (λ top. All (λ p. is_pixel layer.level p.at ≡ true) top.points.items) }
     ensures sound { IfErr result (λ e. (points : PointMap) → HasPoints (S.told store.old) tree.now layer.number layer.level layer.bucket points → IsNotDamage e) }
+    ensures zero { IfErr result (λ e. (rs : List AnyRecord) → IsTree (S.told store.old) tree.now rs → NamesPage 1 e) }
+    ensures bad { IfErr result (λ e. e ≢ Damaged 0 → NamesBad (S.told store.old) tree.now.height tree.now.root e) }
     ensures left { OnlyReads S.PageStore store.old store.new result }
     ensures reads { IfOk result (λ _. Goes (λ old new. new ≤ old + (18 + 9 * layer.bucket) * layer.level) (S.reads store.old) (S.reads store.new)) }
 {
@@ -79,6 +85,8 @@ fn merged<S: PageStore>(
     ensures wider { IfOk result (λ o. IfSome o (λ up. leaf.now.block.side < up.block.side)) }
     ensures pixels { IfOk result (λ o. IfSome o (λ up. All (λ p. is_pixel layer.level p.at ≡ true) up.points.items)) }
     ensures sound { IfErr result (λ e. (points : PointMap) → HasPoints (S.told store.old) tree.now layer.number layer.level layer.bucket points → IsNotDamage e) }
+    ensures zero { IfErr result (λ e. (rs : List AnyRecord) → IsTree (S.told store.old) tree.now rs → NamesPage 1 e) }
+    ensures bad { IfErr result (λ e. e ≢ Damaged 0 → NamesBad (S.told store.old) tree.now.height tree.now.root e) }
     ensures left { OnlyReads S.PageStore store.old store.new result }
     ensures reads { IfOk result (λ _. Goes (λ old new. new ≤ old + (18 + 9 * layer.bucket)) (S.reads store.old) (S.reads store.new)) }
     ensures top { leaf.now.block.side ≡ side layer.level → Goes (λ old new. new ≤ old) (S.reads store.old) (S.reads store.new) }
@@ -126,6 +134,8 @@ fn joined<S: PageStore>(
         → IsOnWay layer.level layer.bucket points p leaf.now.block leaf.now.points.items → holds_few layer.bucket (finmap.remove points p) up ≡ false) }
     ensures pixels { IfOk result (λ o. IfSome o (λ v. All (λ p. is_pixel layer.level p.at ≡ true) v.items)) }
     ensures sound { IfErr result (λ e. (points : PointMap) → HasPoints (S.told store.old) tree.now layer.number layer.level layer.bucket points → IsNotDamage e) }
+    ensures zero { IfErr result (λ e. (rs : List AnyRecord) → IsTree (S.told store.old) tree.now rs → NamesPage 1 e) }
+    ensures bad { IfErr result (λ e. e ≢ Damaged 0 → NamesBad (S.told store.old) tree.now.height tree.now.root e) }
     ensures left { OnlyReads S.PageStore store.old store.new result }
     ensures reads { IfOk result (λ _. Goes (λ old new. new ≤ old + (18 + 9 * layer.bucket)) (S.reads store.old) (S.reads store.new)) }
 {
@@ -164,6 +174,8 @@ fn add_quarter<S: PageStore>(
         → Contains (point_blocks layer.level layer.bucket points) q → ⊥)) }
     ensures pixels { OnOk result (All (λ p. is_pixel layer.level p.at ≡ true) all.new.items) }
     ensures sound { IfErr result (λ e. (points : PointMap) → HasPoints (S.told store.old) tree.now layer.number layer.level layer.bucket points → IsNotDamage e) }
+    ensures zero { IfErr result (λ e. (rs : List AnyRecord) → IsTree (S.told store.old) tree.now rs → NamesPage 1 e) }
+    ensures bad { IfErr result (λ e. e ≢ Damaged 0 → NamesBad (S.told store.old) tree.now.height tree.now.root e) }
     ensures left { OnlyReads S.PageStore store.old store.new result }
     ensures reads { IfOk result (λ _. Goes (λ old new. new ≤ old + (6 + 3 * layer.bucket)) (S.reads store.old) (S.reads store.new)) }
     ensures known { q ≡ leaf.now.block → Goes (λ old new. new ≤ old) (S.reads store.old) (S.reads store.new) }

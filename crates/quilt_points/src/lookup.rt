@@ -1,8 +1,8 @@
-ghost use Rattle.std.specs.Prelude.{◌≡◌, ◌+◌, ◌<◌, ◌≤◌, ◌==◌, true, ℕ, List, Option, Some, IfOk, IfErr, IfSome, IsErrOf, Contains, if◌then◌else◌};
+ghost use Rattle.std.specs.Prelude.{◌≡◌, ◌≢◌, ◌+◌, ◌<◌, ◌≤◌, ◌==◌, true, ℕ, List, Option, Some, IfOk, IfErr, IfSome, IsErrOf, Contains, if◌then◌else◌};
 ghost use Rattle.std.specs.FinMap as finmap;
 ghost use Rattle.quilt_types.specs.declared.plane.Block.{Block as AnyBlock};
 ghost use Rattle.quilt_types.specs.declared.plane.Point.{Point as AnyPoint};
-ghost use Rattle.quilt_types.specs.declared.stop.Stop.TheVariants.{Device};
+ghost use Rattle.quilt_types.specs.declared.stop.Stop.TheVariants.{Device, Damaged};
 ghost use Rattle.quilt_types.specs.Plane.{side, in_block, is_pixel, IsBlock};
 ghost use Rattle.quilt_types.specs.Layers.{PointMap};
 ghost use Rattle.quilt_types.specs.Quadtrees.{point_blocks};
@@ -11,6 +11,7 @@ ghost use Rattle.quilt_record.specs.Canonical.{IsRecordOf, point_fact};
 ghost use Rattle.quilt_store.specs.Calls.{OnlyReads};
 ghost use Rattle.quilt_world.specs.Tale.{Goes};
 ghost use Rattle.quilt_store.specs.Stops.{IsNotDamage};
+ghost use Rattle.quilt_btree.specs.Damage.{NamesBad};
 ghost use Rattle.quilt_btree.specs.declared.tree.Tree.{Tree as AnyTree};
 ghost use Rattle.quilt_btree.specs.Lists.{floor_of};
 ghost use Rattle.quilt_btree.specs.Stops.{NamesPage};
@@ -52,6 +53,7 @@ pub fn find<S: PageStore>(
     ensures answered { IfOk result (λ label. (rs : List AnyRecord) → IsTree (S.told store.old) tree.now rs → IsLabelFound level bucket layer rs at label) }
     ensures sound { IfErr result (λ e. (points : PointMap) → HasPoints (S.told store.old) tree.now layer level bucket points → IsNotDamage e) }
     ensures zero { IfErr result (λ e. (rs : List AnyRecord) → IsTree (S.told store.old) tree.now rs → NamesPage 1 e) }
+    ensures bad { IfErr result (λ e. e ≢ Damaged 0 → NamesBad (S.told store.old) tree.now.height tree.now.root e) }
     ensures left { OnlyReads S.PageStore store.old store.new result }
     ensures reads { Goes (λ old new. new ≤ old + (if bucket == 1 then 6 else 9)) (S.reads store.old) (S.reads store.new) }
 {
@@ -88,6 +90,7 @@ pub(crate) fn block_around<S: PageStore>(
     ensures pixel { IfOk result (λ v. IfSome v.1 (λ p. is_pixel layer.level p.at ≡ true)) }
     ensures sound { IfErr result (λ e. (points : PointMap) → HasPoints (S.told store.old) tree.now layer.number layer.level layer.bucket points → IsNotDamage e) }
     ensures zero { IfErr result (λ e. (rs : List AnyRecord) → IsTree (S.told store.old) tree.now rs → NamesPage 1 e) }
+    ensures bad { IfErr result (λ e. e ≢ Damaged 0 → NamesBad (S.told store.old) tree.now.height tree.now.root e) }
     ensures left { OnlyReads S.PageStore store.old store.new result }
     ensures reads { Goes (λ old new. new ≤ old + 6) (S.reads store.old) (S.reads store.new) }
 {
@@ -201,6 +204,7 @@ fn label_in<S: PageStore>(
     ensures sound { IfErr result (λ e. (points : PointMap) → HasPoints (S.told store.old) tree.now layer.number layer.level layer.bucket points
         → Contains (point_blocks layer.level layer.bucket points) b → in_block b at ≡ true → IsNotDamage e) }
     ensures zero { IfErr result (λ e. (rs : List AnyRecord) → IsTree (S.told store.old) tree.now rs → NamesPage 1 e) }
+    ensures bad { IfErr result (λ e. e ≢ Damaged 0 → NamesBad (S.told store.old) tree.now.height tree.now.root e) }
     ensures left { OnlyReads S.PageStore store.old store.new result }
     ensures reads { Goes (λ old new. new ≤ old + 3) (S.reads store.old) (S.reads store.new) }
 {

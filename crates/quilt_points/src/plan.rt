@@ -1,16 +1,19 @@
-ghost use Rattle.std.specs.Prelude.{◌≡◌, ◌+◌, ◌*◌, ◌<◌, ◌≤◌, ◌↔◌, ◌^◌, ℕ, true, [], ◌∷◌, map, filter, not, All, Contains, Some, None, IfOk, IfErr, IfSome, IsNone};
-ghost use Rattle.std.specs.Prelude.{IsSome, IsErrOf};
+ghost use Rattle.std.specs.Prelude.{◌≡◌, ◌≢◌, ◌+◌, ◌*◌, ◌<◌, ◌≤◌, ◌↔◌, ◌^◌, ℕ, true, [], ◌∷◌, map, filter, not, All, Contains, Some, None, IfOk, IfErr, IfSome, IsNone};
+ghost use Rattle.std.specs.Prelude.{List, IsSome, IsErrOf};
 ghost use Rattle.std.specs.FinMap as finmap;
 ghost use Rattle.quilt_types.specs.declared.plane.Point.{Point as AnyPoint};
-ghost use Rattle.quilt_types.specs.declared.stop.Stop.TheVariants.{Device};
+ghost use Rattle.quilt_types.specs.declared.stop.Stop.TheVariants.{Device, Damaged};
 ghost use Rattle.quilt_types.specs.Plane.{side, is_pixel, in_block, IsBlock};
 ghost use Rattle.quilt_types.specs.Layers.{PointMap, IsPointMap};
 ghost use Rattle.quilt_types.specs.Facts.{same_pixel};
 ghost use Rattle.quilt_types.specs.Quadtrees.{point_blocks};
+ghost use Rattle.quilt_record.specs.declared.record.Record.{Record as AnyRecord};
 ghost use Rattle.quilt_store.specs.Calls.{OnlyReads};
 ghost use Rattle.quilt_world.specs.Tale.{Goes};
 ghost use Rattle.quilt_store.specs.Stops.{IsNotDamage};
-ghost use Rattle.quilt_btree.specs.Trees.{IsRooted};
+ghost use Rattle.quilt_btree.specs.Damage.{NamesBad};
+ghost use Rattle.quilt_btree.specs.Stops.{NamesPage};
+ghost use Rattle.quilt_btree.specs.Trees.{IsRooted, IsTree};
 ghost use Rattle.quilt_points.specs.Layers.{HasPoints, point_entries, block_record};
 ghost use Rattle.quilt_points.specs.Reads.{IsHeld};
 ghost use Rattle.quilt_points.specs.Climbing.{IsOnWay};
@@ -55,6 +58,8 @@ pub fn plan_put<S: PageStore>(
         → IsNone o ↔ IsSome (finmap.get points at)) }
     ensures order { IfOk result (λ o. IfSome o EditsAscend) }
     ensures sound { IfErr result (λ e. (points : PointMap) → HasPoints (S.told store.old) tree.now layer level bucket points → IsNotDamage e) }
+    ensures zero { IfErr result (λ e. (rs : List AnyRecord) → IsTree (S.told store.old) tree.now rs → NamesPage 1 e) }
+    ensures bad { IfErr result (λ e. e ≢ Damaged 0 → NamesBad (S.told store.old) tree.now.height tree.now.root e) }
     ensures left { OnlyReads S.PageStore store.old store.new result }
     ensures reads { IfOk result (λ _. Goes (λ old new. new ≤ old + (12 + 3 * bucket)) (S.reads store.old) (S.reads store.new)) }
     ensures single { bucket ≡ 1 → Goes (λ old new. new ≤ old + 6) (S.reads store.old) (S.reads store.new) }
@@ -93,6 +98,8 @@ pub fn plan_del<S: PageStore>(
         → IsNone o ↔ IsNone (finmap.get points at)) }
     ensures order { IfOk result (λ o. IfSome o EditsAscend) }
     ensures sound { IfErr result (λ e. (points : PointMap) → HasPoints (S.told store.old) tree.now layer level bucket points → IsNotDamage e) }
+    ensures zero { IfErr result (λ e. (rs : List AnyRecord) → IsTree (S.told store.old) tree.now rs → NamesPage 1 e) }
+    ensures bad { IfErr result (λ e. e ≢ Damaged 0 → NamesBad (S.told store.old) tree.now.height tree.now.root e) }
     ensures left { OnlyReads S.PageStore store.old store.new result }
     ensures reads { IfOk result (λ _. Goes (λ old new. new ≤ old + (12 + 3 * bucket + (18 + 9 * bucket) * level)) (S.reads store.old) (S.reads store.new)) }
 {
@@ -129,6 +136,8 @@ fn take_from<S: PageStore>(
     ensures sound { IfErr result (λ e. (points : PointMap) → HasPoints (S.told store.old) tree.now layer.number layer.level layer.bucket points
         → IsHeld layer.level layer.bucket points leaf.block leaf.points.items → in_block leaf.block p.at ≡ true
         → finmap.get points p.at ≡ Some p.label → IsNotDamage e) }
+    ensures zero { IfErr result (λ e. (rs : List AnyRecord) → IsTree (S.told store.old) tree.now rs → NamesPage 1 e) }
+    ensures bad { IfErr result (λ e. e ≢ Damaged 0 → NamesBad (S.told store.old) tree.now.height tree.now.root e) }
     ensures left { OnlyReads S.PageStore store.old store.new result }
     ensures reads { IfOk result (λ _. Goes (λ old new. new ≤ old + (18 + 9 * layer.bucket) * layer.level) (S.reads store.old) (S.reads store.new)) }
 {
@@ -162,6 +171,7 @@ fn take_out(
     ensures sound { IfErr result (λ e. (points : PointMap) → IsPointMap 2 layer.level layer.bucket points → finmap.get points p.at ≡ Some p.label
         → IsOnWay layer.level layer.bucket points p.at b held.now → Contains (point_blocks layer.level layer.bucket (finmap.remove points p.at)) b
         → IsNotDamage e) }
+    ensures zero { IfErr result (NamesPage 1) }
     ensures no_fault { IsErrOf result Device → ⊥ }
 {
     match delta_of(alloc, layer, b, held, p) {
@@ -217,6 +227,7 @@ fn put_into(
     ensures order { IfOk result (λ o. IfSome o EditsAscend) }
     ensures sound { IfErr result (λ e. (points : PointMap) → IsPointMap 2 layer.level layer.bucket points
         → IsHeld layer.level layer.bucket points b held.now → in_block b p.at ≡ true → IsNotDamage e) }
+    ensures zero { IfErr result (NamesPage 1) }
     ensures no_fault { IsErrOf result Device → ⊥ }
 {
     if has_point(held, p.at) {

@@ -1,5 +1,5 @@
 use Rattle.std.proofs.Common.{◌≡◌, ◌+◌, ◌*◌, ◌++◌, true, List, sym, ◌∙◌, ap, subst, All}
-use Rattle.std.proofs.lemmas.Result.{IfOk-weaker}
+use Rattle.std.proofs.lemmas.Result.{IfOk-weaker, IfErr-weaker}
 use Rattle.std.proofs.lemmas.Option.{MatchOption-at_none, MatchOption-at_some}
 use Rattle.quilt_types.specs.declared.plane.Point.{Point}
 use Rattle.quilt_types.specs.Plane.{is_pixel}
@@ -7,6 +7,7 @@ use Rattle.quilt_points.proofs.Finds.{false_true, if_some_at}
 use Rattle.quilt_points.proofs.plans.Adds.{added_all}
 use Rattle.quilt_world.proofs.ReadCounts.{reads_none}
 use Rattle.quilt_points.proofs.Bounds.{if_ok_of}
+use Rattle.quilt_points.proofs.Results.{memory_zero}
 use Rattle.quilt_points.proofs.climb.add_quarter.Goals as goal
 
 pub returns-in-None-clause-other : goal.returns-in-None-clause-other
@@ -45,3 +46,9 @@ returns-in-None-clause-known g c e = absurd (false_true (sym c.if-is_same.false 
 
 pub returns-in-Some-clause-known : goal.returns-in-Some-clause-known
 returns-in-Some-clause-known g c e = absurd (false_true (sym c.if-is_same.false ∙ c.is_same.ensures.no e))
+
+pub returns-then-is_same-clause-zero : goal.returns-then-is_same-clause-zero
+returns-then-is_same-clause-zero g c = IfErr-weaker c.add_all.result _ _ (λ e memory rs is. memory_zero e memory) c.add_all.ensures.memory
+
+pub returns-in-Some-clause-zero : goal.returns-in-Some-clause-zero
+returns-in-Some-clause-zero g c = IfErr-weaker c.add_all-in-Some.result _ _ (λ e memory rs is. memory_zero e memory) c.add_all-in-Some.ensures.memory

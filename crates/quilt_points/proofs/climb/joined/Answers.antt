@@ -13,13 +13,14 @@ use Rattle.quilt_loc.proofs.Nesting.{IsBlock-parent_of, side_pos}
 use Rattle.quilt_points.proofs.Quarters.{quarter_at}
 use Rattle.quilt_point_laws.specs.Laws.{AreIn}
 use Rattle.quilt_points.specs.Layers.{point_entries}
-use Rattle.quilt_points.proofs.Finds.{has_along}
+use Rattle.quilt_points.proofs.Finds.{has_along, tree_along}
 use Rattle.quilt_points.proofs.Singles.{spot_along}
 use Rattle.quilt_edits.proofs.Lists.{member_at}
 use Rattle.quilt_points.proofs.Unions.{AreOfAll, all_none}
 use Rattle.quilt_world.proofs.ReadCounts.{reads_none, reads_more}
 use Rattle.quilt_points.proofs.Bounds.{times_next, spared_next, spares, spared_here, spared_end}
 use Rattle.quilt_points.proofs.Ways.{way_next, way_all, way_fails, own_place}
+use Rattle.quilt_points.proofs.Damage.{bad_along}
 use Rattle.quilt_points.proofs.climb.joined.Goals as goal
 
 pub quarters-q-items-requires-clause-valid : goal.quarters-q-items-requires-clause-valid
@@ -141,3 +142,13 @@ returns-clause-reads g c =
     reads_more ((6 + 3 * c.args.layer.bucket) * 3) (18 + 9 * c.args.layer.bucket) _ _ (omega arith)
     (spared_end (6 + 3 * c.args.layer.bucket) c.loop-q.q-index _ _ few
     (c.loop-q.invariant.spared own.0 _ (omega arith) is))
+
+pub returns-in_err-add_quarter-clause-zero : goal.returns-in_err-add_quarter-clause-zero
+returns-in_err-add_quarter-clause-zero g c =
+    let p = err_from_is_err_and c.from_residual.result c.from_residual.ensures.1 in
+    rw (p.1, p.2) (λ rs is. c.in_err-add_quarter.ensures.zero rs (tree_along _ _ c.args.tree.now rs c.loop-q.invariant.left.told is))
+
+pub returns-in_err-add_quarter-clause-bad : goal.returns-in_err-add_quarter-clause-bad
+returns-in_err-add_quarter-clause-bad g c =
+    let p = err_from_is_err_and c.from_residual.result c.from_residual.ensures.1 in
+    rw (p.1, p.2) (bad_along _ _ c.args.tree.now _ c.loop-q.invariant.left.told c.in_err-add_quarter.ensures.bad)

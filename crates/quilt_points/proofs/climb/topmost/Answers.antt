@@ -4,8 +4,9 @@ use Rattle.std.proofs.lemmas.Result.{err_from_is_err_and}
 use Rattle.quilt_store.proofs.Reading.{only_reads_then, read_on, only_reads_err, only_reads_ok}
 use Rattle.quilt_loc.proofs.Blocks.{side_most}
 use Rattle.quilt_loc.proofs.Quartered.{side_le}
-use Rattle.quilt_points.proofs.Finds.{has_along, if_some_at}
+use Rattle.quilt_points.proofs.Finds.{has_along, tree_along, if_some_at}
 use Rattle.quilt_points.proofs.Bounds.{times_up, times_most, times_here, level_up, same_level}
+use Rattle.quilt_points.proofs.Damage.{bad_along}
 use Rattle.quilt_points.proofs.climb.topmost.Goals as goal
 
 pub returns-in_err-up-clause-sound : goal.returns-in_err-up-clause-sound
@@ -62,3 +63,13 @@ returns-clause-reads g c =
     (λ ge. times_here (18 + 9 * c.args.layer.bucket) c.loop-top.invariant.block.level c.args.layer.level _ _ _ low c.loop-top.invariant.reads
     (c.in_ok-up.ensures.top (c.loop-top.invariant.block.size ∙ ap (λ (k : ℕ). 2 ^ k) (same_level low ge))))
     (cases_lt c.loop-top.invariant.block.level c.args.layer.level)
+
+pub returns-in_err-up-clause-zero : goal.returns-in_err-up-clause-zero
+returns-in_err-up-clause-zero g c =
+    let p = err_from_is_err_and c.from_residual.result c.from_residual.ensures.1 in
+    rw (p.1, p.2) (λ rs is. c.in_err-up.ensures.zero rs (tree_along _ _ c.args.tree.now rs c.loop-top.invariant.left.told is))
+
+pub returns-in_err-up-clause-bad : goal.returns-in_err-up-clause-bad
+returns-in_err-up-clause-bad g c =
+    let p = err_from_is_err_and c.from_residual.result c.from_residual.ensures.1 in
+    rw (p.1, p.2) (bad_along _ _ c.args.tree.now _ c.loop-top.invariant.left.told c.in_err-up.ensures.bad)

@@ -8,6 +8,7 @@ use Rattle.quilt_loc.proofs.Intervals.{code_held}
 use Rattle.quilt_points.proofs.Finds.{has_along, tree_along}
 use Rattle.quilt_points.proofs.Countings.{seen_none, seen_next, all_counted, few_seen, tells_more, tells_less, tells_none, whole_end, pixel_inside, zeros_at}
 use Rattle.quilt_points.proofs.Countings.{zeros_le, counts_most}
+use Rattle.quilt_points.proofs.Damage.{bad_along}
 use Rattle.quilt_points.proofs.counts.block_counts.Goals as goal
 
 pub loop-code-init : goal.loop-code-init
@@ -101,3 +102,8 @@ pub returns-in_err-b-clause-zero : goal.returns-in_err-b-clause-zero
 returns-in_err-b-clause-zero g c =
     let p = err_from_is_err_and c.from_residual.result c.from_residual.ensures.1 in
     rw (p.1, p.2) (λ rs is. c.in_err-b.ensures.zero rs (tree_along _ _ c.args.tree.now rs c.loop-code.invariant.left.told is))
+
+pub returns-in_err-b-clause-bad : goal.returns-in_err-b-clause-bad
+returns-in_err-b-clause-bad g c =
+    let p = err_from_is_err_and c.from_residual.result c.from_residual.ensures.1 in
+    rw (p.1, p.2) (bad_along _ _ c.args.tree.now _ c.loop-code.invariant.left.told c.in_err-b.ensures.bad)

@@ -7,9 +7,10 @@ use Rattle.quilt_types.specs.Plane.{is_pixel}
 use Rattle.quilt_point_laws.specs.Laws.{AreIn}
 use Rattle.quilt_points.specs.Layers.{point_entries}
 use Rattle.quilt_store.proofs.Reading.{only_reads_then, only_reads_err, only_reads_ok, only_reads_free}
-use Rattle.quilt_points.proofs.Finds.{has_along}
+use Rattle.quilt_points.proofs.Finds.{has_along, tree_along}
 use Rattle.quilt_world.proofs.ReadCounts.{reads_then}
 use Rattle.quilt_points.proofs.Singles.{one_held, all_held}
+use Rattle.quilt_points.proofs.Damage.{bad_along}
 use Rattle.quilt_points.proofs.leaf.leaf_around.Goals as goal
 
 pub returns-in_err-points_of-clause-sound : goal.returns-in_err-points_of-clause-sound
@@ -59,3 +60,13 @@ pub returns-in-Ok-clause-pixels : goal.returns-in-Ok-clause-pixels
 returns-in-Ok-clause-pixels g c =
     subst (All (λ (p : Point). is_pixel c.args.layer.level p.at ≡ true)) (sym c.in-Ok.ensures)
     (all_held c.args.layer.level c.in_ok-block.held c.in_ok-block.ensures.pixel)
+
+pub returns-in_err-points_of-clause-zero : goal.returns-in_err-points_of-clause-zero
+returns-in_err-points_of-clause-zero g c =
+    let p = err_from_is_err_and c.from_residual-in_err-points_of.result c.from_residual-in_err-points_of.ensures.1 in
+    rw (p.1, p.2) (λ rs is. c.in_err-points_of.ensures.zero rs (tree_along _ _ c.args.tree.now rs c.in_ok-block.ensures.left.told is))
+
+pub returns-in_err-points_of-clause-bad : goal.returns-in_err-points_of-clause-bad
+returns-in_err-points_of-clause-bad g c =
+    let p = err_from_is_err_and c.from_residual-in_err-points_of.result c.from_residual-in_err-points_of.ensures.1 in
+    rw (p.1, p.2) (bad_along _ _ c.args.tree.now _ c.in_ok-block.ensures.left.told c.in_err-points_of.ensures.bad)

@@ -5,6 +5,7 @@ use Rattle.quilt_points.specs.Reads.{AreRecordsOf}
 use Rattle.quilt_points.proofs.Bounds.{if_ok_of, reads_range}
 use Rattle.quilt_points.proofs.Finds.{if_some_weaker, zero_named}
 use Rattle.quilt_points.proofs.Ranges.{rows_read, range_there}
+use Rattle.quilt_points.proofs.Damage.{zero_bad}
 use Rattle.quilt_points.proofs.leaf.points_of.Goals as goal
 
 pub returns-in_err-records-clause-sound : goal.returns-in_err-records-clause-sound
@@ -52,3 +53,11 @@ returns-in_err-records-clause-zero g c =
 
 pub returns-clause-zero : goal.returns-clause-zero
 returns-clause-zero g c = IfErr-weaker c.points_said.result _ _ (λ e zero rs is. zero) c.points_said.ensures.zero
+
+pub returns-in_err-records-clause-bad : goal.returns-in_err-records-clause-bad
+returns-in_err-records-clause-bad g c =
+    let p = err_from_is_err_and c.from_residual.result c.from_residual.ensures.1 in
+    rw (p.1, p.2) c.in_err-records.ensures.stops.bad
+
+pub returns-clause-bad : goal.returns-clause-bad
+returns-clause-bad g c = IfErr-weaker c.points_said.result _ _ (λ e zero. zero_bad _ c.args.tree.now e zero) c.points_said.ensures.zero

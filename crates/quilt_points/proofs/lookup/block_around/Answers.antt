@@ -3,6 +3,7 @@ use Rattle.std.proofs.lemmas.Result.{IfOk-weaker, IfErr-weaker, err_from_is_err_
 use Rattle.quilt_record.specs.declared.key.Key.{Key}
 use Rattle.quilt_btree.specs.Lists.{floor_of}
 use Rattle.quilt_points.proofs.Finds.{zero_named}
+use Rattle.quilt_points.proofs.Damage.{zero_bad}
 use Rattle.quilt_points.proofs.lookup.block_around.Goals as goal
 
 pub returns-in_err-found-clause-sound : goal.returns-in_err-found-clause-sound
@@ -34,3 +35,11 @@ returns-in_err-found-clause-zero g c =
 
 pub returns-clause-zero : goal.returns-clause-zero
 returns-clause-zero g c = IfErr-weaker c.block_said.result _ _ (λ e zero rs is. zero) c.block_said.ensures.zero
+
+pub returns-in_err-found-clause-bad : goal.returns-in_err-found-clause-bad
+returns-in_err-found-clause-bad g c =
+    let p = err_from_is_err_and c.from_residual.result c.from_residual.ensures.1 in
+    rw (p.1, p.2) (λ ne. c.in_err-found.ensures.bad)
+
+pub returns-clause-bad : goal.returns-clause-bad
+returns-clause-bad g c = IfErr-weaker c.block_said.result _ _ (λ e zero. zero_bad _ c.args.tree.now e zero) c.block_said.ensures.zero

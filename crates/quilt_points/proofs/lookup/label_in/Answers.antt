@@ -48,3 +48,8 @@ pub returns-in_err-value-clause-zero : goal.returns-in_err-value-clause-zero
 returns-in_err-value-clause-zero g c =
     let p = err_from_is_err_and c.from_residual.result c.from_residual.ensures.1 in
     rw (p.1, p.2) (λ rs is. zero_named _ (c.in_err-value.ensures.sound rs is))
+
+pub returns-in_err-value-clause-bad : goal.returns-in_err-value-clause-bad
+returns-in_err-value-clause-bad g c =
+    let p = err_from_is_err_and c.from_residual.result c.from_residual.ensures.1 in
+    rw (p.1, p.2) (λ ne. c.in_err-value.ensures.bad)

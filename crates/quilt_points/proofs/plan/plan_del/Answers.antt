@@ -6,10 +6,11 @@ use Rattle.quilt_store.proofs.Reading.{only_reads_then, only_reads_err, only_rea
 use Rattle.quilt_types.specs.declared.plane.Point.{Point}
 use Rattle.quilt_types.specs.Plane.{in_block}
 use Rattle.quilt_points.specs.Plans.{IsPointPlan}
-use Rattle.quilt_points.proofs.Finds.{has_along, false_true}
+use Rattle.quilt_points.proofs.Finds.{has_along, tree_along, false_true}
 use Rattle.quilt_points.proofs.plans.Puts.{free_from, held_point}
 use Rattle.quilt_points.proofs.plans.Dels.{is_none_from, none_is}
 use Rattle.quilt_world.proofs.ReadCounts.{reads_then, reads_more}
+use Rattle.quilt_points.proofs.Damage.{bad_along}
 use Rattle.quilt_points.proofs.plan.plan_del.Goals as goal
 
 pub returns-in_default-clause-none : goal.returns-in_default-clause-none
@@ -64,3 +65,13 @@ pub returns-clause-reads : goal.returns-clause-reads
 returns-clause-reads g c =
     let n = (18 + 9 * c.args.bucket) * c.args.level in
     reads_then (12 + 3 * c.args.bucket) n (12 + 3 * c.args.bucket + n) _ _ _ (omega arith) c.in_ok-leaf.ensures.reads c.in_ok-edits.ensures.reads
+
+pub returns-in_err-edits-clause-zero : goal.returns-in_err-edits-clause-zero
+returns-in_err-edits-clause-zero g c =
+    let p = err_from_is_err_and c.from_residual-in_err-edits.result c.from_residual-in_err-edits.ensures.1 in
+    rw (p.1, p.2) (λ rs is. c.in_err-edits.ensures.zero rs (tree_along _ _ c.args.tree.now rs c.in_ok-leaf.ensures.left.told is))
+
+pub returns-in_err-edits-clause-bad : goal.returns-in_err-edits-clause-bad
+returns-in_err-edits-clause-bad g c =
+    let p = err_from_is_err_and c.from_residual-in_err-edits.result c.from_residual-in_err-edits.ensures.1 in
+    rw (p.1, p.2) (bad_along _ _ c.args.tree.now _ c.in_ok-leaf.ensures.left.told c.in_err-edits.ensures.bad)

@@ -4,6 +4,7 @@ use Rattle.quilt_types.specs.declared.plane.Point.{Point}
 use Rattle.quilt_points.specs.Reads.{IsHeld}
 use Rattle.quilt_points.proofs.Finds.{if_some_weaker}
 use Rattle.quilt_points.proofs.Bounds.{if_ok_of}
+use Rattle.quilt_points.proofs.Damage.{zero_bad}
 use Rattle.quilt_points.proofs.plan.plan_put.Goals as goal
 
 pub returns-clause-plan : goal.returns-clause-plan
@@ -29,3 +30,9 @@ returns-clause-sound g c =
 
 pub returns-clause-reads : goal.returns-clause-reads
 returns-clause-reads g c = if_ok_of c.put_into.result c.in_ok-leaf.ensures.reads
+
+pub returns-clause-zero : goal.returns-clause-zero
+returns-clause-zero g c = IfErr-weaker c.put_into.result _ _ (λ e zero rs is. zero) c.put_into.ensures.zero
+
+pub returns-clause-bad : goal.returns-clause-bad
+returns-clause-bad g c = IfErr-weaker c.put_into.result _ _ (λ e zero. zero_bad _ c.args.tree.now e zero) c.put_into.ensures.zero

@@ -1,6 +1,6 @@
 use Rattle.std.proofs.Common.{refl, sym, ◌∙◌}
 use Rattle.std.proofs.lemmas.Result.{err_from_is_err_and}
-use Rattle.quilt_points.proofs.Finds.{false_true}
+use Rattle.quilt_points.proofs.Finds.{false_true, zero_page}
 use Rattle.quilt_points.proofs.plans.Puts.{free_from, taken_from, not_some, put_can, put_plan}
 use Rattle.quilt_points.proofs.Results.{memory_sound}
 use Rattle.quilt_points.proofs.plan.put_into.Goals as goal
@@ -34,3 +34,8 @@ returns-clause-none c points is on =
     let free = free_from c.args.layer.level c.args.layer.bucket points c.args.b c.args.held.now c.args.p.at is.are on
     (λ q m e. false_true (sym c.if-has_point.false ∙ c.has_point.ensures.no q m e)) in
     (λ e. absurd (false_true (sym e)), λ some. absurd (not_some _ free some))
+
+pub returns-in_err-edits-clause-zero : goal.returns-in_err-edits-clause-zero
+returns-in_err-edits-clause-zero c =
+    let p = err_from_is_err_and c.from_residual.result c.from_residual.ensures.1 in
+    rw (p.1, p.2) (zero_page _ c.in_err-edits.ensures.zero)

@@ -7,6 +7,7 @@ use Rattle.quilt_types.specs.Facts.{same_pixel}
 use Rattle.quilt_points.specs.Climbing.{IsOnWay}
 use Rattle.quilt_points.proofs.plans.Dels.{way_first}
 use Rattle.quilt_points.proofs.Bounds.{if_ok_of}
+use Rattle.quilt_points.proofs.Damage.{zero_bad}
 use Rattle.quilt_points.proofs.plan.take_from.Goals as goal
 
 pub topmost-requires-clause-pixels : goal.topmost-requires-clause-pixels
@@ -49,3 +50,9 @@ returns-clause-sound g c =
 
 pub returns-clause-reads : goal.returns-clause-reads
 returns-clause-reads g c = if_ok_of c.take_out.result c.in_ok-top.ensures.reads
+
+pub returns-clause-zero : goal.returns-clause-zero
+returns-clause-zero g c = IfErr-weaker c.take_out.result _ _ (λ e zero rs is. zero) c.take_out.ensures.zero
+
+pub returns-clause-bad : goal.returns-clause-bad
+returns-clause-bad g c = IfErr-weaker c.take_out.result _ _ (λ e zero. zero_bad _ c.args.tree.now e zero) c.take_out.ensures.zero

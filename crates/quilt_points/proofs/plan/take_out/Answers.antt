@@ -1,4 +1,5 @@
 use Rattle.std.proofs.lemmas.Result.{IfErr-weaker}
+use Rattle.quilt_points.proofs.Finds.{zero_page}
 use Rattle.quilt_points.proofs.Results.{if_ok_both, memory_sound}
 use Rattle.quilt_points.proofs.plans.Dels.{del_can, del_plan}
 use Rattle.quilt_points.proofs.plan.take_out.Goals as goal
@@ -18,3 +19,6 @@ returns-in-Ok-clause-sound c =
     points valid c.args.b c.args.held.now c.args.p some way mb
     c.requires.block.level c.requires.block.size _ _ c.in-Ok.ensures.without (c.in-Ok.ensures.with c.requires.block.level c.requires.block.size))))
     c.edits_of.ensures.memory
+
+pub returns-in-Ok-clause-zero : goal.returns-in-Ok-clause-zero
+returns-in-Ok-clause-zero c = IfErr-weaker c.edits_of.result _ _ zero_page c.edits_of.ensures.zero

@@ -9,10 +9,11 @@ use Rattle.quilt_types.specs.declared.plane.Point.{Point}
 use Rattle.quilt_types.specs.Plane.{is_pixel}
 use Rattle.quilt_edits.proofs.Ascents.{permuted}
 use Rattle.quilt_points.specs.Scattering.{IsGrown}
-use Rattle.quilt_points.proofs.Finds.{false_true, if_some_at}
+use Rattle.quilt_points.proofs.Finds.{false_true, if_some_at, zero_page}
 use Rattle.quilt_points.proofs.plans.Puts.{not_some}
 use Rattle.quilt_points.proofs.Results.{memory_sound}
 use Rattle.quilt_points.proofs.plans.Scatters.{pixels_up, all_new, scatter_can, scatter_plan}
+use Rattle.quilt_points.proofs.Damage.{zero_bad}
 use Rattle.quilt_points.proofs.scatter.plan_scatter.Goals as goal
 
 pub in_order-requires : goal.in_order-requires
@@ -104,3 +105,13 @@ returns-clause-reads g c =
     ∙ length_permutation _ _ (subst (λ (l : List Point). IsPermutation l c.in-Ok-Some.news.items) c.items.ensures
     (if_some_at c.in-Ok-Some.field-0 _ c.in-Ok-Some.news c.in-Ok-Some.field-0-is c.in-Ok-Some.ensures.same)))
     c.in_ok-delta.ensures.reads
+
+pub returns-in_err-edits-clause-zero : goal.returns-in_err-edits-clause-zero
+returns-in_err-edits-clause-zero g c =
+    let p = err_from_is_err_and c.from_residual-in_err-edits.result c.from_residual-in_err-edits.ensures.1 in
+    rw (p.1, p.2) (λ rs is. zero_page _ c.in_err-edits.ensures.zero)
+
+pub returns-in_err-edits-clause-bad : goal.returns-in_err-edits-clause-bad
+returns-in_err-edits-clause-bad g c =
+    let p = err_from_is_err_and c.from_residual-in_err-edits.result c.from_residual-in_err-edits.ensures.1 in
+    rw (p.1, p.2) (zero_bad _ c.args.tree.now _ (zero_page _ c.in_err-edits.ensures.zero))

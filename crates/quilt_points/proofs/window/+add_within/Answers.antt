@@ -18,6 +18,7 @@ use Rattle.quilt_points.specs.Windows.{visited}
 use Rattle.quilt_world.specs.Tale.{Goes}
 use Rattle.quilt_loc.proofs.Nesting.{side_pos}
 use Rattle.quilt_loc.proofs.Members.{Contains-nil}
+use Rattle.quilt_points.proofs.Damage.{bad_along}
 use Rattle.quilt_points.proofs.window.+add_within.Goals as goal
 
 pub returns-then-not-meets-clause-found : goal.returns-then-not-meets-clause-found
@@ -164,3 +165,8 @@ pub returns-in_err-add_within-clause-zero : goal.returns-in_err-add_within-claus
 returns-in_err-add_within-clause-zero g t c =
     let p = err_from_is_err_and c.from_residual-in_err-add_within.result c.from_residual-in_err-add_within.ensures.1 in
     rw (p.1, p.2) (λ rs is. c.in_err-add_within.ensures.zero rs (tree_along _ _ c.args.tree.now rs c.loop-q.invariant.left.told is))
+
+pub returns-in_err-add_within-clause-bad : goal.returns-in_err-add_within-clause-bad
+returns-in_err-add_within-clause-bad g t c =
+    let p = err_from_is_err_and c.from_residual-in_err-add_within.result c.from_residual-in_err-add_within.ensures.1 in
+    rw (p.1, p.2) (bad_along _ _ c.args.tree.now _ c.loop-q.invariant.left.told c.in_err-add_within.ensures.bad)
