@@ -19,8 +19,8 @@ on_below a b pos on h = record {
 pub rest_all : (p : Span) (C : Fraction → Type 0) → IsSpan p → ((t : Fraction) → IsOn t → LiesIn p t → C t) → IsRest p C p
 rest_all p C is all = record { span = is; before = λ t on l. l; meets = all; all = λ t on l c. l }
 
-pub rest_from : (p : Span) (m k : ℕ) → IsSpan p → 0 < k → k < 65536 → UpTo p.first (record { num = m; den = k }) → UpTo (record { num = m; den = k }) p.last →
-    IsRest p (From m k) (record { first = record { num = m; den = k }; last = p.last })
+pub rest_from : (p : Span) (m k : ℕ) → IsSpan p → 0 < k → k < 65536 → UpTo p.first (record { num = m; den = k }) → UpTo (record { num = m; den = k }) p.last
+    → IsRest p (From m k) (record { first = record { num = m; den = k }; last = p.last })
 rest_from p m k is pos small low high =
     let here : Fraction = record { num = m; den = k } in
     record {
@@ -30,8 +30,8 @@ rest_from p m k is pos small low high =
       all = λ t on l c. record { first = record { cross = c.fact }; last = l.last };
     }
 
-pub rest_until : (p : Span) (m k : ℕ) → IsSpan p → 0 < k → k < 65536 → UpTo p.first (record { num = m; den = k }) → UpTo (record { num = m; den = k }) p.last →
-    IsRest p (Until m k) (record { first = p.first; last = record { num = m; den = k } })
+pub rest_until : (p : Span) (m k : ℕ) → IsSpan p → 0 < k → k < 65536 → UpTo p.first (record { num = m; den = k }) → UpTo (record { num = m; den = k }) p.last
+    → IsRest p (Until m k) (record { first = p.first; last = record { num = m; den = k } })
 rest_until p m k is pos small low high =
     let here : Fraction = record { num = m; den = k } in
     record {

@@ -11,6 +11,7 @@ use Rattle.quilt_loc.proofs.Quartered.{quarters_are}
 use Rattle.quilt_line_laws.proofs.Meeting.{meets_within}
 use Rattle.quilt_line_audit.specs.declared.pair.Pair.{Pair}
 use Rattle.quilt_line_audit.specs.Pairs.{near, none_pair, pair_on, block_pairs, pairs_on, EachInTurn, BeginsWithPairs}
+use Rattle.quilt_types.proofs.Lists.{filter_twice}
 
 -- ---- the pairs of a block have a first one
 pub record HasFirst (b : Block) (pairs : List Pair) : Type 0 where
@@ -118,10 +119,6 @@ keeps p r x xs false e h = sym (dropped (r x) refl)
     dropped : (u : Bool) → r x ≡ u → cond u (x ∷ filter r xs) (filter r xs) ≡ filter r xs
     dropped true g = absurd (let no : false ≡ true = sym e ∙ h g in cc)
     dropped false g = refl
-
-filter_twice : {X : Type 0} (p r : X → Bool) → ((x : X) → r x ≡ true → p x ≡ true) → (xs : List X) → filter r (filter p xs) ≡ filter r xs
-filter_twice p r h [] = refl
-filter_twice p r h (x ∷ xs) = keeps p r x (filter p xs) (p x) refl (h x) ∙ ap (λ l. cond (r x) (x ∷ l) l) (filter_twice p r h xs)
 
 pub near_pairs : (b q : Block) (segs : List (ℕ × Seg)) → Within q b → pairs_on (near b segs) q ≡ pairs_on segs q
 near_pairs b q segs w =

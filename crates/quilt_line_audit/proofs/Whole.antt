@@ -1,5 +1,5 @@
 -- The records of a line layer that are all, and those that are not.
-use Rattle.std.proofs.Common.{◌≡◌, ◌⊎◌, ℕ, ◌<◌, ◌≤◌, ◌^◌, Bool, true, false, ◌&&◌, T, List, [], ◌∷◌, ◌++◌, map, filter, flat_map, refl, sym, ◌∙◌, ap, subst}
+use Rattle.std.proofs.Common.{◌≡◌, ◌⊎◌, ℕ, ◌<◌, ◌≤◌, ◌^◌, true, T, List, [], ◌∷◌, ◌++◌, map, filter, flat_map, refl, sym, ◌∙◌, ap, subst}
 use Rattle.std.proofs.Common.{inl, inr, ⊎_elim, Contains, Ordering, Less, append-nil, nat_cmp}
 use Rattle.std.specs.Ordering.{is_lt}
 use Rattle.std.specs.FinMap as finmap
@@ -38,22 +38,20 @@ use Rattle.quilt_line_audit.proofs.Facts.{fact_of, pairs_facts, with_lines, pair
 use Rattle.quilt_line_audit.proofs.Cuts.{IsCutInto, cut_into, cover_from}
 use Rattle.quilt_line_audit.proofs.Ordered.{ordered_are, begins_in}
 use Rattle.quilt_line_audit.proofs.Canonical.{Rises-unmap, blocks_here, pairs_here, segments_here}
+use Rattle.quilt_types.proofs.Truths.{T-both}
 
 -- ---- a map of a list whose keys rise
-both : (a b : Bool) → T a → T b → T (a && b)
-both true b p q = q
-both false b p q = absurd p
 
 less : (o : Ordering) → o ≡ Less → T (is_lt o)
 less o e = subst (λ (z : Ordering). T (is_lt z)) (sym e) tt
 
 below_from : (k : ℕ) (es : List (ℕ × Seg)) → ((e : ℕ × Seg) → Contains es e → nat_cmp k e.0 ≡ Less) → T (sorted.below_all nat_cmp k es)
 below_from k [] h = tt
-below_from k (e ∷ es) h = both _ _ (less (nat_cmp k e.0) (h e (Contains-here e es))) (below_from k es (λ d c. h d (Contains-there e es d c)))
+below_from k (e ∷ es) h = T-both _ _ (less (nat_cmp k e.0) (h e (Contains-here e es))) (below_from k es (λ d c. h d (Contains-there e es d c)))
 
 sorted_from : (es : List (ℕ × Seg)) → Rises (by_first nat_cmp) es → T (sorted.is_sorted nat_cmp es)
 sorted_from [] h = tt
-sorted_from (e ∷ es) h = both _ _ (below_from e.0 es h.0) (sorted_from es h.1)
+sorted_from (e ∷ es) h = T-both _ _ (below_from e.0 es h.0) (sorted_from es h.1)
 
 -- ---- the records of a layer that are all
 module _ (form n : ℕ) (rs : List Record) (layer t : ℕ) (run : LineRun) (le : n ≤ 12) (some : 1 ≤ layer) (h : IsLineRun n rs layer t run)

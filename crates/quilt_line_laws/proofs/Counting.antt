@@ -1,6 +1,6 @@
 -- Counts of segments and of facts at a removal.
-use Rattle.std.proofs.Common.{◌≡◌, ◌↔◌, ℕ, ◌≤◌, Bool, true, false, cond, not, ◌||◌, List, [], ◌∷◌, ◌++◌, map, filter, flat_map, length, length-append, eqb}
-use Rattle.std.proofs.Common.{refl, sym, ap, ap₂, ◌∙◌, subst, arith, Contains}
+use Rattle.std.proofs.Common.{◌≡◌, ◌↔◌, ℕ, ◌≤◌, Bool, true, false, cond, not, ◌||◌, List, [], ◌∷◌, map, filter, flat_map, length, length-append, eqb}
+use Rattle.std.proofs.Common.{refl, sym, ap, ◌∙◌, subst, arith, Contains}
 use Rattle.std.specs.FinMap as finmap
 use Rattle.std.proofs.lemmas.Bool.{both_ways}
 use Rattle.std.proofs.lemmas.List.{length-map}
@@ -31,6 +31,7 @@ use Rattle.quilt_line_laws.proofs.OneSide.{IsBig, wide, smaller}
 use Rattle.quilt_line_laws.proofs.Levels.{first_quarter, is_first, becomes_says, one_inside}
 use Rattle.quilt_line_laws.proofs.Descent.{blocks_in_law}
 use Rattle.quilt_line_laws.proofs.NoneTwice.{entries_apart, same_entry}
+use Rattle.quilt_types.proofs.Lists.{flat_map_same}
 
 -- ---- the ids of a block
 first : ℕ × Seg → ℕ
@@ -111,9 +112,6 @@ through_law n t known segs cover s k b others id h hb e o =
     )
 
 -- ---- what goes where four quarters merge
-flat_map_same : {X Y : Type 0} (f g : X → List Y) (xs : List X) → ((x : X) → Contains xs x → f x ≡ g x) → flat_map f xs ≡ flat_map g xs
-flat_map_same f g [] h = refl
-flat_map_same {Y = Y} f g (x ∷ xs) h = ap₂ (λ (a b : List Y). a ++ b) (h x (Contains-here x xs)) (flat_map_same f g xs (λ z c. h z (Contains-there x xs z c)))
 
 going_merged : (t : ℕ) (segs : SegMap) (cover : BlockSet) (s : Seg) (k : ℕ) (q : Block) (u m v : Bool) → u ≡ false → m ≡ true → v ≡ true → (xs ys : List Block)
     → cond {A = List Block} (u || not m) [] (cond {A = List Block} v xs ys) ≡ xs

@@ -1,10 +1,10 @@
 -- Every edit of a line layer gives a line layer.
-use Rattle.std.proofs.Common.{◌≡◌, ◌⊎◌, ℕ, ◌^◌, ◌<◌, true, Option, is_some, List, inl, inr, true≢false, refl, sym, ap, ◌∙◌, subst, ⊎_elim, Contains, All}
+use Rattle.std.proofs.Common.{◌≡◌, ◌⊎◌, ℕ, ◌^◌, ◌<◌, true, Option, is_some, inl, inr, true≢false, refl, sym, ap, ◌∙◌, subst, ⊎_elim, Contains, All}
 use Rattle.std.specs.FinMap as finmap
 use Rattle.std.specs.FinMap.{nat_cmp-IsAntisymmetric}
 use Rattle.std.specs.Ordering.{nat_cmp}
 use Rattle.std.specs.Cmp.{nat_cmp_total}
-use Rattle.std.proofs.lemmas.List.Elements.{All-contains, All-contains_itself, All-weaker}
+use Rattle.std.proofs.lemmas.List.Elements.{All-contains}
 use Rattle.std.proofs.lemmas.Bool.{cases_eq}
 use Rattle.quilt_types.specs.Sets as finset
 use Rattle.quilt_types.specs.declared.plane.Block.{Block}
@@ -24,10 +24,7 @@ use Rattle.quilt_line_laws.specs.Lawful.{NewLaw, AddedLaw, RemovedLaw}
 use Rattle.quilt_line_laws.proofs.LineFacts.{entry, got}
 use Rattle.quilt_line_laws.proofs.Cutting.{cut_says, after_from}
 use Rattle.quilt_line_laws.proofs.Adding.{cover_of, same_seg_value, no_seg}
-
--- what holds of each element holds of all
-each : {X : Type 0} (P : X → Type 0) (xs : List X) → ((x : X) → Contains xs x → P x) → All P xs
-each P xs h = All-weaker (Contains xs) P h xs (All-contains_itself xs)
+use Rattle.quilt_spell.proofs.Spelling.{all_from}
 
 abbrev Small : ℕ × Seg → Type 0
 Small e = e.0 < 2 ^ 32
@@ -56,7 +53,7 @@ entry_left segs id e c =
     (cases_eq e.0 id)
 
 blocks_only : (n : ℕ) (cover : BlockSet) → IsBlockCover n cover → All (Contains (blocks n)) (finset.items cover)
-blocks_only n cover h = each (Contains (blocks n)) (finset.items cover) (λ b c. Contains-blocks n b (h.only b c))
+blocks_only n cover h = all_from (Contains (blocks n)) (finset.items cover) (λ b c. Contains-blocks n b (h.only b c))
 
 pub added_law : AddedLaw
 added_law n t segs cover id s h small inside =
@@ -69,13 +66,13 @@ added_law n t segs cover id s h small inside =
     record {
       least = h.least;
       most = h.most;
-      ids = each Small (finmap.entries now)
+      ids = all_from Small (finmap.entries now)
           (λ e c. ⊎_elim (λ w. subst (λ (z : ℕ). z < 2 ^ 32) (sym w.0) small) (λ w. All-contains Small (finmap.entries segs) e h.ids w)
           (entry_cases segs id s e c));
-      inside = each (Inside n) (finmap.entries now)
+      inside = all_from (Inside n) (finmap.entries now)
           (λ e c. ⊎_elim (λ w. subst (λ (z : Seg). is_in_square n z ≡ true) (sym w.1) inside)
           (λ w. All-contains (Inside n) (finmap.entries segs) e h.inside w) (entry_cases segs id s e c));
-      each = each (Contains (blocks n)) (finset.items later) (λ b c. Contains-blocks n b (blocks_are b c));
+      each = all_from (Contains (blocks n)) (finset.items later) (λ b c. Contains-blocks n b (blocks_are b c));
       once = after_add-cover n t now cover s (λ b c. Contains-blocks n b (k.only b c)) h.once;
     }
 
@@ -86,8 +83,8 @@ removed_law n t segs cover id s h =
     record {
       least = h.least;
       most = h.most;
-      ids = each Small (finmap.entries now) (λ e c. All-contains Small (finmap.entries segs) e h.ids (entry_left segs id e c));
-      inside = each (Inside n) (finmap.entries now) (λ e c. All-contains (Inside n) (finmap.entries segs) e h.inside (entry_left segs id e c));
+      ids = all_from Small (finmap.entries now) (λ e c. All-contains Small (finmap.entries segs) e h.ids (entry_left segs id e c));
+      inside = all_from (Inside n) (finmap.entries now) (λ e c. All-contains (Inside n) (finmap.entries segs) e h.inside (entry_left segs id e c));
       each = blocks_only n (after_remove n t now cover s) later;
       once = is_cover-true n (after_remove n t now cover s) later.covers;
     }
@@ -116,8 +113,8 @@ new_law n t low high =
     record {
       least = low;
       most = high;
-      ids = each Small (finmap.entries finmap.empty) (λ e c. absurd (no_entries e c));
-      inside = each (Inside n) (finmap.entries finmap.empty) (λ e c. absurd (no_entries e c));
+      ids = all_from Small (finmap.entries finmap.empty) (λ e c. absurd (no_entries e c));
+      inside = all_from (Inside n) (finmap.entries finmap.empty) (λ e c. absurd (no_entries e c));
       each = blocks_only n one cover;
       once = is_cover-true n one cover.covers;
     }

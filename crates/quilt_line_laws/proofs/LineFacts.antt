@@ -18,6 +18,8 @@ use Rattle.quilt_loc.proofs.Members.{Contains-nil, Contains-here, Contains-there
 use Rattle.quilt_loc.proofs.Members.{Contains-filter_from, Contains-flat_map, Contains-flat_map_from}
 use Rattle.quilt_spell.proofs.Maps.{entry_from_get, get_from_entry}
 use Rattle.quilt_line_laws.specs.Lines.{IsMet, IsLineFact, IsOnBlock, none_on}
+use Rattle.quilt_types.proofs.Lists.{nothing_in}
+use Rattle.quilt_spell.proofs.facts.FactMembers.{or_none_some, or_none_none}
 
 -- ---- entries
 pub entry : (segs : SegMap) (id : ℕ) (s : Seg) → finmap.get segs id ≡ Some s → Contains (finmap.entries segs) (id, s)
@@ -36,17 +38,6 @@ met_by b e = IsMetBy b e.0
 or_none_from : (none : Fact) (fs : List Fact) (f : Fact) → Contains (or_none none fs) f → ((none ≡ f) × (fs ≡ [])) ⊎ Contains fs f
 or_none_from none [] f c = ⊎_elim (λ e. inl (e, refl)) (λ d. absurd (Contains-nil f d)) (Contains-cons_cases none [] f c)
 or_none_from none (g ∷ fs) f c = inr c
-
-or_none_some : (none : Fact) (fs : List Fact) (f : Fact) → Contains fs f → Contains (or_none none fs) f
-or_none_some none [] f c = absurd (Contains-nil f c)
-or_none_some none (g ∷ fs) f c = c
-
-or_none_none : (none : Fact) (fs : List Fact) → ((f : Fact) → Contains fs f → ⊥) → Contains (or_none none fs) none
-or_none_none none [] h = Contains-here none []
-or_none_none none (g ∷ fs) h = absurd (h g (Contains-here g fs))
-
-nothing_in : {X : Type 0} (xs : List X) → xs ≡ [] → (x : X) → Contains xs x → ⊥
-nothing_in xs e x c = Contains-nil x (subst (λ (l : List _). Contains l x) e c)
 
 -- ---- the facts on one block
 module _ (segs : SegMap) (b : Block) where

@@ -1,6 +1,6 @@
 -- Four quarters that become one block leave a cover, and so does what follows a segment's end.
 use Rattle.std.proofs.Common.{◌≡◌, ℕ, ◌^◌, ◌<◌, ◌≤◌, Bool, true, false, cond, ◌&&◌, ◌↔◌, ◌⊎◌, List, [], ◌∷◌, fold, eqb, nat_le, refl, sym, ◌∙◌, subst, arith}
-use Rattle.std.proofs.Common.{Contains, ⊎_elim, inl, inr, eqb-true, pow_pos, pow-suc}
+use Rattle.std.proofs.Common.{Contains, ⊎_elim, inl, inr, eqb-true, pow-suc}
 use Rattle.std.specs.List.{range_with_len, list_all}
 use Rattle.std.proofs.lemmas.Bool.{and_parts, cases_Bool, both_ways}
 use Rattle.quilt_types.specs.declared.plane.Pixel.{Pixel}
@@ -14,7 +14,7 @@ use Rattle.quilt_types.specs.Sets as sets
 use Rattle.quilt_loc.proofs.Members.{Contains-here, Contains-there, Contains-filter_from, Contains-range_from, list_all-at}
 use Rattle.quilt_loc.proofs.Blocks.{Holds-from, in_block-true, IsBlock-from}
 use Rattle.quilt_loc.proofs.Nesting.{Within-holds, nested, around}
-use Rattle.quilt_loc.proofs.Quartered.{quarters_are, is_quarter}
+use Rattle.quilt_loc.proofs.Quartered.{quarters_are, is_quarter, wide_side}
 use Rattle.quilt_loc.proofs.Around.{IsBlock-around, Holds-around}
 use Rattle.quilt_loc.proofs.PlaneOrders.{block_total}
 use Rattle.quilt_spell.proofs.facts.FactKeys.{block_same}
@@ -98,10 +98,6 @@ merge-cover n t segs s cover b hb wide h =
     let both = and_parts (meets s (square b) && list_all (sets.contains cover) (quarters_of b)) (nat_le (segs_meeting segs b) t) e in
     let held = and_parts (meets s (square b)) (list_all (sets.contains cover) (quarters_of b)) both.0 in
     (contains_is block_total block_same cover q).0 (list_all-at (sets.contains cover) (quarters_of b) q held.1 c)) h
-
-wide_side : (k : ℕ) → 1 ≤ k → 1 < side k
-wide_side ℕ.zero h = absurd (omega arith)
-wide_side (ℕ.suc k) h = let p = pow_pos k in let q = pow-suc 2 k in omega arith
 
 -- after a segment went the blocks are a cover still
 pub after_remove-cover : (n t : ℕ) (segs : SegMap) (cover : BlockSet) (s : Seg) → IsBlockCover n cover → IsBlockCover n (after_remove n t segs cover s)

@@ -10,7 +10,7 @@ use Rattle.quilt_types.specs.declared.plane.Seg.{Seg}
 use Rattle.quilt_types.specs.Plane.{side, corner, quarters_of, parent_of, whole, IsBlock, Within}
 use Rattle.quilt_types.specs.Layers.{SegMap, BlockSet}
 use Rattle.quilt_types.specs.Segments.{square, meets}
-use Rattle.quilt_types.specs.Facts.{Fact, IsOfKind, HasColour, HoldsPoint, HoldsNoPoint, IsSegment, IsMetBy, IsMetByNone, or_none, line_facts}
+use Rattle.quilt_types.specs.Facts.{Fact, IsOfKind, HasColour, HoldsPoint, HoldsNoPoint, IsSegment, IsMetBy, IsMetByNone, line_facts}
 use Rattle.quilt_spell.specs.Apart.{Apart}
 use Rattle.quilt_loc.proofs.Members.{Contains-nil, Contains-cons_cases, Contains-filter_from}
 use Rattle.quilt_spell.proofs.Lists.{Apart-filter, Apart-rises, Apart-map, Apart-flat_map}
@@ -25,14 +25,11 @@ use Rattle.quilt_line_laws.proofs.OneSide.{IsBig, wide, smaller}
 use Rattle.quilt_line_laws.proofs.Levels.{becomes_says}
 use Rattle.quilt_line_laws.proofs.Adding.{same_seg_value}
 use Rattle.quilt_line_laws.proofs.Descent.{IsFree, come_law, go_law, stay_law, blocks_in_law, goes_on, quarter_free, not_one, all_free, later_cover}
+use Rattle.quilt_spell.proofs.facts.FactKeys.{or_none_apart}
 
 -- ---- facts on blocks
 pub entries_apart : (segs : SegMap) → Apart (finmap.entries segs)
 entries_apart segs = Apart-rises (by_first nat_cmp) (on_total (λ (e : ℕ × Seg). e.0) nat_cmp_total) (finmap.entries segs) (Rises-entries nat_cmp segs)
-
-or_none_apart : (none : Fact) (fs : List Fact) → Apart fs → Apart (or_none none fs)
-or_none_apart none [] h = (λ c. Contains-nil none c, tt)
-or_none_apart none (f ∷ fs) h = h
 
 id_of : Fact → ℕ
 id_of (IsMetBy b id) = id

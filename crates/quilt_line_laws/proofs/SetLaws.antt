@@ -10,14 +10,7 @@ use Rattle.std.proofs.lemmas.Bool.{and_parts, and_from, not-true, not_from_false
 use Rattle.std.proofs.lemmas.List.Sums.{sum_by-cons, get_or-le-sum_by}
 use Rattle.quilt_types.specs.Sets as sets
 use Rattle.quilt_loc.proofs.Members.{Contains-nil, Contains-here, Contains-there, Contains-cons_cases}
-
-T-first : (a b : Bool) → T (a && b) → T a
-T-first true b h = tt
-T-first false b h = absurd h
-
-T-second : (a b : Bool) → T (a && b) → T b
-T-second true b h = h
-T-second false b h = absurd h
+use Rattle.quilt_types.proofs.Truths.{T-first, T-second}
 
 is_some-cond : {X : Type 0} (b : Bool) (x : X) (o : Option X) → is_some (cond b (Some x) o) ≡ (b || is_some o)
 is_some-cond true x o = refl

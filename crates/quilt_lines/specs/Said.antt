@@ -1,5 +1,5 @@
 -- What the records of a tree say of a line layer, also where they are not those of one.
-use Rattle.std.specs.Prelude.{◌≡◌, ◌⊎◌, ℕ, ◌≤◌, List, [], ◌∷◌, Option, Some, None, All, map, length}
+use Rattle.std.specs.Prelude.{◌≡◌, ◌≢◌, ◌⊎◌, ℕ, ◌≤◌, List, [], ◌∷◌, Option, Some, None, All, map, length}
 use Rattle.quilt_types.specs.declared.plane.Block.{Block}
 use Rattle.quilt_types.specs.declared.plane.Seg.{Seg}
 use Rattle.quilt_types.specs.declared.stop.Stop.{Stop}
@@ -7,7 +7,11 @@ use Rattle.quilt_types.specs.declared.stop.Stop.TheVariants.{Damaged}
 use Rattle.quilt_types.specs.Facts.{IsSegment}
 use Rattle.quilt_record.specs.declared.key.Key.{Key}
 use Rattle.quilt_record.specs.declared.record.Record.{Record}
+use Rattle.quilt_btree.specs.declared.tree.Tree.{Tree}
+use Rattle.quilt_btree.specs.Damage.{NamesBad}
 use Rattle.quilt_btree.specs.Lists.{value_at_key, range_of}
+use Rattle.quilt_btree.specs.Stops.{NamesPage}
+use Rattle.quilt_btree.specs.Trees.{IsTree}
 use Rattle.quilt_near.specs.declared.part.Part.{Part}
 use Rattle.quilt_near.specs.declared.part.Part.TheVariants.{Split, Leaf}
 use Rattle.quilt_lines.specs.Layers.{fact_record}
@@ -17,9 +21,10 @@ use Rattle.quilt_lines.specs.Reads.{segment_key, pair_of, none_of, ids_of}
 abbrev pub greatest : ℕ
 greatest = 4294967295
 
--- no page but 0 is said to be damaged
-abbrev pub NamesZero : Stop → Type 0
-NamesZero stop = (page : ℕ) → stop ≡ Damaged page → page ≡ 0
+-- page 0 alone is said to be damaged where the tree has records, and else a page that is bad itself
+pub record NamesZeroOrBad (told : Option (List (List ℕ))) (tree : Tree) (e : Stop) : Type 0 where
+  pub zero : (rs : List Record) → IsTree told tree rs → NamesPage 1 e
+  pub bad : e ≢ Damaged 0 → NamesBad told tree.height tree.root e
 
 -- the last key that a record of the block can have
 abbrev pub last_block_key : ℕ → ℕ → Block → Key

@@ -1,5 +1,5 @@
 ghost use Rattle.std.specs.Prelude.{◌≡◌, ◌↔◌, ◌≤◌, ◌<◌, ◌+◌, ◌*◌, ℕ, true, [], ◌∷◌, ◌++◌, length};
-ghost use Rattle.std.specs.Prelude.{IfOk, IfErr, IfSome, IsNone, IsSome, None, OnOk, MatchOption};
+ghost use Rattle.std.specs.Prelude.{IfOk, IfErr, IfSome, IsNone, IsSome, List, None, OnOk, MatchOption};
 ghost use Rattle.std.specs.FinMap as finmap;
 ghost use Rattle.quilt_types.specs.Facts.{IsMetBy};
 ghost use Rattle.quilt_types.specs.Layers.{SegMap, BlockSet, is_in_square as is_seg_in_square};
@@ -8,10 +8,12 @@ ghost use Rattle.quilt_types.specs.Quadtrees.{after_add, is_reached, reach};
 ghost use Rattle.quilt_types.specs.Segments.{square, meets as segment_meets};
 ghost use Rattle.quilt_near.specs.Lines.{meeting};
 ghost use Rattle.quilt_line_laws.specs.Merging.{met_in};
+ghost use Rattle.quilt_record.specs.declared.record.Record.{Record as AnyRecord};
 ghost use Rattle.quilt_store.specs.Calls.{OnlyReads};
 ghost use Rattle.quilt_world.specs.Tale.{Goes};
 ghost use Rattle.quilt_store.specs.Stops.{IsNotDamage};
-ghost use Rattle.quilt_btree.specs.Trees.{IsRooted};
+ghost use Rattle.quilt_btree.specs.Stops.{NamesPage};
+ghost use Rattle.quilt_btree.specs.Trees.{IsRooted, IsTree};
 ghost use Rattle.quilt_edits.specs.Edits.{EditsAscend};
 ghost use Rattle.quilt_lines.specs.Layers.{HasLines};
 ghost use Rattle.quilt_lines.specs.Reads.{ids_of};
@@ -33,7 +35,9 @@ use std::alloc::{AllocError, Global};
 
 /// The records that go and those that come when a segment comes under an id to the line layer with this number, from 1 to 255, and
 /// this splitting threshold, from 1 to 32, of a map of this level, from 1 to 12: None exactly where the id is there. Both ends are
-/// pixels of the square. It reads at most 3 pages, and what a look at each block that the segment meets may cost.
+/// pixels of the square. It reads at most 3 pages, and what a look at each block that the segment meets may cost. Page 0 is said to be
+/// damaged where the records under the id's key or on a block are none of a line layer, where a pixel that the segment meets has none,
+/// where a segment of a block that is split is missing, and where what goes and comes are no edits.
 pub fn plan_add<S: PageStore>(
     alloc: Global,
     store: &mut S,
@@ -57,6 +61,7 @@ pub fn plan_add<S: PageStore>(
     ensures order { IfOk result (λ o. IfSome o EditsAscend) }
     ensures sound { IfErr result (λ e. (segs : SegMap) (cover : BlockSet) → HasLines (S.told store.old) tree.now layer level t segs cover →
         IsNotDamage e) }
+    ensures zero { IfErr result (λ e. (rs : List AnyRecord) → IsTree (S.told store.old) tree.now rs → NamesPage 1 e) }
     ensures left { OnlyReads S.PageStore store.old store.new result }
     ensures reads { IfOk result (λ o. MatchOption o (Goes (λ old new. new ≤ old + 3) (S.reads store.old) (S.reads store.new))
         (λ edits. (segs : SegMap) (cover : BlockSet) → HasLines (S.told store.old) tree.now layer level t segs cover →
@@ -106,6 +111,7 @@ impl Arrival {
         ensures sound { IfErr result (λ e. (segs : SegMap) (cover : BlockSet) →
             HasLines (S.told store.old) self.now.view.tree self.now.view.layer self.now.view.level self.now.t segs cover →
             finmap.get segs self.now.id ≡ None → IsNotDamage e) }
+        ensures zero { IfErr result (λ e. (rs : List AnyRecord) → IsTree (S.told store.old) self.now.view.tree rs → NamesPage 1 e) }
         ensures left { OnlyReads S.PageStore store.old store.new result }
         ensures reads { IfOk result (λ edits. (segs : SegMap) (cover : BlockSet) →
             HasLines (S.told store.old) self.now.view.tree self.now.view.layer self.now.view.level self.now.t segs cover →
@@ -150,6 +156,7 @@ impl Arrival {
         ensures sound { IfErr result (λ e. (segs : SegMap) (cover : BlockSet) →
             HasLines (S.told store.old) self.now.view.tree self.now.view.layer self.now.view.level self.now.t segs cover →
             is_reached cover b ≡ true → IsNotDamage e) }
+        ensures zero { IfErr result (λ e. (rs : List AnyRecord) → IsTree (S.told store.old) self.now.view.tree rs → NamesPage 1 e) }
         ensures left { OnlyReads S.PageStore store.old store.new result }
         ensures reads { OnOk result ((segs : SegMap) (cover : BlockSet) →
             HasLines (S.told store.old) self.now.view.tree self.now.view.layer self.now.view.level self.now.t segs cover →
@@ -190,6 +197,7 @@ impl Arrival {
         ensures sound { IfErr result (λ e. (segs : SegMap) (cover : BlockSet) →
             HasLines (S.told store.old) self.now.view.tree self.now.view.layer self.now.view.level self.now.t segs cover →
             ids.now ≡ ids_of (meeting segs b) → IsNotDamage e) }
+        ensures zero { IfErr result (λ e. (rs : List AnyRecord) → IsTree (S.told store.old) self.now.view.tree rs → NamesPage 1 e) }
         ensures left { OnlyReads S.PageStore store.old store.new result }
         ensures reads { OnOk result (Goes (λ old new. new ≤ old + 3 * length ids.now) (S.reads store.old) (S.reads store.new)) }
     {
@@ -239,6 +247,7 @@ impl Arrival {
         ensures sound { IfErr result (λ e. (segs : SegMap) (cover : BlockSet) →
             HasLines (S.told store.old) self.now.view.tree self.now.view.layer self.now.view.level self.now.t segs cover →
             ids.now ≡ ids_of (meeting segs b) → IsNotDamage e) }
+        ensures zero { IfErr result (λ e. (rs : List AnyRecord) → IsTree (S.told store.old) self.now.view.tree rs → NamesPage 1 e) }
         ensures left { OnlyReads S.PageStore store.old store.new result }
         ensures reads { OnOk result (Goes (λ old new. new ≤ old + 3 * length ids.now) (S.reads store.old) (S.reads store.new)) }
     {

@@ -1,5 +1,6 @@
-ghost use Rattle.std.specs.Prelude.{◌≡◌, ℕ, ◌+◌, ◌*◌, ◌≤◌, ◌&&◌, ◌==◌, false, Contains, List, IfOk, IfErr, IfSome, OnOk, MatchOption, [], vec_len};
+ghost use Rattle.std.specs.Prelude.{◌≡◌, ◌≢◌, ℕ, ◌+◌, ◌*◌, ◌≤◌, ◌&&◌, ◌==◌, false, Contains, List, IfOk, IfErr, IfSome, OnOk, MatchOption, [], vec_len};
 ghost use Rattle.std.specs.Option.{is_none};
+ghost use Rattle.quilt_types.specs.declared.stop.Stop.TheVariants.{Damaged};
 ghost use Rattle.quilt_types.specs.Sets as finset;
 ghost use Rattle.quilt_types.specs.Plane.{in_block, IsBlock};
 ghost use Rattle.quilt_types.specs.Layers.{SegMap, BlockSet};
@@ -7,12 +8,13 @@ ghost use Rattle.quilt_record.specs.declared.record.Record.{Record as AnyRecord}
 ghost use Rattle.quilt_store.specs.Calls.{OnlyReads};
 ghost use Rattle.quilt_store.specs.Stops.{IsNotDamage};
 ghost use Rattle.quilt_world.specs.Tale.{Goes};
+ghost use Rattle.quilt_btree.specs.Damage.{NamesBad};
 ghost use Rattle.quilt_btree.specs.Spots.{IsSpotIf};
+ghost use Rattle.quilt_btree.specs.Stops.{NamesPage};
 ghost use Rattle.quilt_btree.specs.Trees.{IsRooted, IsTree};
 ghost use Rattle.quilt_lines.specs.Layers.{HasLines, SpellsLines};
 ghost use Rattle.quilt_lines.specs.Reads.{AreIdsAt};
 ghost use Rattle.quilt_lines.specs.Hints.{is_cut as is_cut_of, IsOfCover};
-ghost use Rattle.quilt_lines.specs.Said.{NamesZero};
 
 use crate::search::Search;
 use crate::view::LineView;
@@ -86,7 +88,8 @@ impl LineView {
         ensures spot { OnOk result (IsSpotIf (S.told store.old) self.now.tree hint.new.spot) }
         ensures sound { IfErr result (λ e. (t : ℕ) (segs : SegMap) (cover : BlockSet)
             → HasLines (S.told store.old) self.now.tree self.now.layer self.now.level t segs cover → IsNotDamage e) }
-        ensures zero { IfErr result (λ e. (rs : List AnyRecord) → IsTree (S.told store.old) self.now.tree rs → NamesZero e) }
+        ensures zero { IfErr result (λ e. (rs : List AnyRecord) → IsTree (S.told store.old) self.now.tree rs → NamesPage 1 e) }
+        ensures bad { IfErr result (λ e. e ≢ Damaged 0 → NamesBad (S.told store.old) self.now.tree.height self.now.tree.root e) }
         ensures left { OnlyReads S.PageStore store.old store.new result }
         ensures reads { IfOk result (λ o. MatchOption o (Goes (λ old new. new ≤ old + 9) (S.reads store.old) (S.reads store.new))
             (λ ids. Goes (λ old new. new ≤ old + (12 + 3 * vec_len ids)) (S.reads store.old) (S.reads store.new))) }
@@ -120,7 +123,8 @@ impl LineView {
         ensures spot { OnOk result (IsSpotIf (S.told store.old) self.now.tree hint.new.spot) }
         ensures sound { IfErr result (λ e. (t : ℕ) (segs : SegMap) (cover : BlockSet)
             → HasLines (S.told store.old) self.now.tree self.now.layer self.now.level t segs cover → IsNotDamage e) }
-        ensures zero { IfErr result (λ e. (rs : List AnyRecord) → IsTree (S.told store.old) self.now.tree rs → NamesZero e) }
+        ensures zero { IfErr result (λ e. (rs : List AnyRecord) → IsTree (S.told store.old) self.now.tree rs → NamesPage 1 e) }
+        ensures bad { IfErr result (λ e. e ≢ Damaged 0 → NamesBad (S.told store.old) self.now.tree.height self.now.tree.root e) }
         ensures left { OnlyReads S.PageStore store.old store.new result }
         ensures reads { IfOk result (λ o. MatchOption o (Goes (λ old new. new ≤ old + 12) (S.reads store.old) (S.reads store.new))
             (λ ids. Goes (λ old new. new ≤ old + (12 + 3 * vec_len ids)) (S.reads store.old) (S.reads store.new))) }

@@ -1,19 +1,21 @@
-ghost use Rattle.std.specs.Prelude.{◌≡◌, ℕ, ◌+◌, ◌*◌, ◌<◌, ◌≤◌, true, Some, None, IfOk, IfErr, IfSome, IsErrOf, List, [], ◌∷◌, map, length, vec_len};
+ghost use Rattle.std.specs.Prelude.{◌≡◌, ◌≢◌, ℕ, ◌+◌, ◌*◌, ◌<◌, ◌≤◌, true, Some, None, IfOk, IfErr, IfSome, IsErrOf, List, [], ◌∷◌, map, length, vec_len};
 ghost use Rattle.std.specs.Prelude.{MatchOption, OnOk, unwrap_or, false};
 ghost use Rattle.std.specs.Option.{option_map};
 ghost use Rattle.quilt_types.specs.Sets as finset;
-ghost use Rattle.quilt_types.specs.declared.stop.Stop.TheVariants.{Device};
+ghost use Rattle.quilt_types.specs.declared.stop.Stop.TheVariants.{Device, Damaged};
 ghost use Rattle.quilt_types.specs.Plane.{IsBlock};
 ghost use Rattle.quilt_types.specs.Layers.{SegMap, BlockSet};
 ghost use Rattle.quilt_store.specs.Calls.{OnlyReads};
 ghost use Rattle.quilt_world.specs.Tale.{Goes};
 ghost use Rattle.quilt_store.specs.Stops.{IsNotDamage};
 ghost use Rattle.quilt_record.specs.declared.record.Record.{Record};
+ghost use Rattle.quilt_btree.specs.Damage.{NamesBad};
 ghost use Rattle.quilt_btree.specs.Spots.{IsSpotIf};
+ghost use Rattle.quilt_btree.specs.Stops.{NamesPage};
 ghost use Rattle.quilt_btree.specs.Trees.{IsRooted, IsTree};
 ghost use Rattle.quilt_lines.specs.Layers.{HasLines};
 ghost use Rattle.quilt_lines.specs.Reads.{pair_of, none_of, block_records, AreIdsAt};
-ghost use Rattle.quilt_lines.specs.Said.{NamesZero, SayIds, records_at};
+ghost use Rattle.quilt_lines.specs.Said.{SayIds, records_at};
 
 use crate::view::{DAMAGED, LineView};
 use quilt_btree::Spot;
@@ -47,7 +49,8 @@ impl LineView {
         ensures said { IfOk result (λ o. (rs : List Record) → IsTree (S.told store.old) self.now.tree rs
             → MatchOption o (records_at self.now.level self.now.layer b rs ≡ [])
             (λ ids. SayIds self.now.level self.now.layer b (records_at self.now.level self.now.layer b rs) ids.items)) }
-        ensures zero { IfErr result (λ e. (rs : List Record) → IsTree (S.told store.old) self.now.tree rs → NamesZero e) }
+        ensures zero { IfErr result (λ e. (rs : List Record) → IsTree (S.told store.old) self.now.tree rs → NamesPage 1 e) }
+        ensures bad { IfErr result (λ e. e ≢ Damaged 0 → NamesBad (S.told store.old) self.now.tree.height self.now.tree.root e) }
         ensures sound { IfErr result (λ e. (t : ℕ) (segs : SegMap) (cover : BlockSet)
             → HasLines (S.told store.old) self.now.tree self.now.layer self.now.level t segs cover → IsNotDamage e) }
         ensures left { OnlyReads S.PageStore store.old store.new result }
@@ -78,7 +81,8 @@ impl LineView {
         ensures said { IfOk result (λ o. (rs : List Record) → IsTree (S.told store.old) self.now.tree rs
             → MatchOption o (records_at self.now.level self.now.layer b rs ≡ [])
             (λ ids. SayIds self.now.level self.now.layer b (records_at self.now.level self.now.layer b rs) ids.items)) }
-        ensures zero { IfErr result (λ e. (rs : List Record) → IsTree (S.told store.old) self.now.tree rs → NamesZero e) }
+        ensures zero { IfErr result (λ e. (rs : List Record) → IsTree (S.told store.old) self.now.tree rs → NamesPage 1 e) }
+        ensures bad { IfErr result (λ e. e ≢ Damaged 0 → NamesBad (S.told store.old) self.now.tree.height self.now.tree.root e) }
         ensures sound { IfErr result (λ e. (t : ℕ) (segs : SegMap) (cover : BlockSet)
             → HasLines (S.told store.old) self.now.tree self.now.layer self.now.level t segs cover → IsNotDamage e) }
         ensures left { OnlyReads S.PageStore store.old store.new result }
@@ -110,7 +114,7 @@ impl LineView {
             → MatchOption o (finset.contains cover b ≡ false) (λ ids. AreIdsAt segs cover b ids.items)) }
         ensures said { IfOk result (λ o. MatchOption o (records.now ≡ [])
             (λ ids. SayIds self.now.level self.now.layer b records.now ids.items)) }
-        ensures zero { IfErr result NamesZero }
+        ensures zero { IfErr result (NamesPage 1) }
         ensures few { IfOk result (λ o. length records.now ≤ 1 + unwrap_or (option_map vec_len o) 0) }
         ensures met { IfOk result (λ o. IfSome o (λ ids. 1 ≤ vec_len ids → length records.now ≡ vec_len ids)) }
         ensures sound { IfErr result (λ e. (segs : SegMap) (cover : BlockSet)
@@ -157,7 +161,7 @@ impl LineView {
     fn all_ids(&self, alloc: Global, records: &[Record], b: Block) -> Result<Vec<u32>, Stop>
         requires { IsBlock self.now.level b }
         ensures ids { IfOk result (λ ids. records.now ≡ map (pair_of self.now.level self.now.layer b) ids.items) }
-        ensures zero { IfErr result NamesZero }
+        ensures zero { IfErr result (NamesPage 1) }
         ensures sound { IfErr result (λ e. (ids : List ℕ) → records.now ≡ map (pair_of self.now.level self.now.layer b) ids → IsNotDamage e) }
         ensures no_fault { IsErrOf result Device → ⊥ }
     {

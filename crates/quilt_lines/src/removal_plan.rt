@@ -1,4 +1,4 @@
-ghost use Rattle.std.specs.Prelude.{◌≡◌, ◌↔◌, ◌≤◌, ◌<◌, ◌+◌, ◌++◌, ◌∷◌, length, IfOk, IfErr, IfSome, IsErrOf, IsNone, Some, MatchOption};
+ghost use Rattle.std.specs.Prelude.{◌≡◌, ◌↔◌, ◌≤◌, ◌<◌, ◌+◌, ◌++◌, ◌∷◌, length, IfOk, IfErr, IfSome, IsErrOf, IsNone, List, Some, MatchOption};
 ghost use Rattle.std.specs.FinMap as finmap;
 ghost use Rattle.quilt_types.specs.declared.plane.Seg.{Seg as AnySeg};
 ghost use Rattle.quilt_types.specs.declared.stop.Stop.TheVariants.{Device};
@@ -6,10 +6,12 @@ ghost use Rattle.quilt_types.specs.Plane.{whole};
 ghost use Rattle.quilt_types.specs.Layers.{SegMap, BlockSet, IsLineMap};
 ghost use Rattle.quilt_types.specs.Facts.{IsSegment};
 ghost use Rattle.quilt_types.specs.Quadtrees.{after_remove, reach};
+ghost use Rattle.quilt_record.specs.declared.record.Record.{Record as AnyRecord};
 ghost use Rattle.quilt_store.specs.Calls.{OnlyReads};
 ghost use Rattle.quilt_world.specs.Tale.{Goes};
 ghost use Rattle.quilt_store.specs.Stops.{IsNotDamage};
-ghost use Rattle.quilt_btree.specs.Trees.{IsRooted};
+ghost use Rattle.quilt_btree.specs.Stops.{NamesPage};
+ghost use Rattle.quilt_btree.specs.Trees.{IsRooted, IsTree};
 ghost use Rattle.quilt_edits.specs.Edits.{EditsAscend};
 ghost use Rattle.quilt_lines.specs.Layers.{HasLines, fact_record};
 ghost use Rattle.quilt_lines.specs.Merges.{BecomesSettled, IsRemovalPlan};
@@ -31,7 +33,8 @@ use std::alloc::{AllocError, Global};
 /// The records that go and those that come when the segment of an id goes from the line layer with this number, from 1 to 255, and
 /// this splitting threshold, from 1 to 32, of a map of this level, from 1 to 12: None exactly where the id is not there. Fewer
 /// records come than go. It reads at most 3 pages, and what a look at the whole square and at each block whose parent the segment
-/// meets may cost.
+/// meets may cost. Page 0 is said to be damaged where the records under the id's key or on a block are none of a line layer, and where
+/// what goes and comes are no edits.
 pub fn plan_remove<S: PageStore>(
     alloc: Global,
     store: &mut S,
@@ -55,6 +58,7 @@ pub fn plan_remove<S: PageStore>(
     ensures order { IfOk result (λ o. IfSome o EditsAscend) }
     ensures sound { IfErr result (λ e. (segs : SegMap) (cover : BlockSet) → HasLines (S.told store.old) tree.now layer level t segs cover →
         IsNotDamage e) }
+    ensures zero { IfErr result (λ e. (rs : List AnyRecord) → IsTree (S.told store.old) tree.now rs → NamesPage 1 e) }
     ensures left { OnlyReads S.PageStore store.old store.new result }
     ensures reads { IfOk result (λ o. MatchOption o (Goes (λ old new. new ≤ old + 3) (S.reads store.old) (S.reads store.new))
         (λ edits. (segs : SegMap) (cover : BlockSet) → HasLines (S.told store.old) tree.now layer level t segs cover →
@@ -86,6 +90,7 @@ impl Removal {
         ensures sound { IfErr result (λ e. (segs : SegMap) (cover : BlockSet) →
             HasLines (S.told store.old) tree.now self.now.layer self.now.level self.now.threshold segs cover →
             finmap.get segs self.now.id ≡ Some self.now.segment → IsNotDamage e) }
+        ensures zero { IfErr result (λ e. (rs : List AnyRecord) → IsTree (S.told store.old) tree.now rs → NamesPage 1 e) }
         ensures left { OnlyReads S.PageStore store.old store.new result }
         ensures reads { IfOk result (λ edits. (segs : SegMap) (cover : BlockSet) → HasLines (S.told store.old) tree.now self.now.layer self.now.level self.now.threshold segs cover →
             Goes (λ old new. new ≤ old + reach self.now.level segs cover (is_met_above self.now.level self.now.segment)) (S.reads store.old)
@@ -108,6 +113,7 @@ impl Removal {
         ensures sound { IfErr result (λ e. (segs : SegMap) (cover : BlockSet) → IsLineMap self.now.level self.now.threshold segs cover →
             finmap.get segs self.now.id ≡ Some self.now.segment → BecomesSettled self.now segs cover self.now.level (whole self.now.level) all.now →
             IsNotDamage e) }
+        ensures zero { IfErr result (NamesPage 1) }
         ensures no_fault { IsErrOf result Device → ⊥ }
     {
         let Ok(gone) = self.gone(alloc, all) else {

@@ -1,7 +1,8 @@
-ghost use Rattle.std.specs.Prelude.{◌≡◌, ℕ, ◌+◌, ◌*◌, ◌≤◌, ◌++◌, ◌∷◌, true, false, filter, Option, Some, IfOk, IfErr, IfSome, OnOk, List, [], MatchOption, vec_len};
+ghost use Rattle.std.specs.Prelude.{◌≡◌, ◌≢◌, ℕ, ◌+◌, ◌*◌, ◌≤◌, ◌++◌, ◌∷◌, true, false, filter, Option, Some, IfOk, IfErr, IfSome, OnOk, List, [], MatchOption, vec_len};
 ghost use Rattle.std.specs.Ordering.{is_le, is_lt};
 ghost use Rattle.quilt_types.specs.Sets as finset;
 ghost use Rattle.quilt_types.specs.declared.plane.Pixel.{Pixel as AnyPixel};
+ghost use Rattle.quilt_types.specs.declared.stop.Stop.TheVariants.{Damaged};
 ghost use Rattle.quilt_types.specs.Plane.{in_block, IsBlock};
 ghost use Rattle.quilt_types.specs.Layers.{SegMap, BlockSet};
 ghost use Rattle.quilt_record.specs.declared.record.Record.{Record as AnyRecord};
@@ -9,13 +10,15 @@ ghost use Rattle.quilt_record.specs.Records.{key_cmp};
 ghost use Rattle.quilt_store.specs.Calls.{OnlyReads};
 ghost use Rattle.quilt_store.specs.Stops.{IsNotDamage};
 ghost use Rattle.quilt_world.specs.Tale.{Goes};
+ghost use Rattle.quilt_btree.specs.Damage.{NamesBad};
 ghost use Rattle.quilt_btree.specs.Lists.{is_from_to};
 ghost use Rattle.quilt_btree.specs.Spots.{IsSpotIf};
+ghost use Rattle.quilt_btree.specs.Stops.{NamesPage};
 ghost use Rattle.quilt_btree.specs.Trees.{IsRooted, IsTree};
 ghost use Rattle.quilt_btree.specs.declared.tree.Tree.{Tree as AnyTree};
 ghost use Rattle.quilt_lines.specs.Layers.{HasLines};
 ghost use Rattle.quilt_lines.specs.Reads.{none_of, block_records, AreIdsAt};
-ghost use Rattle.quilt_lines.specs.Said.{NamesZero, last_block_key};
+ghost use Rattle.quilt_lines.specs.Said.{last_block_key};
 ghost use Rattle.quilt_lines.specs.Searches.{IsLastAt, IsLastIn, IsLineSearch, is_before};
 ghost use Rattle.quilt_lines.specs.Hints.{IsOfCover};
 
@@ -108,6 +111,7 @@ impl LineView {
         ensures last { IfOk result (IsLastAt (S.told store.old) self.now.tree self.now.level self.now.layer p) }
         ensures spot { OnOk result (IsSpotIf (S.told store.old) self.now.tree spot.new) }
         ensures sound { IfErr result (λ e. (rs : List AnyRecord) → IsTree (S.told store.old) self.now.tree rs → IsNotDamage e) }
+        ensures bad { IfErr result (λ e. e ≢ Damaged 0 → NamesBad (S.told store.old) self.now.tree.height self.now.tree.root e) }
         ensures left { OnlyReads S.PageStore store.old store.new result }
         ensures reads { Goes (λ old new. new ≤ old + 9) (S.reads store.old) (S.reads store.new) }
     {
@@ -134,6 +138,7 @@ impl LineView {
         ensures last { IfOk result (IsLastIn (S.told store.old) self.now.tree self.now.level self.now.layer b) }
         ensures search { OnOk result (IsLineSearch (S.told store.old) self.now.tree self.now.level self.now.layer search.new) }
         ensures sound { IfErr result (λ e. (rs : List AnyRecord) → IsTree (S.told store.old) self.now.tree rs → IsNotDamage e) }
+        ensures bad { IfErr result (λ e. e ≢ Damaged 0 → NamesBad (S.told store.old) self.now.tree.height self.now.tree.root e) }
         ensures left { OnlyReads S.PageStore store.old store.new result }
         ensures reads { Goes (λ old new. new ≤ old + 9) (S.reads store.old) (S.reads store.new) }
     {
@@ -165,6 +170,7 @@ impl LineView {
         ensures before { IfOk result (λ v. (rs : List AnyRecord) → IsTree (S.told store.old) self.now.tree rs →
             (k.now.item ≡ 0 → low.now ≡ k.now) → v.items ≡ filter (is_before low.now k.now) rs) }
         ensures sound { IfErr result (λ e. (rs : List AnyRecord) → IsTree (S.told store.old) self.now.tree rs → IsNotDamage e) }
+        ensures bad { IfErr result (λ e. e ≢ Damaged 0 → NamesBad (S.told store.old) self.now.tree.height self.now.tree.root e) }
         ensures left { OnlyReads S.PageStore store.old store.new result }
         ensures reads { IfOk result (λ v. Goes (λ old new. new ≤ old + (6 + 3 * vec_len v)) (S.reads store.old) (S.reads store.new)) }
         ensures first { k.now.item ≡ 0 → Goes (λ old new. new ≤ old) (S.reads store.old) (S.reads store.new) }
@@ -196,6 +202,7 @@ impl LineView {
             (last.now.key.item ≡ 0 → low.now ≡ last.now.key) → v.items ≡ filter (is_before low.now last.now.key) rs ++ last.now ∷ []) }
         ensures ends { IfOk result (λ v. (before : List AnyRecord) × (v.items ≡ before ++ last.now ∷ [])) }
         ensures sound { IfErr result (λ e. (rs : List AnyRecord) → IsTree (S.told store.old) self.now.tree rs → IsNotDamage e) }
+        ensures bad { IfErr result (λ e. e ≢ Damaged 0 → NamesBad (S.told store.old) self.now.tree.height self.now.tree.root e) }
         ensures left { OnlyReads S.PageStore store.old store.new result }
         ensures reads { IfOk result (λ v. Goes (λ old new. new ≤ old + (3 + 3 * vec_len v)) (S.reads store.old) (S.reads store.new)) }
         ensures first { last.now.key.item ≡ 0 → Goes (λ old new. new ≤ old) (S.reads store.old) (S.reads store.new) }
@@ -224,6 +231,7 @@ impl LineView {
             → v.items ≡ block_records self.now.level self.now.layer segs cover b) }
         ensures search { OnOk result (IsLineSearch (S.told store.old) self.now.tree self.now.level self.now.layer search.new) }
         ensures sound { IfErr result (λ e. (rs : List AnyRecord) → IsTree (S.told store.old) self.now.tree rs → IsNotDamage e) }
+        ensures bad { IfErr result (λ e. e ≢ Damaged 0 → NamesBad (S.told store.old) self.now.tree.height self.now.tree.root e) }
         ensures left { OnlyReads S.PageStore store.old store.new result }
         ensures reads { IfOk result (λ v. Goes (λ old new. new ≤ old + (12 + 3 * vec_len v)) (S.reads store.old) (S.reads store.new)) }
         ensures away { IfOk result (λ v. v.items ≡ [] → Goes (λ old new. new ≤ old + 9) (S.reads store.old) (S.reads store.new)) }
@@ -260,7 +268,8 @@ impl LineView {
         ensures search { OnOk result (IsLineSearch (S.told store.old) self.now.tree self.now.level self.now.layer search.new) }
         ensures sound { IfErr result (λ e. (t : ℕ) (segs : SegMap) (cover : BlockSet)
             → HasLines (S.told store.old) self.now.tree self.now.layer self.now.level t segs cover → IsNotDamage e) }
-        ensures zero { IfErr result (λ e. (rs : List AnyRecord) → IsTree (S.told store.old) self.now.tree rs → NamesZero e) }
+        ensures zero { IfErr result (λ e. (rs : List AnyRecord) → IsTree (S.told store.old) self.now.tree rs → NamesPage 1 e) }
+        ensures bad { IfErr result (λ e. e ≢ Damaged 0 → NamesBad (S.told store.old) self.now.tree.height self.now.tree.root e) }
         ensures left { OnlyReads S.PageStore store.old store.new result }
         ensures reads { IfOk result (λ o. MatchOption o (Goes (λ old new. new ≤ old + 9) (S.reads store.old) (S.reads store.new))
             (λ ids. Goes (λ old new. new ≤ old + (12 + 3 * vec_len ids)) (S.reads store.old) (S.reads store.new))) }

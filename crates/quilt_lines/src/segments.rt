@@ -1,9 +1,9 @@
-ghost use Rattle.std.specs.Prelude.{◌≡◌, ℕ, ◌+◌, ◌*◌, ◌<◌, ◌≤◌, ◌&&◌, true, All, Contains, Some, IfOk, IfErr, IfSome, IsErrOf, OnOk, [], ◌∷◌, ◌++◌, map};
+ghost use Rattle.std.specs.Prelude.{◌≡◌, ◌≢◌, ℕ, ◌+◌, ◌*◌, ◌<◌, ◌≤◌, ◌&&◌, true, All, Contains, Some, IfOk, IfErr, IfSome, IsErrOf, OnOk, [], ◌∷◌, ◌++◌, map};
 ghost use Rattle.std.specs.Prelude.{length, List, count_by, false};
 ghost use Rattle.std.specs.FinMap as finmap;
 ghost use Rattle.std.specs.Ordering.{nat_cmp};
 ghost use Rattle.quilt_types.specs.declared.plane.Seg.{Seg as AnySeg};
-ghost use Rattle.quilt_types.specs.declared.stop.Stop.TheVariants.{Device};
+ghost use Rattle.quilt_types.specs.declared.stop.Stop.TheVariants.{Device, Damaged};
 ghost use Rattle.quilt_types.specs.Facts.{IsSegment};
 ghost use Rattle.quilt_types.specs.Layers.{SegMap, BlockSet, IsLineMap, is_in_square as is_seg_in_square};
 ghost use Rattle.quilt_loc.specs.Codes.{Rises};
@@ -12,7 +12,9 @@ ghost use Rattle.quilt_store.specs.Calls.{OnlyReads};
 ghost use Rattle.quilt_world.specs.Tale.{Goes};
 ghost use Rattle.quilt_store.specs.Stops.{IsNotDamage};
 ghost use Rattle.quilt_record.specs.declared.record.Record.{Record};
+ghost use Rattle.quilt_btree.specs.Damage.{NamesBad};
 ghost use Rattle.quilt_btree.specs.Spots.{IsSpotIf};
+ghost use Rattle.quilt_btree.specs.Stops.{NamesPage};
 ghost use Rattle.quilt_btree.specs.Trees.{IsRooted, IsTree};
 ghost use Rattle.quilt_near.specs.Lines.{Lines};
 ghost use Rattle.quilt_near.specs.Knowing.{Knows, StaysKnown, known_seg, many_known};
@@ -20,7 +22,7 @@ ghost use Rattle.std.specs.Option.{is_none};
 ghost use Rattle.quilt_lines.specs.Marks.{IsMark};
 ghost use Rattle.quilt_lines.specs.Layers.{HasLines, ShowsLines, fact_record, segment_facts};
 ghost use Rattle.quilt_lines.specs.Reads.{segment_key as key_of, ids_of};
-ghost use Rattle.quilt_lines.specs.Said.{NamesZero, SaySegment, SaySegmentAt, SaySegments, segment_records};
+ghost use Rattle.quilt_lines.specs.Said.{SaySegment, SaySegmentAt, SaySegments, segment_records};
 
 use crate::marks::{mark_of, spot_of};
 use crate::view::{DAMAGED, LineView};
@@ -49,7 +51,8 @@ pub fn segment<S: PageStore>(
     ensures inside { IfOk result (λ o. IfSome o (λ s. is_seg_in_square level s ≡ true)) }
     ensures said { IfOk result (λ o. (rs : List Record) → IsTree (S.told store.old) tree.now rs → SaySegmentAt level layer rs id o) }
     ensures sound { IfErr result (λ e. (t : ℕ) (segs : SegMap) (cover : BlockSet) → HasLines (S.told store.old) tree.now layer level t segs cover → IsNotDamage e) }
-    ensures zero { IfErr result (λ e. (rs : List Record) → IsTree (S.told store.old) tree.now rs → NamesZero e) }
+    ensures zero { IfErr result (λ e. (rs : List Record) → IsTree (S.told store.old) tree.now rs → NamesPage 1 e) }
+    ensures bad { IfErr result (λ e. e ≢ Damaged 0 → NamesBad (S.told store.old) tree.now.height tree.now.root e) }
     ensures left { OnlyReads S.PageStore store.old store.new result }
     ensures reads { Goes (λ old new. new ≤ old + 3) (S.reads store.old) (S.reads store.new) }
 {
@@ -80,7 +83,8 @@ pub fn scan<S: PageStore>(
     ensures order { IfOk result (λ list. Rises nat_cmp (ids_of list)) }
     ensures said { IfOk result (λ list. (rs : List Record) → IsTree (S.told store.old) tree.now rs → SaySegments level layer (segment_records layer rs) list) }
     ensures sound { IfErr result (λ e. (t : ℕ) (segs : SegMap) (cover : BlockSet) → HasLines (S.told store.old) tree.now layer level t segs cover → IsNotDamage e) }
-    ensures zero { IfErr result (λ e. (rs : List Record) → IsTree (S.told store.old) tree.now rs → NamesZero e) }
+    ensures zero { IfErr result (λ e. (rs : List Record) → IsTree (S.told store.old) tree.now rs → NamesPage 1 e) }
+    ensures bad { IfErr result (λ e. e ≢ Damaged 0 → NamesBad (S.told store.old) tree.now.height tree.now.root e) }
     ensures left { OnlyReads S.PageStore store.old store.new result }
     ensures reads { IfOk result (λ list. Goes (λ old new. new ≤ old + 6 + 3 * length list) (S.reads store.old) (S.reads store.new)) }
 {
@@ -126,7 +130,8 @@ impl LineView {
         ensures inside { IfOk result (λ o. IfSome o (λ s. is_seg_in_square self.now.level s ≡ true)) }
         ensures said { IfOk result (λ o. (rs : List Record) → IsTree (S.told store.old) self.now.tree rs →
             SaySegmentAt self.now.level self.now.layer rs id o) }
-        ensures zero { IfErr result (λ e. (rs : List Record) → IsTree (S.told store.old) self.now.tree rs → NamesZero e) }
+        ensures zero { IfErr result (λ e. (rs : List Record) → IsTree (S.told store.old) self.now.tree rs → NamesPage 1 e) }
+        ensures bad { IfErr result (λ e. e ≢ Damaged 0 → NamesBad (S.told store.old) self.now.tree.height self.now.tree.root e) }
         ensures sound { IfErr result (λ e. (t : ℕ) (segs : SegMap) (cover : BlockSet)
             → HasLines (S.told store.old) self.now.tree self.now.layer self.now.level t segs cover → IsNotDamage e) }
         ensures left { OnlyReads S.PageStore store.old store.new result }
@@ -151,7 +156,8 @@ impl LineView {
         ensures inside { IfOk result (λ o. IfSome o (λ s. is_seg_in_square self.now.level s ≡ true)) }
         ensures said { IfOk result (λ o. (rs : List Record) → IsTree (S.told store.old) self.now.tree rs →
             SaySegmentAt self.now.level self.now.layer rs id o) }
-        ensures zero { IfErr result (λ e. (rs : List Record) → IsTree (S.told store.old) self.now.tree rs → NamesZero e) }
+        ensures zero { IfErr result (λ e. (rs : List Record) → IsTree (S.told store.old) self.now.tree rs → NamesPage 1 e) }
+        ensures bad { IfErr result (λ e. e ≢ Damaged 0 → NamesBad (S.told store.old) self.now.tree.height self.now.tree.root e) }
         ensures sound { IfErr result (λ e. (t : ℕ) (segs : SegMap) (cover : BlockSet)
             → HasLines (S.told store.old) self.now.tree self.now.layer self.now.level t segs cover → IsNotDamage e) }
         ensures left { OnlyReads S.PageStore store.old store.new result }
@@ -194,7 +200,8 @@ impl LineView {
         ensures inside { IfOk result (λ list. All (λ e. is_seg_in_square self.now.level e.1 ≡ true) list) }
         ensures said { IfOk result (λ list. (rs : List Record) → IsTree (S.told store.old) self.now.tree rs →
             All (λ e. SaySegment self.now.level self.now.layer rs e.0 e.1) list) }
-        ensures zero { IfErr result (λ e. (rs : List Record) → IsTree (S.told store.old) self.now.tree rs → NamesZero e) }
+        ensures zero { IfErr result (λ e. (rs : List Record) → IsTree (S.told store.old) self.now.tree rs → NamesPage 1 e) }
+        ensures bad { IfErr result (λ e. e ≢ Damaged 0 → NamesBad (S.told store.old) self.now.tree.height self.now.tree.root e) }
         ensures sound { IfErr result (λ e. (t : ℕ) (segs : SegMap) (cover : BlockSet)
             → HasLines (S.told store.old) self.now.tree self.now.layer self.now.level t segs cover
             → ((id : ℕ) → Contains ids.now id → (s : AnySeg) × (finmap.get segs id ≡ Some s)) → IsNotDamage e) }
@@ -224,7 +231,8 @@ impl LineView {
             × ((t : ℕ) (segs : SegMap) (cover : BlockSet) → HasLines (S.told store.old) self.now.tree self.now.layer self.now.level t segs cover
             → finmap.get segs id ≡ Some s)
             × ((rs : List Record) → IsTree (S.told store.old) self.now.tree rs → SaySegment self.now.level self.now.layer rs id s)) }
-        ensures zero { IfErr result (λ e. (rs : List Record) → IsTree (S.told store.old) self.now.tree rs → NamesZero e) }
+        ensures zero { IfErr result (λ e. (rs : List Record) → IsTree (S.told store.old) self.now.tree rs → NamesPage 1 e) }
+        ensures bad { IfErr result (λ e. e ≢ Damaged 0 → NamesBad (S.told store.old) self.now.tree.height self.now.tree.root e) }
         ensures sound { IfErr result (λ e. (t : ℕ) (segs : SegMap) (cover : BlockSet)
             → HasLines (S.told store.old) self.now.tree self.now.layer self.now.level t segs cover → (s : AnySeg) → finmap.get segs id ≡ Some s → IsNotDamage e) }
         ensures left { OnlyReads S.PageStore store.old store.new result }
@@ -255,7 +263,8 @@ impl LineView {
         ensures inside { IfOk result (λ list. All (λ e. is_seg_in_square self.now.level e.1 ≡ true) list) }
         ensures known { OnOk result (Knows self.now.level (ShowsLines (S.told store.old) self.now.tree self.now.layer self.now.level) (IsMark (S.told store.old) self.now.tree) known.new) }
         ensures stays { OnOk result (StaysKnown known.old known.new) }
-        ensures zero { IfErr result (λ e. (rs : List Record) → IsTree (S.told store.old) self.now.tree rs → NamesZero e) }
+        ensures zero { IfErr result (λ e. (rs : List Record) → IsTree (S.told store.old) self.now.tree rs → NamesPage 1 e) }
+        ensures bad { IfErr result (λ e. e ≢ Damaged 0 → NamesBad (S.told store.old) self.now.tree.height self.now.tree.root e) }
         ensures sound { IfErr result (λ e. (l : Lines) → ShowsLines (S.told store.old) self.now.tree self.now.layer self.now.level l
             → ((id : ℕ) → Contains ids.now id → (s : AnySeg) × (finmap.get l.segs id ≡ Some s)) → IsNotDamage e) }
         ensures left { OnlyReads S.PageStore store.old store.new result }
@@ -292,7 +301,8 @@ impl LineView {
         ensures inside { IfOk result (λ s. is_seg_in_square self.now.level s ≡ true) }
         ensures known { OnOk result (Knows self.now.level (ShowsLines (S.told store.old) self.now.tree self.now.layer self.now.level) (IsMark (S.told store.old) self.now.tree) known.new) }
         ensures stays { OnOk result (StaysKnown known.old known.new) }
-        ensures zero { IfErr result (λ e. (rs : List Record) → IsTree (S.told store.old) self.now.tree rs → NamesZero e) }
+        ensures zero { IfErr result (λ e. (rs : List Record) → IsTree (S.told store.old) self.now.tree rs → NamesPage 1 e) }
+        ensures bad { IfErr result (λ e. e ≢ Damaged 0 → NamesBad (S.told store.old) self.now.tree.height self.now.tree.root e) }
         ensures sound { IfErr result (λ e. (l : Lines) → ShowsLines (S.told store.old) self.now.tree self.now.layer self.now.level l
             → (s : AnySeg) → finmap.get l.segs id ≡ Some s → IsNotDamage e) }
         ensures left { OnlyReads S.PageStore store.old store.new result }
@@ -323,7 +333,7 @@ impl LineView {
         ensures order { IfOk result (λ list. Rises nat_cmp (ids_of list)) }
         ensures said { IfOk result (λ list. All (λ r. r.key.layer ≡ self.now.layer) records.now → SaySegments self.now.level self.now.layer records.now list) }
         ensures many { IfOk result (λ list. length list ≡ length records.now) }
-        ensures zero { IfErr result NamesZero }
+        ensures zero { IfErr result (NamesPage 1) }
         ensures sound { IfErr result (λ e. (t : ℕ) (segs : SegMap) (cover : BlockSet) → IsLineMap self.now.level t segs cover
             → records.now ≡ map (fact_record self.now.level self.now.layer) (segment_facts segs) → IsNotDamage e) }
         ensures no_fault { IsErrOf result Device → ⊥ }

@@ -1,14 +1,16 @@
-ghost use Rattle.std.specs.Prelude.{◌≡◌, ◌<◌, ◌≤◌, ◌+◌, ℕ, true, false, Some, IfOk, IfErr, OnOk, sum_by};
+ghost use Rattle.std.specs.Prelude.{◌≡◌, ◌<◌, ◌≤◌, ◌+◌, ℕ, true, false, List, Some, IfOk, IfErr, OnOk, sum_by};
 ghost use Rattle.std.specs.FinMap as finmap;
 ghost use Rattle.quilt_types.specs.Sets as finset;
 ghost use Rattle.quilt_types.specs.Plane.{side, quarters_of, IsBlock};
 ghost use Rattle.quilt_types.specs.Segments.{square, meets as segment_meets};
 ghost use Rattle.quilt_types.specs.Layers.{SegMap, BlockSet};
 ghost use Rattle.quilt_types.specs.Quadtrees.{is_reached};
+ghost use Rattle.quilt_record.specs.declared.record.Record.{Record as AnyRecord};
 ghost use Rattle.quilt_store.specs.Calls.{OnlyReads};
 ghost use Rattle.quilt_world.specs.Tale.{Goes};
 ghost use Rattle.quilt_store.specs.Stops.{IsNotDamage};
-ghost use Rattle.quilt_btree.specs.Trees.{IsRooted};
+ghost use Rattle.quilt_btree.specs.Stops.{NamesPage};
+ghost use Rattle.quilt_btree.specs.Trees.{IsRooted, IsTree};
 ghost use Rattle.quilt_lines.specs.Layers.{HasLines};
 ghost use Rattle.quilt_lines.specs.Merges.{BecomesSettled};
 ghost use Rattle.quilt_lines.specs.Bounds.{is_met_above, due};
@@ -44,6 +46,7 @@ impl Removal {
         ensures search { OnOk result (IsLineSearch (S.told store.old) tree.now self.now.level self.now.layer search.new) }
         ensures sound { IfErr result (λ e. (segs : SegMap) (cover : BlockSet) →
             HasLines (S.told store.old) tree.now self.now.layer self.now.level self.now.threshold segs cover → IsNotDamage e) }
+        ensures zero { IfErr result (λ e. (rs : List AnyRecord) → IsTree (S.told store.old) tree.now rs → NamesPage 1 e) }
         ensures left { OnlyReads S.PageStore store.old store.new result }
         ensures reads { IfOk result (λ x. (segs : SegMap) (cover : BlockSet) → HasLines (S.told store.old) tree.now self.now.layer self.now.level self.now.threshold segs cover →
             is_reached cover b ≡ true → is_met_above self.now.level self.now.segment b ≡ true →
@@ -99,6 +102,7 @@ impl Removal {
         ensures search { OnOk result (IsLineSearch (S.told store.old) tree.now self.now.level self.now.layer search.new) }
         ensures sound { IfErr result (λ e. (segs : SegMap) (cover : BlockSet) →
             HasLines (S.told store.old) tree.now self.now.layer self.now.level self.now.threshold segs cover → IsNotDamage e) }
+        ensures zero { IfErr result (λ e. (rs : List AnyRecord) → IsTree (S.told store.old) tree.now rs → NamesPage 1 e) }
         ensures left { OnlyReads S.PageStore store.old store.new result }
         ensures reads { IfOk result (λ x. (segs : SegMap) (cover : BlockSet) → HasLines (S.told store.old) tree.now self.now.layer self.now.level self.now.threshold segs cover →
             is_reached cover b ≡ true → finset.contains cover b ≡ false →

@@ -1,14 +1,16 @@
-ghost use Rattle.std.specs.Prelude.{◌≡◌, ◌≢◌, ℕ, ◌+◌, ◌*◌, ◌^◌, ◌<◌, ◌≤◌, ◌==◌, true, slice_index, count_by, IfOk, IfErr, OnOk};
+ghost use Rattle.std.specs.Prelude.{◌≡◌, ◌≢◌, ℕ, ◌+◌, ◌*◌, ◌^◌, ◌<◌, ◌≤◌, ◌==◌, true, slice_index, count_by, IfOk, IfErr, List, OnOk};
 ghost use Rattle.std.specs.Ordering.{is_le};
 ghost use Rattle.quilt_types.specs.Sets as finset;
 ghost use Rattle.quilt_types.specs.Plane.{side as side_of, whole, IsBlock};
 ghost use Rattle.quilt_types.specs.Layers.{SegMap, BlockSet};
 ghost use Rattle.quilt_types.specs.Quadtrees.{is_reached};
+ghost use Rattle.quilt_record.specs.declared.record.Record.{Record as AnyRecord};
 ghost use Rattle.quilt_record.specs.Records.{key_cmp};
 ghost use Rattle.quilt_store.specs.Calls.{OnlyReads};
 ghost use Rattle.quilt_world.specs.Tale.{Goes};
 ghost use Rattle.quilt_store.specs.Stops.{IsNotDamage};
-ghost use Rattle.quilt_btree.specs.Trees.{IsRooted};
+ghost use Rattle.quilt_btree.specs.Stops.{NamesPage};
+ghost use Rattle.quilt_btree.specs.Trees.{IsRooted, IsTree};
 ghost use Rattle.quilt_lines.specs.Layers.{HasLines};
 ghost use Rattle.quilt_lines.specs.Counting.{held_in, pages_in};
 
@@ -20,7 +22,8 @@ use quilt_store::PageStore;
 use quilt_types::{Block, Stop};
 
 /// How many blocks of each side the line layer with this number has, from 1 to 255, of a map of this level, from 1 to 12: those of
-/// side 2 ^ k at place k. It reads at most 6 pages for each block, and for each larger one around it.
+/// side 2 ^ k at place k. It reads at most 6 pages for each block, and for each larger one around it. Page 0 is said to be damaged where
+/// a pixel has no records.
 pub fn block_counts<S: PageStore>(
     store: &mut S,
     tree: &Tree,
@@ -35,6 +38,7 @@ pub fn block_counts<S: PageStore>(
         (k : ℕ) → k ≤ 12 → slice_index counts k ≡ count_by (λ b. b.side == side_of k) (finset.items cover)) }
     ensures sound { IfErr result (λ e. (t : ℕ) (segs : SegMap) (cover : BlockSet) →
         HasLines (S.told store.old) tree.now layer level t segs cover → IsNotDamage e) }
+    ensures zero { IfErr result (λ e. (rs : List AnyRecord) → IsTree (S.told store.old) tree.now rs → NamesPage 1 e) }
     ensures left { OnlyReads S.PageStore store.old store.new result }
     ensures reads { IfOk result (λ _. (t : ℕ) (segs : SegMap) (cover : BlockSet) → HasLines (S.told store.old) tree.now layer level t segs cover
         → Goes (λ old new. new ≤ old + pages_in cover level (whole level)) (S.reads store.old) (S.reads store.new)) }
@@ -86,6 +90,7 @@ impl LineView {
         ensures most { OnOk result ((j : ℕ) → slice_index counts.new j ≤ slice_index counts.old j + 4 ^ k) }
         ensures sound { IfErr result (λ e. (t : ℕ) (segs : SegMap) (cover : BlockSet) →
             HasLines (S.told store.old) self.now.tree self.now.layer self.now.level t segs cover → is_reached cover b ≡ true → IsNotDamage e) }
+        ensures zero { IfErr result (λ e. (rs : List AnyRecord) → IsTree (S.told store.old) self.now.tree rs → NamesPage 1 e) }
         ensures left { OnlyReads S.PageStore store.old store.new result }
         ensures reads { OnOk result ((t : ℕ) (segs : SegMap) (cover : BlockSet) →
             HasLines (S.told store.old) self.now.tree self.now.layer self.now.level t segs cover →
@@ -112,6 +117,7 @@ impl LineView {
             HasLines (S.told store.old) self.now.tree self.now.layer self.now.level t segs cover → there ≡ finset.contains cover b) }
         ensures sound { IfErr result (λ e. (t : ℕ) (segs : SegMap) (cover : BlockSet) →
             HasLines (S.told store.old) self.now.tree self.now.layer self.now.level t segs cover → IsNotDamage e) }
+        ensures zero { IfErr result (λ e. (rs : List AnyRecord) → IsTree (S.told store.old) self.now.tree rs → NamesPage 1 e) }
         ensures left { OnlyReads S.PageStore store.old store.new result }
         ensures reads { Goes (λ old new. new ≤ old + 6) (S.reads store.old) (S.reads store.new) }
     {

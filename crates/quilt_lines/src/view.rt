@@ -1,4 +1,4 @@
-ghost use Rattle.std.specs.Prelude.{◌≡◌, ℕ, Option, ◌+◌, ◌*◌, ◌≤◌, true, List, Err, IfOk, IfErr, OnOk};
+ghost use Rattle.std.specs.Prelude.{◌≡◌, ◌≢◌, ℕ, Option, ◌+◌, ◌*◌, ◌≤◌, true, List, Err, IfOk, IfErr, OnOk};
 ghost use Rattle.std.proofs.Common.{◌∙◌, subst, sym};
 ghost use Rattle.quilt_types.specs.declared.stop.Stop.TheVariants.{Damaged};
 ghost use Rattle.quilt_types.specs.Plane.{IsBlock};
@@ -10,10 +10,12 @@ ghost use Rattle.quilt_store.specs.Stops.{IsNotDamage};
 ghost use Rattle.quilt_near.specs.Lines.{Lines};
 ghost use Rattle.quilt_near.specs.Parts.{IsPart, PartFits, pages_for};
 ghost use Rattle.quilt_near.specs.Knowing.{Knows, StaysKnown, many_known, block_pages};
+ghost use Rattle.quilt_btree.specs.Damage.{NamesBad};
+ghost use Rattle.quilt_btree.specs.Stops.{NamesPage};
 ghost use Rattle.quilt_btree.specs.Trees.{IsRooted, IsTree};
 ghost use Rattle.quilt_lines.specs.Marks.{IsMark};
 ghost use Rattle.quilt_lines.specs.Layers.{ShowsLines};
-ghost use Rattle.quilt_lines.specs.Said.{NamesZero, SayPart};
+ghost use Rattle.quilt_lines.specs.Said.{NamesZeroOrBad, SayPart};
 
 use crate::hint::Hint;
 use crate::marks::{mark_of, spot_of};
@@ -79,6 +81,8 @@ impl<S: PageStore> SegBlocks<S> for LineView {
 
     ghost looked = { λ v b s t result. OnlyReads S.PageStore s t result };
 
+    ghost named = { λ v s e. NamesZeroOrBad (S.told s) v.tree e };
+
     fn level(&self) -> u8 {
         self.level
     }
@@ -95,7 +99,8 @@ impl<S: PageStore> SegBlocks<S> for LineView {
         ensures said { IfOk result (λ part. (rs : List Record) → IsTree (S.told store.old) self.now.tree rs →
             SayPart self.now.level self.now.layer rs b part) }
         ensures sound { IfErr result (λ e. (l : Lines) → ShowsLines (S.told store.old) self.now.tree self.now.layer self.now.level l → IsNotDamage e) }
-        ensures zero { IfErr result (λ e. (rs : List Record) → IsTree (S.told store.old) self.now.tree rs → NamesZero e) }
+        ensures zero { IfErr result (λ e. (rs : List Record) → IsTree (S.told store.old) self.now.tree rs → NamesPage 1 e) }
+        ensures bad { IfErr result (λ e. e ≢ Damaged 0 → NamesBad (S.told store.old) self.now.tree.height self.now.tree.root e) }
         ensures left { OnlyReads S.PageStore store.old store.new result }
         ensures reads { IfOk result (λ part. Goes (λ old new. new ≤ old + pages_for part) (S.reads store.old) (S.reads store.new)) }
     {
@@ -129,13 +134,15 @@ impl<S: PageStore> SegBlocks<S> for LineView {
         ensures stays { OnOk result (StaysKnown known.old known.new) }
         ensures rooted { (IsRooted (S.size store.old) self.now.tree → ⊥) → result ≡ Err (Damaged 0) }
         ensures sound { IfErr result (λ e. (l : Lines) → ShowsLines (S.told store.old) self.now.tree self.now.layer self.now.level l → IsNotDamage e) }
-        ensures zero { IfErr result (λ e. (rs : List Record) → IsTree (S.told store.old) self.now.tree rs → NamesZero e) }
+        ensures zero { IfErr result (λ e. (rs : List Record) → IsTree (S.told store.old) self.now.tree rs → NamesPage 1 e) }
+        ensures bad { IfErr result (λ e. e ≢ Damaged 0 → NamesBad (S.told store.old) self.now.tree.height self.now.tree.root e) }
         ensures left { OnlyReads S.PageStore store.old store.new result }
         ensures reads { IfOk result (λ part. Goes (λ old new. new ≤ old + pages_for part) (S.reads store.old) (S.reads store.new)) }
         ensures fresh { IfOk result (λ part. Goes (λ old new. new + 3 * many_known known.old ≤ old + block_pages part + 3 * many_known known.new)
             (S.reads store.old) (S.reads store.new)) }
     {
-        if !is_rooted(&self.tree, store.pages()) {
+        let pages = store.pages();
+        if !is_rooted(&self.tree, pages) {
             return Err(DAMAGED);
         }
         let mut hint = Hint {
@@ -173,4 +180,8 @@ impl<S: PageStore> SegBlocks<S> for LineView {
     } };
 
     ghost same_marks = { λ v s t m e h. subst (λ (told : Option (List (List ℕ))). IsMark told v.tree m) (sym e) h };
+
+    ghost same_named = { λ v s t e is h. subst (λ (told : Option (List (List ℕ))). NamesZeroOrBad told v.tree e) (sym is) h };
+
+    ghost named_memory = { λ v s. record { zero = λ rs is. tt; bad = λ ne. tt } };
 }

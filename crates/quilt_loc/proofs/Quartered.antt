@@ -5,7 +5,7 @@ use Rattle.std.proofs.lemmas.Bool.{cases_lt}
 use Rattle.std.proofs.lemmas.Nat.{mod-mul-add, div-add-mod'}
 use Rattle.quilt_types.specs.declared.plane.Pixel.{Pixel}
 use Rattle.quilt_types.specs.declared.plane.Block.{Block}
-use Rattle.quilt_types.specs.Plane.{parent_of, quarters_of, corner, whole, Holds, IsBlock, Within}
+use Rattle.quilt_types.specs.Plane.{side, parent_of, quarters_of, corner, whole, Holds, IsBlock, Within}
 use Rattle.quilt_types.proofs.Members.{Contains-cons_cases, Contains-nil}
 use Rattle.quilt_loc.proofs.Steps.{start_is, start_nests}
 use Rattle.quilt_loc.proofs.Nesting.{Within-holds, side_pos, Holds-corner, nested, same_block_from, Holds-parent_of, IsBlock-parent_of}
@@ -15,6 +15,10 @@ IsBlock-whole n =
     let p = pow_pos n in
     let z : 0 % 2 ^ n ≡ 0 = mod-eq_of_lt p in
     record { level = n; low = omega arith; size = refl; on_x = z; on_y = z; in_x = p; in_y = p }
+
+pub wide_side : (n : ℕ) → 1 ≤ n → 1 < side n
+wide_side zero h = absurd (omega arith)
+wide_side (suc k) h = let p = pow_pos k in let q = pow-suc 2 k in omega arith
 
 pub side_le : (n : ℕ) (b : Block) → IsBlock n b → b.side ≤ 2 ^ n
 side_le n b h =

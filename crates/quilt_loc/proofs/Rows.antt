@@ -95,7 +95,3 @@ pub grid_of-from : (n : ℕ) (f : Pixel → ℕ) (g : List ℕ) → length g ≡
     → ((k : ℕ) → k < side n * side n → get_or g k 0 ≡ f (pixel_at n k)) → g ≡ grid_of n f
 grid_of-from n f g long each =
     ext_get_or 0 g (grid_of n f) (long ∙ sym (length-grid_of n f)) (λ k lt. each k (omega arith) ∙ sym (get_or-grid_of n f k (omega arith)))
-
--- for callers: how long a grid is
-pub length_grid_of : (n : ℕ) (f : Pixel → ℕ) → length (grid_of n f) ≡ side n * side n
-length_grid_of n f = length-grid_of n f

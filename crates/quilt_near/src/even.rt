@@ -1,4 +1,4 @@
-ghost use Rattle.std.specs.Prelude.{◌≡◌, ◌+◌, ◌*◌, ◌<◌, ◌≤◌, true, All, IfOk, IfErr, filter, take};
+ghost use Rattle.std.specs.Prelude.{◌≡◌, ◌+◌, ◌*◌, ◌<◌, ◌≤◌, true, All, IfOk, IfErr, filter, refl, take};
 ghost use Rattle.quilt_types.specs.Layers.{is_in_square};
 ghost use Rattle.quilt_types.specs.Segments.{meets as meets_of, square};
 ghost use Rattle.quilt_types.specs.declared.stop.Stop.TheVariants.{Memory};
@@ -47,6 +47,8 @@ impl<S: PageStore> SegBlocks<S> for Even {
 
     ghost looked = { λ v b s t result. (t ≡ s) × IfErr result (λ e. e ≡ Memory) };
 
+    ghost named = { λ v s e. e ≡ Memory };
+
     fn level(&self) -> u8 {
         self.level
     }
@@ -77,4 +79,8 @@ impl<S: PageStore> SegBlocks<S> for Even {
     ghost same = { λ v s t l e h. h };
 
     ghost same_marks = { λ v s t m e h. h };
+
+    ghost same_named = { λ v s t e is h. h };
+
+    ghost named_memory = { λ v s. refl };
 }

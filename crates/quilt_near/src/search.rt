@@ -47,6 +47,7 @@ fn open<S: PageStore, B: SegBlocks<S>>(
     ensures known { OnOk result (Knows (B.level_of blocks.now) (B.shows blocks.now store.old) (B.marked blocks.now store.old) known.new) }
     ensures sound { IfErr result (λ e. (l : Lines) → B.shows blocks.now store.old l → IsNotDamage e) }
     ensures ended { IfErr result (EndsLook (B.looked blocks.now b) store.old store.new) }
+    ensures named { IfErr result (B.named blocks.now store.old) }
     ensures left { OnlyReads S.PageStore store.old store.new result }
 {
     match blocks.part_known(alloc, store, known, b)? {
@@ -86,6 +87,7 @@ pub fn nearest<S: PageStore, B: SegBlocks<S>>(
         (S.reads store.new))) }
     ensures sound { IfErr result (λ e. (l : Lines) → B.shows blocks.now store.old l → IsNotDamage e) }
     ensures ended { IfErr result (EndsSearch (B.looked blocks.now) store.old store.new) }
+    ensures named { IfErr result (B.named blocks.now store.old) }
     ensures left { OnlyReads S.PageStore store.old store.new result }
 {
     let mut queue = match first_queue(alloc, blocks, p) {

@@ -58,6 +58,7 @@ fn open<S: PageStore, B: SegBlocks<S>>(
     ensures known { OnOk result (Knows (B.level_of blocks.now) (B.shows blocks.now store.old) (B.marked blocks.now store.old) known.new) }
     ensures sound { IfErr result (λ e. (l : Lines) → B.shows blocks.now store.old l → IsNotDamage e) }
     ensures ended { IfErr result (EndsLook (B.looked blocks.now b) store.old store.new) }
+    ensures named { IfErr result (B.named blocks.now store.old) }
     ensures looked { OnOk result (GivesPart (B.looked blocks.now b) store.old store.new) }
     ensures left { OnlyReads S.PageStore store.old store.new result }
 {
@@ -93,6 +94,7 @@ pub fn ranked<S: PageStore, B: SegBlocks<S>>(
         → Goes (λ old new. new ≤ old + reach (B.level_of blocks.now) l.segs l.cover (is_close p (last_far list))) (S.reads store.old) (S.reads store.new)) }
     ensures sound { IfErr result (λ e. (l : Lines) → B.shows blocks.now store.old l → IsNotDamage e) }
     ensures ended { IfErr result (EndsSearch (B.looked blocks.now) store.old store.new) }
+    ensures named { IfErr result (B.named blocks.now store.old) }
     ensures left { OnlyReads S.PageStore store.old store.new result }
 {
     let mut queue = match first_queue(alloc, blocks, p) {

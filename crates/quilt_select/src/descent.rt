@@ -110,6 +110,7 @@ fn open<S: PageStore, B: SegBlocks<S>>(
         (IsBlockVisited b near.now (B.shows blocks.now store.old) stack.old stack.new found.old.entries found.new.entries (S.reads store.old) (S.reads store.new)) }
     ensures known { OnOk result (Knows (B.level_of blocks.now) (B.shows blocks.now store.old) (B.marked blocks.now store.old) known.new) }
     ensures sound { IfErr result (λ e. (l : Lines) → B.shows blocks.now store.old l → IsNotDamage e) }
+    ensures named { IfErr result (B.named blocks.now store.old) }
     ensures left { OnlyReads S.PageStore store.old store.new result }
 {
     if near.is_empty() {
@@ -162,6 +163,7 @@ pub fn select<S: PageStore, B: SegBlocks<S>>(
     ensures reads { IfOk result (λ _. (l : Lines) → B.shows blocks.now store.old l
         → Goes (λ old new. new ≤ old + reach (B.level_of blocks.now) l.segs l.cover (holds_any windows.items)) (S.reads store.old) (S.reads store.new)) }
     ensures sound { IfErr result (λ e. (l : Lines) → B.shows blocks.now store.old l → IsNotDamage e) }
+    ensures named { IfErr result (B.named blocks.now store.old) }
     ensures left { OnlyReads S.PageStore store.old store.new result }
 {
     let mut known = Known::new(alloc, first_pixel(&windows));

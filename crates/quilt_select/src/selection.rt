@@ -33,6 +33,7 @@ pub fn cross<S: PageStore, B: SegBlocks<S>>(
     ensures reads { IfOk result (λ _. (l : Lines) → B.shows blocks.now store.old l
         → Goes (λ old new. new ≤ old + reach (B.level_of blocks.now) l.segs l.cover (is_touching w)) (S.reads store.old) (S.reads store.new)) }
     ensures sound { IfErr result (λ e. (l : Lines) → B.shows blocks.now store.old l → IsNotDamage e) }
+    ensures named { IfErr result (B.named blocks.now store.old) }
     ensures left { OnlyReads S.PageStore store.old store.new result }
 {
     let mut windows = Vec::new(alloc);
@@ -56,6 +57,7 @@ pub fn clipped<S: PageStore, B: SegBlocks<S>>(
     ensures reads { IfOk result (λ _. (l : Lines) → B.shows blocks.now store.old l
         → Goes (λ old new. new ≤ old + reach (B.level_of blocks.now) l.segs l.cover (is_touching w)) (S.reads store.old) (S.reads store.new)) }
     ensures sound { IfErr result (λ e. (l : Lines) → B.shows blocks.now store.old l → IsNotDamage e) }
+    ensures named { IfErr result (B.named blocks.now store.old) }
     ensures left { OnlyReads S.PageStore store.old store.new result }
 {
     let list = cross(alloc, blocks, store, w)?;
@@ -100,6 +102,7 @@ pub fn over<S: PageStore, B: SegBlocks<S>>(
         → Goes (λ old new. new ≤ old + reach list.now.level l.segs l.cover (has_coloured list.now.level list.now.grid)) (S.reads store.old)
         (S.reads store.new)) }
     ensures sound { IfErr result (λ e. (l : Lines) → B.shows blocks.now store.old l → IsNotDamage e) }
+    ensures named { IfErr result (B.named blocks.now store.old) }
     ensures left { OnlyReads S.PageStore store.old store.new result }
 {
     match coloured_windows(alloc, list) {

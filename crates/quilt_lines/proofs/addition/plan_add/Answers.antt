@@ -8,6 +8,7 @@ use Rattle.std.specs.Prelude.{IsSome}
 use Rattle.quilt_store.proofs.Reading.{only_reads_then, only_reads_err, only_reads_ok}
 use Rattle.quilt_lines.proofs.Lookups.{lines_along}
 use Rattle.quilt_lines.proofs.Options.{none_at, none_there}
+use Rattle.quilt_lines.proofs.Saying.{tree_along}
 use Rattle.quilt_lines.proofs.addition.plan_add.Goals as goal
 
 pub returns-in_err-segment-clause-sound : goal.returns-in_err-segment-clause-sound
@@ -51,3 +52,8 @@ returns-clause-reads g c segs cover h =
     let all = reach c.args.level segs cover (is_met c.args.s) in
     reads_sum _ _ _ 3 all (3 + all) (omega arith) c.in_ok-segment.ensures.reads
     (c.in_ok-edits.ensures.reads segs cover (lines_along _ _ c.args.tree.now c.args.layer c.args.level c.args.t segs cover c.in_ok-segment.ensures.left.told h))
+
+pub returns-in_err-edits-clause-zero : goal.returns-in_err-edits-clause-zero
+returns-in_err-edits-clause-zero g c =
+    let p = err_from_is_err_and c.from_residual-in_err-edits.result c.from_residual-in_err-edits.ensures.1 in
+    rw (p.1, p.2) (λ rs is. c.in_err-edits.ensures.zero rs (tree_along _ _ c.args.tree.now rs c.in_ok-segment.ensures.left.told is))

@@ -11,6 +11,7 @@ use Rattle.quilt_lines.specs.Bounds.{is_met_above}
 use Rattle.quilt_lines.proofs.Sums.{reads_sum}
 use Rattle.quilt_lines.specs.Plans.{IsLinePlan}
 use Rattle.quilt_lines.proofs.Lookups.{lines_along}
+use Rattle.quilt_lines.proofs.Saying.{tree_along}
 use Rattle.quilt_lines.proofs.removal_plan.plan_remove.Goals as goal
 
 pub returns-in_err-s-clause-sound : goal.returns-in_err-s-clause-sound
@@ -66,3 +67,8 @@ returns-clause-reads g c segs cover h s e =
     (let all = reach c.args.level segs cover (is_met_above c.args.level c.in-Some.s) in
     reads_sum _ _ _ 3 all (3 + all) (omega arith) c.in_ok-s.ensures.reads
     (c.in_ok-edits.ensures.reads segs cover (lines_along _ _ c.args.tree.now c.args.layer c.args.level c.args.t segs cover c.in_ok-s.ensures.left.told h)))
+
+pub returns-in_err-edits-clause-zero : goal.returns-in_err-edits-clause-zero
+returns-in_err-edits-clause-zero g c =
+    let p = err_from_is_err_and c.from_residual-in_err-edits.result c.from_residual-in_err-edits.ensures.1 in
+    rw (p.1, p.2) (λ rs is. c.in_err-edits.ensures.zero rs (tree_along _ _ c.args.tree.now rs c.in_ok-s.ensures.left.told is))

@@ -5,6 +5,7 @@ use Rattle.std.proofs.lemmas.Result.{IfOk-weaker, IfErr-weaker, err_from_is_err_
 use Rattle.quilt_lines.proofs.Ranges.{segments_read}
 use Rattle.quilt_lines.proofs.Saying.{sound_zero, read_segments, all_of_layer}
 use Rattle.quilt_lines.specs.Said.{SaySegments}
+use Rattle.quilt_btree.proofs.ways.Damage.{zero_named}
 use Rattle.quilt_lines.proofs.segments.scan.Goals as goal
 
 pub returns-in_err-records-clause-sound : goal.returns-in_err-records-clause-sound
@@ -50,3 +51,12 @@ returns-clause-reads g c =
     IfOk-weaker c.all_segments.result _ _ (λ list many.
     tells_weaker (λ x y. y ≤ x + 6 + 3 * vec_len c.in_ok-records.records) (λ x y. y ≤ x + 6 + 3 * length list) (λ x y le. omega arith) _ _ c.in_ok-records.ensures.reads)
     c.all_segments.ensures.many
+
+pub returns-in_err-records-clause-bad : goal.returns-in_err-records-clause-bad
+returns-in_err-records-clause-bad g c =
+    let p = err_from_is_err_and c.from_residual.result c.from_residual.ensures.1 in
+    rw (p.1, p.2) (λ ne. c.in_err-records.ensures.bad ne)
+
+pub returns-clause-bad : goal.returns-clause-bad
+returns-clause-bad g c =
+    zero_named c.all_segments.result (g.S.PageStore.told c.args.store.now) c.args.tree.now.height c.args.tree.now.root c.all_segments.ensures.zero

@@ -108,3 +108,11 @@ returns-in_err-best-clause-left g c =
 
 pub returns-clause-least : goal.returns-clause-least
 returns-clause-least g c l s = least_of l.segs c.args.p _ (c.reduced.ensures ∙ found g c l s)
+
+pub returns-in-Err-clause-named : goal.returns-in-Err-clause-named
+returns-in-Err-clause-named g c = g.met.B.SegBlocks.named_memory c.args.blocks.now c.args.store.now
+
+pub returns-in_err-best-clause-named : goal.returns-in_err-best-clause-named
+returns-in_err-best-clause-named g c =
+    let p = err_from_is_err_and c.from_residual.result c.from_residual.ensures.1 in
+    rw (p.1, p.2) (g.met.B.SegBlocks.same_named c.args.blocks.now c.loop-distance.store c.args.store.now _ (sym c.loop-distance.invariant.left.told) c.in_err-best.ensures.named)

@@ -13,3 +13,6 @@ best_of-requires-clause-ends g c =
 
 pub push_quarters-requires-clause-valid : goal.push_quarters-requires-clause-valid
 push_quarters-requires-clause-valid g c = IsBlock-up _ 12 _ c.requires.low c.requires.block
+
+pub returns-in-Err-clause-named : goal.returns-in-Err-clause-named
+returns-in-Err-clause-named g c = g.met.B.SegBlocks.named_memory c.args.blocks.now c.args.store.now

@@ -38,3 +38,9 @@ returns-clause-opened g c = record {
       subst (λ (part : Part). Goes (λ old new. new ≤ old + pages_for part) (g.S.PageStore.reads c.args.store.now)
       (g.S.PageStore.reads c.part_known.new.store)) c.in-Split.is c.in_ok-list.ensures.reads;
 }
+
+pub returns-in-Err-clause-named : goal.returns-in-Err-clause-named
+returns-in-Err-clause-named g c = g.met.B.SegBlocks.named_memory c.args.blocks.now c.args.store.now
+
+pub returns-in-Err-push_quarters-clause-named : goal.returns-in-Err-push_quarters-clause-named
+returns-in-Err-push_quarters-clause-named g c = g.met.B.SegBlocks.named_memory c.args.blocks.now c.args.store.now

@@ -124,3 +124,15 @@ returns-clause-firsts g c l s = first_are l.segs c.args.p c.args.k _ (c.in-Ok-li
 
 pub returns-clause-nearest : goal.returns-clause-nearest
 returns-clause-nearest g c l s = first_is l.segs c.args.p c.args.k _ c.requires.some (returns-clause-firsts g c l s)
+
+pub returns-in-Err-clause-named : goal.returns-in-Err-clause-named
+returns-in-Err-clause-named g c = g.met.B.SegBlocks.named_memory c.args.blocks.now c.args.store.now
+
+pub returns-in_err-open-clause-named : goal.returns-in_err-open-clause-named
+returns-in_err-open-clause-named g c =
+    let p = err_from_is_err_and c.from_residual.result c.from_residual.ensures.1 in
+    rw (p.1, p.2) (g.met.B.SegBlocks.same_named c.args.blocks.now c.loop-distance.store c.args.store.now _ (sym c.loop-distance.invariant.left.told)
+    c.in_err-open.ensures.named)
+
+pub returns-in-Err-listed-clause-named : goal.returns-in-Err-listed-clause-named
+returns-in-Err-listed-clause-named g c = g.met.B.SegBlocks.named_memory c.args.blocks.now c.args.store.now

@@ -94,3 +94,15 @@ pub returns-in_err-open-clause-left : goal.returns-in_err-open-clause-left
 returns-in_err-open-clause-left g c =
     let p = err_from_is_err_and c.from_residual.result c.from_residual.ensures.1 in
     rw (p.1, p.2) (only_reads_err _ (only_reads_then _ g.met.S.PageStore.goes_on _ _ _ c.loop-block.invariant.left c.in_err-open.ensures.left))
+
+pub returns-in-Err-clause-named : goal.returns-in-Err-clause-named
+returns-in-Err-clause-named g c = g.met.B.SegBlocks.named_memory c.args.blocks.now c.args.store.now
+
+pub returns-in_err-open-clause-named : goal.returns-in_err-open-clause-named
+returns-in_err-open-clause-named g c =
+    let p = err_from_is_err_and c.from_residual.result c.from_residual.ensures.1 in
+    rw (p.1, p.2) (g.met.B.SegBlocks.same_named c.args.blocks.now c.loop-block.store c.args.store.now _ (sym c.loop-block.invariant.left.told)
+    c.in_err-open.ensures.named)
+
+pub returns-in-Err-listed-clause-named : goal.returns-in-Err-listed-clause-named
+returns-in-Err-listed-clause-named g c = g.met.B.SegBlocks.named_memory c.args.blocks.now c.args.store.now

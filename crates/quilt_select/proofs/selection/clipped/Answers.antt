@@ -8,3 +8,6 @@ pub returns-clause-clipped : goal.returns-clause-clipped
 returns-clause-clipped g c l s =
     clipped_all c.args.w (finmap.entries l.segs) c.in_ok-list.list c.in-Ok.clips
     (c.in-Ok.ensures ∙ ap (clips_of_list c.args.w) c.items.ensures) (c.in_ok-list.ensures.cross l s)
+
+pub returns-in-Err-clause-named : goal.returns-in-Err-clause-named
+returns-in-Err-clause-named g c = g.met.B.SegBlocks.named_memory c.args.blocks.now c.args.store.now

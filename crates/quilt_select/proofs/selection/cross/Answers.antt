@@ -18,3 +18,6 @@ returns-clause-reads g c =
     IfOk-weaker c.select.result _ _
     (λ list h l s. crossed_reads _ c.args.w c.push.new.self.items l (g.S.PageStore.reads c.args.store.now) (g.S.PageStore.reads c.select.new.store)
     (windows g c) (h l s)) c.select.ensures.reads
+
+pub returns-in-Err-clause-named : goal.returns-in-Err-clause-named
+returns-in-Err-clause-named g c = g.met.B.SegBlocks.named_memory c.args.blocks.now c.args.store.now

@@ -28,3 +28,6 @@ returns-in-Ok-clause-reads g c =
     (λ found h l s. over_reads c.args.list.now.level c.args.list.now.grid c.in-Ok.windows.items c.in-Ok.ensures l before now
     (subst (λ n. Goes (λ old new. new ≤ old + reach n l.segs l.cover (holds_any c.in-Ok.windows.items)) before now) (sym c.requires) (h l s)))
     c.select.ensures.reads
+
+pub returns-in-Err-clause-named : goal.returns-in-Err-clause-named
+returns-in-Err-clause-named g c = g.met.B.SegBlocks.named_memory c.args.blocks.now c.args.store.now

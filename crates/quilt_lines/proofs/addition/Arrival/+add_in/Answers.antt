@@ -17,6 +17,7 @@ use Rattle.quilt_lines.proofs.Listed.{one_pixel}
 use Rattle.quilt_lines.proofs.Lookups.{lines_along}
 use Rattle.quilt_lines.proofs.Around.{search_along}
 use Rattle.quilt_lines.proofs.Quarters.{quarter_at, quarter_side, quarter_in}
+use Rattle.quilt_lines.proofs.Saying.{tree_along}
 use Rattle.quilt_lines.proofs.addition.Arrival.+add_in.Goals as goal
 
 pub returns-then-not-meets-clause-added : goal.returns-then-not-meets-clause-added
@@ -178,3 +179,13 @@ returns-in-Some-clause-search g t c = on_ok_any c.add_block.result _ c.in_ok-ids
 
 pub returns-clause-search : goal.returns-clause-search
 returns-clause-search g t c = c.loop-q.invariant.search
+
+pub returns-in-Some-clause-zero : goal.returns-in-Some-clause-zero
+returns-in-Some-clause-zero g t c =
+    IfErr-weaker c.add_block.result _ _ (λ e f rs is. f rs (tree_along _ _ c.args.self.now.view.tree rs c.in_ok-ids.ensures.left.told is))
+    c.add_block.ensures.zero
+
+pub returns-in_err-add_in-clause-zero : goal.returns-in_err-add_in-clause-zero
+returns-in_err-add_in-clause-zero g t c =
+    let p = err_from_is_err_and c.from_residual-in_err-add_in.result c.from_residual-in_err-add_in.ensures.1 in
+    rw (p.1, p.2) (λ rs is. c.in_err-add_in.ensures.zero rs (tree_along _ _ c.args.self.now.view.tree rs c.loop-q.invariant.left.told is))

@@ -9,6 +9,7 @@ use Rattle.quilt_near.proofs.Reached.{reached_whole}
 use Rattle.quilt_lines.proofs.plans.Additions.{added_whole, add_can, add_plan}
 use Rattle.quilt_lines.specs.Bounds.{is_met, due}
 use Rattle.quilt_lines.proofs.Costs.{due_whole}
+use Rattle.quilt_lines.proofs.Saying.{zero_page}
 use Rattle.quilt_lines.proofs.Sums.{reads_more}
 use Rattle.quilt_lines.proofs.Results.{if_ok_both, memory_sound, if_ok_any}
 use Rattle.quilt_lines.proofs.addition.Arrival.edits.Goals as goal
@@ -67,3 +68,6 @@ pub add_in-requires-clause-search : goal.add_in-requires-clause-search
 add_in-requires-clause-search g c =
     let self = c.args.self.now in
     c.new-search.ensures (g.S.PageStore.told c.args.store.now) self.view.tree self.view.level self.view.layer
+
+pub returns-clause-zero : goal.returns-clause-zero
+returns-clause-zero g c = IfErr-weaker c.edits_of.result _ _ (λ e zero rs is. zero_page e zero) c.edits_of.ensures.zero

@@ -20,6 +20,7 @@ use Rattle.quilt_lines.specs.Bounds.{is_met_above, due}
 use Rattle.quilt_lines.proofs.Costs.{due_leaf, due_cut, due_split, quarter_above, reads_next, reads_all}
 use Rattle.quilt_lines.proofs.Sums.{reads_sum, reads_more}
 use Rattle.quilt_lines.proofs.Quarters.{quarter_in, quarter_at}
+use Rattle.quilt_lines.proofs.Saying.{tree_along}
 use Rattle.quilt_lines.proofs.removal.Removal.+settle.Goals as goal
 
 pub settle-returns-in_err-ids-clause-sound : goal.settle-returns-in_err-ids-clause-sound
@@ -175,3 +176,13 @@ settle_quarters-returns-in-Ok-joined-clause-reads g t c segs cover h reached awa
     let past = c.loop-q-test.false in
     let all = ap (sum_by f) c.quarters-q-items.ensures.value in
     reads_all f qs c.loop-q.q-index 0 (sum_by f (quarters_of c.args.b)) _ _ (omega arith) (omega arith) (c.loop-q.invariant.reads segs cover h reached away)
+
+pub settle-returns-clause-zero : goal.settle-returns-clause-zero
+settle-returns-clause-zero g t c =
+    IfErr-weaker c.settle_quarters.result _ _ (λ x f rs is. f rs (tree_along _ _ c.args.tree.now rs c.in_ok-ids.ensures.left.told is))
+    c.settle_quarters.ensures.zero
+
+pub settle_quarters-returns-in_err-x-clause-zero : goal.settle_quarters-returns-in_err-x-clause-zero
+settle_quarters-returns-in_err-x-clause-zero g t c =
+    let p = err_from_is_err_and c.from_residual.result c.from_residual.ensures.1 in
+    rw (p.1, p.2) (λ rs is. c.in_err-x.ensures.zero rs (tree_along _ _ c.args.tree.now rs c.loop-q.invariant.left.told is))

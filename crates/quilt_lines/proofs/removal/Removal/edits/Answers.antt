@@ -1,6 +1,7 @@
 use Rattle.std.proofs.lemmas.Result.{IfErr-weaker}
 use Rattle.quilt_lines.proofs.plans.Removals as removals
 use Rattle.quilt_lines.proofs.Results.{if_ok_both, memory_sound}
+use Rattle.quilt_lines.proofs.Saying.{zero_page}
 use Rattle.quilt_lines.proofs.removal.Removal.edits.Goals as goal
 
 pub returns-clause-plan : goal.returns-clause-plan
@@ -20,3 +21,6 @@ returns-clause-sound c =
     memory_sound e (f (removals.can r.level r.layer r.threshold r.id r.has_level.1 r.has_layer.0 segs cover r.segment valid had c.args.all.now h
     c.in-Ok.gone.items c.in-Ok-back.back.items c.in-Ok.ensures c.in-Ok-back.ensures)))
     c.edits_of.ensures.memory
+
+pub returns-clause-zero : goal.returns-clause-zero
+returns-clause-zero c = IfErr-weaker c.edits_of.result _ _ zero_page c.edits_of.ensures.zero

@@ -55,3 +55,6 @@ pub settle-requires-clause-search : goal.settle-requires-clause-search
 settle-requires-clause-search g c =
     let r = c.args.self.now in
     c.new-search.ensures (g.S.PageStore.told c.args.store.now) c.args.tree.now r.level r.layer
+
+pub returns-clause-zero : goal.returns-clause-zero
+returns-clause-zero g c = IfErr-weaker c.edits.result _ _ (λ e zero rs is. zero) c.edits.ensures.zero

@@ -16,6 +16,7 @@ use Rattle.quilt_lines.proofs.Sums.{reads_more}
 use Rattle.quilt_lines.proofs.Listed.{one_pixel}
 use Rattle.quilt_lines.proofs.Lookups.{lines_along}
 use Rattle.quilt_lines.proofs.Quarters.{quarter_at, quarter_side, quarter_in}
+use Rattle.quilt_lines.proofs.Saying.{tree_along}
 use Rattle.quilt_lines.proofs.view.LineView.+count_in.Goals as goal
 
 pub returns-in_err-has_block-clause-sound : goal.returns-in_err-has_block-clause-sound
@@ -152,3 +153,8 @@ returns-clause-reads g t c t' segs cover h =
     (pages_below cover c.args.k c.args.b c.quarters-q-items.result some (sym (c.in_ok-has_block.ensures.there t' segs cover h) ∙ c.if-branch.false)
     c.quarters-q-items.ensures.value)
     (c.loop-q.invariant.reads t' segs cover h)
+
+pub returns-in_err-count_in-clause-zero : goal.returns-in_err-count_in-clause-zero
+returns-in_err-count_in-clause-zero g t c =
+    let p = err_from_is_err_and c.from_residual-in_err-count_in.result c.from_residual-in_err-count_in.ensures.1 in
+    rw (p.1, p.2) (λ rs is. c.in_err-count_in.ensures.zero rs (tree_along _ _ c.args.self.now.tree rs c.loop-q.invariant.left.told is))

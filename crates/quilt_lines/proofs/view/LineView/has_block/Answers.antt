@@ -2,6 +2,7 @@ use Rattle.std.proofs.Common.{[], refl, ◌∙◌, ap}
 use Rattle.std.proofs.lemmas.Result.{err_from_is_err_and}
 use Rattle.quilt_record.specs.declared.record.Record.{Record}
 use Rattle.quilt_lines.proofs.Floors.{read_none, read_some}
+use Rattle.quilt_lines.proofs.Saying.{sound_zero}
 use Rattle.quilt_lines.proofs.view.LineView.has_block.Goals as goal
 
 pub returns-in_err-floor-clause-sound : goal.returns-in_err-floor-clause-sound
@@ -21,3 +22,8 @@ returns-in-Some-clause-there g c t segs cover h =
     ∙ read_some (g.S.PageStore.told c.args.store.now) c.args.self.now.tree c.args.self.now.layer c.args.self.now.level t segs cover _ _
     c.in_ok-floor.field-0 c.in_ok-floor.ensures.floor h c.args.self.now.has_level.1 c.args.b c.requires.block
     (ap (λ (r : Record). r.key) (c.pair_record.ensures.written [])) refl c.in-Some.r c.in-Some.is
+
+pub returns-in_err-floor-clause-zero : goal.returns-in_err-floor-clause-zero
+returns-in_err-floor-clause-zero g c =
+    let p = err_from_is_err_and c.from_residual.result c.from_residual.ensures.1 in
+    rw (p.1, p.2) (λ rs is. sound_zero _ (c.in_err-floor.ensures.sound rs is))

@@ -8,6 +8,7 @@ use Rattle.quilt_lines.proofs.Ranges.{block_read}
 use Rattle.quilt_lines.proofs.Results.{if_ok_both}
 use Rattle.quilt_lines.proofs.Saying.{sound_zero, read_at}
 use Rattle.quilt_lines.proofs.Sums.{reads_ids}
+use Rattle.quilt_btree.proofs.ways.Damage.{zero_named}
 use Rattle.quilt_lines.proofs.view.LineView.ids_from.Goals as goal
 
 pub returns-in_err-records-clause-sound : goal.returns-in_err-records-clause-sound
@@ -53,3 +54,12 @@ returns-clause-reads g c =
     reads_ids vec_len (λ ids. SayIds c.args.self.now.level c.args.self.now.layer c.args.b c.deref.result.now ids.items) c.deref.result.now _ _ o said few
     (tells_weaker (λ x y. y ≤ x + 6 + 3 * vec_len c.in_ok-records.records) (λ x y. y ≤ x + 6 + 3 * length c.deref.result.now) (λ x y le. omega arith) _ _
     c.in_ok-records.ensures.reads)) c.ids_said.ensures.said c.ids_said.ensures.few
+
+pub returns-in_err-records-clause-bad : goal.returns-in_err-records-clause-bad
+returns-in_err-records-clause-bad g c =
+    let p = err_from_is_err_and c.from_residual.result c.from_residual.ensures.1 in
+    rw (p.1, p.2) (λ ne. c.in_err-records.ensures.stops.bad ne)
+
+pub returns-clause-bad : goal.returns-clause-bad
+returns-clause-bad g c =
+    zero_named c.ids_said.result (g.S.PageStore.told c.args.store.now) c.args.self.now.tree.height c.args.self.now.tree.root c.ids_said.ensures.zero

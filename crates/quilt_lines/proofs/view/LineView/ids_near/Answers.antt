@@ -1,6 +1,7 @@
 use Rattle.std.proofs.Common.{◌∙◌}
 use Rattle.std.proofs.lemmas.Result.{IfOk-weaker, IfErr-weaker, err_from_is_err_and}
 use Rattle.quilt_lines.proofs.Saying.{sound_zero}
+use Rattle.quilt_btree.proofs.ways.Damage.{zero_named}
 use Rattle.quilt_lines.proofs.view.LineView.ids_near.Goals as goal
 
 pub returns-in_err-records-clause-sound : goal.returns-in_err-records-clause-sound
@@ -22,3 +23,7 @@ pub returns-clause-sound : goal.returns-clause-sound
 returns-clause-sound g c =
     IfErr-weaker c.ids_said.result _ _ (λ e f t segs cover h. f segs cover (c.deref.ensures.value ∙ c.in_ok-records.ensures.records t segs cover h))
     c.ids_said.ensures.sound
+
+pub returns-clause-bad : goal.returns-clause-bad
+returns-clause-bad g c =
+    zero_named c.ids_said.result (g.S.PageStore.told c.args.store.now) c.args.self.now.tree.height c.args.self.now.tree.root c.ids_said.ensures.zero

@@ -96,3 +96,8 @@ returns-then-len-count-clause-sound g c l h all page e =
     let long = c.deref-r-items.ensures.len in
     let n = c.len.ensures in
     c.if-len-count.true (omega arith)
+
+pub returns-in_err-records-clause-bad : goal.returns-in_err-records-clause-bad
+returns-in_err-records-clause-bad g c =
+    let p = err_from_is_err_and c.from_residual.result c.from_residual.ensures.1 in
+    rw (p.1, p.2) (λ ne. c.in_err-records.ensures.stops.bad ne)

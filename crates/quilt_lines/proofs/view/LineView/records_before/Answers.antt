@@ -17,3 +17,6 @@ returns-clause-before g c =
     ∙ range_before rs (tree_rises (g.S.PageStore.told c.args.store.now) c.args.self.now.tree rs is)
     (tree_few (g.S.PageStore.told c.args.store.now) c.args.self.now.tree rs c.requires.rooted.height is) c.args.low.now c.args.k.now
     (let some = c.if-k-eq0.false in omega arith)) c.range_from.ensures.range
+
+pub returns-clause-bad : goal.returns-clause-bad
+returns-clause-bad g c = c.range_from.ensures.stops.bad

@@ -3,7 +3,7 @@ use Rattle.std.proofs.lemmas.Result.{IfOk-weaker, IfErr-weaker}
 use Rattle.quilt_record.specs.declared.record.Record.{Record}
 use Rattle.quilt_lines.specs.Reads.{none_of}
 use Rattle.quilt_lines.proofs.Around.{near_read, near_none, reads_one}
-use Rattle.quilt_lines.proofs.Saying.{tree_along}
+use Rattle.quilt_lines.proofs.Saying.{tree_along, bad_along}
 use Rattle.quilt_lines.proofs.view.LineView.records_near.Goals as goal
 
 pub returns-in-None-clause-records : goal.returns-in-None-clause-records
@@ -32,3 +32,7 @@ returns-in-Some-clause-none g c =
     IfOk-weaker c.records_to.result _ _ (λ v f is.
     reads_one v.items f.0 c.in-Some.last (none_of self.level self.layer c.args.b) _ _ _ f.1 refl c.in_ok-found.ensures.reads c.records_to.ensures.first is)
     c.records_to.ensures.ends
+
+pub returns-in-Some-clause-bad : goal.returns-in-Some-clause-bad
+returns-in-Some-clause-bad g c =
+    IfErr-weaker c.records_to.result _ _ (λ e bad. bad_along _ _ c.args.self.now.tree e c.in_ok-found.ensures.left.told bad) c.records_to.ensures.bad

@@ -42,3 +42,8 @@ pub returns-in-Some-segment_said-clause-said : goal.returns-in-Some-segment_said
 returns-in-Some-segment_said-clause-said g c rs is =
     segment_at c.args.self.now.level c.args.self.now.layer rs c.args.id c.segment_key-key.result c.in-Some.value c.in_ok-value.field-0
     (c.in-Some-segment_said.field-0-0, c.in-Some-segment_said.s) c.segment_key-key.ensures (c.in_ok-value.ensures.value rs is) c.in-Some.is c.in-Some-segment_said.ensures.some
+
+pub returns-in_err-value-clause-bad : goal.returns-in_err-value-clause-bad
+returns-in_err-value-clause-bad g c =
+    let p = err_from_is_err_and c.from_residual.result c.from_residual.ensures.1 in
+    rw (p.1, p.2) (λ ne. c.in_err-value.ensures.bad)

@@ -7,7 +7,7 @@ use Rattle.quilt_edits.proofs.Lists.{member_at}
 use Rattle.quilt_lines.specs.Said.{SaySegment}
 use Rattle.quilt_lines.proofs.Listed.{all_one}
 use Rattle.quilt_lines.proofs.Lookups.{lines_along}
-use Rattle.quilt_lines.proofs.Saying.{tree_along}
+use Rattle.quilt_lines.proofs.Saying.{tree_along, bad_along}
 use Rattle.quilt_lines.proofs.Spots.{spot_along}
 use Rattle.quilt_lines.proofs.Sums.{reads_sum}
 use Rattle.quilt_lines.proofs.Taken.{taken_more}
@@ -51,3 +51,8 @@ returns-in_err-add_segment-clause-zero g c =
 
 pub returns-clause-found : goal.returns-clause-found
 returns-clause-found g c t segs cover h = c.loop-id.invariant.taken.found (t, segs, cover) h
+
+pub returns-in_err-add_segment-clause-bad : goal.returns-in_err-add_segment-clause-bad
+returns-in_err-add_segment-clause-bad g c =
+    let p = err_from_is_err_and c.from_residual.result c.from_residual.ensures.1 in
+    rw (p.1, p.2) (bad_along _ _ c.args.self.now.tree _ c.loop-id.invariant.left.told c.in_err-add_segment.ensures.bad)

@@ -4,7 +4,7 @@ use Rattle.std.proofs.lemmas.Result.{IfErr-weaker, on_ok_weaker, err_from_is_err
 use Rattle.quilt_near.specs.Knowing.{known_seg}
 use Rattle.quilt_lines.proofs.Followers.{run_known}
 use Rattle.quilt_lines.proofs.Lookups.{shows_along}
-use Rattle.quilt_lines.proofs.Saying.{tree_along}
+use Rattle.quilt_lines.proofs.Saying.{tree_along, bad_along}
 use Rattle.quilt_lines.proofs.Sums.{reads_sum}
 use Rattle.quilt_lines.proofs.view.LineView.segments_ahead.Goals as goal
 
@@ -34,3 +34,8 @@ returns-clause-reads g c =
     on_ok_weaker c.segments_known-2.result (λ more.
     reads_sum _ _ _ (6 + 3 * (run.last + 1 - run.first)) (3 * count_by (λ id. is_none (known id)) ids) (6 + 3 * length ids) (omega arith)
     c.in_ok-read_run.ensures.reads more) c.segments_known-2.ensures.reads
+
+pub returns-clause-bad : goal.returns-clause-bad
+returns-clause-bad g c =
+    IfErr-weaker c.segments_known-2.result _ _ (λ e bad. bad_along _ _ c.args.self.now.tree e c.in_ok-read_run.ensures.left.told bad)
+    c.segments_known-2.ensures.bad

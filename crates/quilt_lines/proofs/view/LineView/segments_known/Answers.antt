@@ -7,7 +7,7 @@ use Rattle.quilt_near.proofs.Telling.{tells_then}
 use Rattle.quilt_edits.proofs.Lists.{member_at}
 use Rattle.quilt_lines.specs.Marks.{IsMark}
 use Rattle.quilt_lines.proofs.Lookups.{shows_along}
-use Rattle.quilt_lines.proofs.Saying.{tree_along}
+use Rattle.quilt_lines.proofs.Saying.{tree_along, bad_along}
 use Rattle.quilt_lines.proofs.Followers.{unknown_more}
 use Rattle.quilt_lines.proofs.Taken.{taken_more}
 use Rattle.quilt_lines.proofs.view.LineView.segments_known.Goals as goal
@@ -44,3 +44,8 @@ loop-id-preserved g c =
       fresh = tells_then (λ x y. y + 3 * initial ≤ x + 3 * before) (λ x y. y + 3 * before ≤ x + 3 * after) (λ x y. y + 3 * initial ≤ x + 3 * after)
           (λ x y z p q. omega arith) _ _ _ c.loop-id.invariant.fresh c.in_ok-s.ensures.fresh;
     }
+
+pub returns-in_err-s-clause-bad : goal.returns-in_err-s-clause-bad
+returns-in_err-s-clause-bad g c =
+    let p = err_from_is_err_and c.from_residual.result c.from_residual.ensures.1 in
+    rw (p.1, p.2) (bad_along _ _ c.args.self.now.tree _ c.loop-id.invariant.left.told c.in_err-s.ensures.bad)

@@ -7,7 +7,7 @@ use Rattle.quilt_store.proofs.Reading.{only_reads_then, only_reads_err}
 use Rattle.quilt_lines.proofs.Listed.{same_segments, all_there, each_there, one_pixel}
 use Rattle.quilt_lines.specs.Said.{SayIds, records_at}
 use Rattle.quilt_lines.proofs.Lookups.{lines_along}
-use Rattle.quilt_lines.proofs.Saying.{tree_along}
+use Rattle.quilt_lines.proofs.Saying.{tree_along, bad_along}
 use Rattle.quilt_lines.proofs.Sums.{reads_sum, reads_more}
 use Rattle.quilt_lines.proofs.view.LineViewSegBlocks.part.Goals as goal
 
@@ -77,3 +77,8 @@ returns-clause-reads g c =
     let all = length-map c.in_ok-list.list (λ (e : ℕ × Seg). e.0) in
     reads_sum _ _ _ (9 + 3 * vec_len c.in-Some.ids) (3 * length c.in_ok-list.list) (12 + 6 * length c.in_ok-list.list) (omega arith)
     (MatchOption-at_some _ _ c.in-Some.ids c.in-Some.is c.in_ok-ids.ensures.reads) c.in_ok-list.ensures.reads
+
+pub returns-in_err-list-clause-bad : goal.returns-in_err-list-clause-bad
+returns-in_err-list-clause-bad g c =
+    let p = err_from_is_err_and c.from_residual-in_err-list.result c.from_residual-in_err-list.ensures.1 in
+    rw (p.1, p.2) (bad_along _ _ c.args.self.now.tree _ c.in_ok-ids.ensures.left.told c.in_err-list.ensures.bad)

@@ -4,7 +4,7 @@ use Rattle.std.proofs.lemmas.Option.{MatchOption-at_none, MatchOption-at_some}
 use Rattle.quilt_near.proofs.Knowing.{knows_block}
 use Rattle.quilt_lines.proofs.Listed.{same_segments, all_there, each_there, one_pixel}
 use Rattle.quilt_lines.proofs.Lookups.{shows_along}
-use Rattle.quilt_lines.proofs.Saying.{tree_along}
+use Rattle.quilt_lines.proofs.Saying.{tree_along, bad_along}
 use Rattle.quilt_lines.proofs.view.LineViewSegBlocks.part_known.Goals as goal
 
 pub returns-in_err-ids-clause-sound : goal.returns-in_err-ids-clause-sound
@@ -81,3 +81,13 @@ returns-in_err-list-clause-zero g c =
     let p = err_from_is_err_and c.from_residual-in_err-list.result c.from_residual-in_err-list.ensures.1 in
     rw (p.1, p.2) (λ rs is.
     c.in_err-list.ensures.zero rs (tree_along _ _ c.args.self.now.tree rs c.in_ok-ids.ensures.left.told is))
+
+pub returns-in_err-list-clause-bad : goal.returns-in_err-list-clause-bad
+returns-in_err-list-clause-bad g c =
+    let p = err_from_is_err_and c.from_residual-in_err-list.result c.from_residual-in_err-list.ensures.1 in
+    rw (p.1, p.2) (bad_along _ _ c.args.self.now.tree _ c.in_ok-ids.ensures.left.told c.in_err-list.ensures.bad)
+
+pub returns-in_err-list-2-clause-bad : goal.returns-in_err-list-2-clause-bad
+returns-in_err-list-2-clause-bad g c =
+    let p = err_from_is_err_and c.from_residual-in_err-list-2.result c.from_residual-in_err-list-2.ensures.1 in
+    rw (p.1, p.2) (bad_along _ _ c.args.self.now.tree _ c.in_ok-ids.ensures.left.told c.in_err-list-2.ensures.bad)
