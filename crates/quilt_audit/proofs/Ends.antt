@@ -4,7 +4,7 @@ use Rattle.std.proofs.Common.{List, [], ◌∷◌, length, Option, Some, None, r
 use Rattle.std.specs.List.{list_all, slice_get}
 use Rattle.std.specs.Ordering.{is_lt}
 use Rattle.std.proofs.lemmas.List.{length-map}
-use Rattle.std.proofs.lemmas.Bool.{and_from}
+use Rattle.std.proofs.lemmas.Bool.{and_from, and_parts}
 use Rattle.quilt_record.specs.declared.key.Key.{Key}
 use Rattle.quilt_record.specs.declared.record.Record.{Record}
 use Rattle.quilt_record.specs.Records.{key_cmp}
@@ -13,10 +13,11 @@ use Rattle.quilt_node.specs.Nodes.{keys_of, page_records}
 use Rattle.quilt_node.specs.Pages.{leaf_of, is_ascending, short_at}
 use Rattle.quilt_node.specs.Tree.{Bounds, Whole, Damaged, is_above, is_below, are_within, leaf_walk}
 use Rattle.quilt_btree.proofs.subtrees.Walks.{if_true, if_false}
-use Rattle.quilt_node.proofs.Ascending.{and_parts, is_over, ascending_all}
+use Rattle.quilt_node.proofs.Ascending.{is_over, ascending_all}
 use Rattle.quilt_node.proofs.Places.{leaf_records}
 use Rattle.quilt_node.proofs.LeafReads.{keys_read, told}
 use Rattle.quilt_audit.proofs.Walked.{from_to, key_of_record}
+use Rattle.quilt_types.proofs.Truths.{and_true}
 
 all_got : {X : Type 0} (p : X → Bool) (xs : List X) (i : ℕ) (x : X) → list_all p xs ≡ true → slice_get xs i ≡ Some x → p x ≡ true
 all_got p [] zero x h at = cc
@@ -39,10 +40,6 @@ both_ends true true true d f g = refl
 both_ends true false true true f g = let e : false ≡ true = g refl in cc
 both_ends true false true false f g = refl
 
-alone : (b : Bool) → b ≡ (b && true)
-alone true = refl
-alone false = refl
-
 ends_tell : (low high : Option Key) (ks : List Key) (first last : Key) (i : ℕ) → is_ascending ks ≡ true → slice_get ks 0 ≡ Some first
     → slice_get ks i ≡ Some last → length ks ≡ suc i → (is_above low first && is_below high last) ≡ are_within (from_to low high) ks
 ends_tell low high [] first last i a f g long = absurd (omega arith)
@@ -52,7 +49,7 @@ ends_tell low high (k ∷ []) first last zero a f g long =
     let start : k ≡ first = cc in
     let end : k ≡ last = cc in
     ap (λ x. is_above low x && is_below high last) (sym start) ∙ ap (λ x. is_above low k && is_below high x) (sym end)
-    ∙ alone (is_above low k && is_below high k)
+    ∙ and_true (is_above low k && is_below high k)
 ends_tell low high (k ∷ l ∷ ks) first last (suc i) a f g long =
     let t = and_parts (is_lt (key_cmp k l)) (is_ascending (l ∷ ks)) a in
     let start : k ≡ first = cc in

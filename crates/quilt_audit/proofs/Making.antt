@@ -1,5 +1,5 @@
 -- Records of which all is known spell a map.
-use Rattle.std.proofs.Common.{◌≡◌, ℕ, suc, ◌≤◌, ◌&&◌, Bool, true, false, T, List, [], ◌∷◌, map, length, Some, refl, sym, ◌∙◌, ap, ap₂, subst, ⊎_elim, arith}
+use Rattle.std.proofs.Common.{◌≡◌, ℕ, suc, ◌≤◌, true, T, List, [], ◌∷◌, map, length, Some, refl, sym, ◌∙◌, ap, ap₂, subst, ⊎_elim, arith}
 use Rattle.std.proofs.Common.{Contains, Ordering, Less}
 use Rattle.std.specs.Ordering.{is_lt, nat_cmp}
 use Rattle.std.specs.Cmp.Lexicographic.{slice_cmp, nat_list_cmp_total}
@@ -27,17 +27,15 @@ use Rattle.quilt_audit.specs.declared.run.Run.{Run}
 use Rattle.quilt_line_audit.specs.Layers.{IsLayerOf}
 use Rattle.quilt_audit.specs.Checking.{entry_record, IsSoFar, SpellsSomeMap}
 use Rattle.quilt_audit.proofs.Catalog.{kind_record_is, free_or_kind}
+use Rattle.quilt_types.proofs.Truths.{T-both}
 
 -- ---- lists in the order of names
-both_true : (a b : Bool) → T a → T b → T (a && b)
-both_true true b p q = q
-both_true false b p q = p
 
 below_from : {X : Type 0} (k : List ℕ) (xs : List (List ℕ × X)) → ((x : List ℕ × X) → Contains xs x → slice_cmp nat_cmp k x.0 ≡ Less)
     → T (sorted.below_all (slice_cmp nat_cmp) k xs)
 below_from k [] h = tt
 below_from k (x ∷ xs) h =
-    both_true (is_lt (slice_cmp nat_cmp k x.0)) (sorted.below_all (slice_cmp nat_cmp) k xs)
+    T-both (is_lt (slice_cmp nat_cmp k x.0)) (sorted.below_all (slice_cmp nat_cmp) k xs)
     (subst (λ (o : Ordering). T (is_lt o)) (sym (h x (Contains-here x xs))) tt) (below_from k xs (λ y c. h y (Contains-there x xs y c)))
 
 abbrev numbered : Entry → List ℕ × ℕ
@@ -46,7 +44,7 @@ numbered e = (e.name, e.number)
 numbers_sorted : (es : List Entry) → NamesAscend es → T (sorted.is_sorted (slice_cmp nat_cmp) (map numbered es))
 numbers_sorted [] h = tt
 numbers_sorted (e ∷ es) h =
-    both_true (sorted.below_all (slice_cmp nat_cmp) e.name (map numbered es)) (sorted.is_sorted (slice_cmp nat_cmp) (map numbered es))
+    T-both (sorted.below_all (slice_cmp nat_cmp) e.name (map numbered es)) (sorted.is_sorted (slice_cmp nat_cmp) (map numbered es))
     (below_from e.name (map numbered es) (λ x c.
     let w = Contains-map_from numbered es x c in
     subst (λ (y : List ℕ × ℕ). slice_cmp nat_cmp e.name y.0 ≡ Less) w.2
@@ -100,7 +98,7 @@ module _ (form n : ℕ) (rs : List Record) where
   made_sorted [] cover h = tt
   made_sorted (e ∷ es) cover h =
       let rest = layers_of es (λ d c. cover d (Contains-there e es d c)) in
-      both_true (sorted.below_all (slice_cmp nat_cmp) e.name rest) (sorted.is_sorted (slice_cmp nat_cmp) rest)
+      T-both (sorted.below_all (slice_cmp nat_cmp) e.name rest) (sorted.is_sorted (slice_cmp nat_cmp) rest)
       (below_from e.name rest (λ x c.
       let w = made_from es (λ d c. cover d (Contains-there e es d c)) x c in
       subst (λ (y : List ℕ × Layer). slice_cmp nat_cmp e.name y.0 ≡ Less) (sym w.is)

@@ -1,5 +1,5 @@
 -- What is known of the records so far after one more.
-use Rattle.std.proofs.Common.{◌≡◌, ℕ, suc, ◌<◌, ◌≤◌, ◌⊎◌, Bool, true, false, List, [], ◌∷◌, ◌++◌, length, refl, sym, ◌∙◌, ap, subst, inl, inr, ⊎_elim, arith}
+use Rattle.std.proofs.Common.{◌≡◌, ℕ, ◌<◌, ◌≤◌, ◌⊎◌, Bool, true, false, List, [], ◌∷◌, ◌++◌, refl, sym, ◌∙◌, ap, subst, inl, inr, ⊎_elim, arith}
 use Rattle.std.proofs.Common.{Contains}
 use Rattle.std.specs.Prelude.{if◌then◌else◌}
 use Rattle.std.specs.Ordering.{is_lt}
@@ -48,14 +48,6 @@ with_there e (f ∷ es) x c = by_case (is_lt (name_cmp e.name f.name)) (λ d. wi
     by_case true h = Contains-there e (f ∷ es) x c
     by_case false h = ⊎_elim (λ is. subst (Contains (f ∷ with_entry e es)) is (Contains-here f (with_entry e es)))
         (λ d. Contains-there f (with_entry e es) x (h d)) (Contains-cons_cases f es x c)
-
-pub length_with : (e : Entry) (es : List Entry) → length (with_entry e es) ≡ suc (length es)
-length_with e [] = refl
-length_with e (f ∷ es) = by_case (is_lt (name_cmp e.name f.name)) (length_with e es)
-  where
-    by_case : (b : Bool) → length (with_entry e es) ≡ suc (length es) → length (if b then e ∷ f ∷ es else f ∷ with_entry e es) ≡ suc (suc (length es))
-    by_case true h = refl
-    by_case false h = ap suc h
 
 -- ---- no record yet
 pub IsSoFar-none : (form n : ℕ) (run : Run) → IsSoFar form n [] 0 0 run []

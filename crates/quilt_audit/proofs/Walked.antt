@@ -22,12 +22,18 @@ use Rattle.quilt_types.specs.declared.stop.Stop.TheVariants.{Device, Memory, Dam
 use Rattle.quilt_audit.specs.Surveys.{OnDamaged}
 use Rattle.quilt_audit.specs.Checking.{TakesRecords}
 use Rattle.quilt_audit.specs.declared.progress.Surveying.{Surveying}
-use Rattle.quilt_audit.specs.Bits.{has_page_bit, Marks}
+use Rattle.quilt_types.specs.Bits.{has_bit}
+use Rattle.quilt_audit.specs.Bits.{Marks}
 use Rattle.quilt_audit.specs.Walking.{Spent, SpentSome, Added, Found, Reached}
 use Rattle.quilt_spell.proofs.Lists.{Apart-le}
 use Rattle.quilt_spell.proofs.facts.SameFacts.{member_any}
 use Rattle.quilt_audit.proofs.Bits.{Marks-more, AreWithin-more}
 use Rattle.quilt_audit.proofs.Feeding.{Takes-none, Takes-then}
+
+-- a page that has no bit was not visited
+pub unlisted : (bits visited : List ℕ) (page : ℕ) (b : Bool) → Marks bits visited → b ≡ has_bit bits page → b ≡ false
+    → list_any (λ v. v == page) visited ≡ false
+unlisted bits visited page b m is unset = sym (m.each page) ∙ sym is ∙ unset
 
 all_append : {X : Type 0} (p : X → Bool) (xs : List X) (x : X) → list_all p xs ≡ true → p x ≡ true → list_all p (xs ++ x ∷ []) ≡ true
 all_append p [] x h t = both (p x) t
@@ -252,7 +258,7 @@ walk_inner pages (suc (suc h)) is_root at visited few f =
 -- a page that was marked, and the records that it gave
 pub Added-page : (size : ℕ) (visited : List ℕ) (old new : Surveying) (before after : Option ℕ) (page : ℕ) (rs : List Record) → 1 ≤ page → page < size
     → Marks old.used visited → list_any (λ v. v == page) visited ≡ false
-    → ((j : ℕ) → has_page_bit new.used j ≡ cond (eqb j page) true (has_page_bit old.used j)) → TakesRecords old.checker rs new.checker
+    → ((j : ℕ) → has_bit new.used j ≡ cond (eqb j page) true (has_bit old.used j)) → TakesRecords old.checker rs new.checker
     → Goes {A = ℕ} (λ was is. is ≤ was + 1) before after
     → Added size visited old new before after rs (page ∷ visited)
 Added-page size visited old new before after page rs low high m fresh one t reads = record {

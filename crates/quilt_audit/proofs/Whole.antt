@@ -7,7 +7,7 @@ use Rattle.quilt_record.specs.declared.entry.Entry.{Entry}
 use Rattle.quilt_record.specs.Records.{Numbering}
 use Rattle.quilt_node.specs.declared.head.Head.{Head}
 use Rattle.quilt_node.specs.Pages.{IsHead}
-use Rattle.quilt_node.specs.Tree.{Whole, Damaged, walk, walk_of}
+use Rattle.quilt_node.specs.Tree.{Whole, Damaged, walk, walk_of, page_of_walk}
 use Rattle.quilt_world.specs.Tale.{Goes}
 use Rattle.quilt_btree.specs.declared.tree.Tree.{Tree}
 use Rattle.quilt_spell.specs.Spelled.{SpellsUnder}
@@ -16,7 +16,7 @@ use Rattle.quilt_spell.proofs.Laws.{members}
 use Rattle.quilt_region.proofs.Trees.{tree_rises}
 use Rattle.quilt_audit.specs.declared.progress.Surveying.{Surveying}
 use Rattle.quilt_audit.specs.Bits.{Marks, AreWithin}
-use Rattle.quilt_audit.specs.Surveys.{first_damaged, IsSurvey, IsDamage}
+use Rattle.quilt_audit.specs.Surveys.{IsSurvey, IsDamage}
 use Rattle.quilt_audit.specs.Checking.{IsFed, SpellsSomeMap}
 use Rattle.quilt_audit.specs.Walking.{Found, IsWalked}
 use Rattle.quilt_audit.proofs.Bits.{Marks-none, AreWithin-none}
@@ -124,7 +124,7 @@ module _ (size : ℕ) (told : Option (List (List ℕ))) (head : Head) (s : Surve
   pub damage_from : ((total : ℕ) (rs : List Record) → IsFed total s.checker rs → (numbers : Numbering) (layers : Map)
       → SpellsUnder s.checker.format s.checker.level numbers rs layers → length rs ≡ total → ⊥) → IsDamage pages head 0
   damage_from refused = record {
-    first = sym (ap first_damaged (h.walks pages is_told));
+    first = sym (ap page_of_walk (h.walks pages is_told));
     none = λ records visited layers w spells count.
         let same = (whole_same h.rs records h.now visited (sym (h.walks pages is_told) ∙ w)).0 in
         let m = (members head.format head.level records layers ok.level.1).0 spells in
@@ -144,6 +144,6 @@ module _ (size : ℕ) (told : Option (List (List ℕ))) (head : Head) (s : Surve
 -- where a page is damaged
 pub damage_at : (pages : List (List ℕ)) (head : Head) (page : ℕ) → walk_of pages head.root head.height ≡ Damaged page → IsDamage pages head page
 damage_at pages head page w = record {
-  first = sym (ap first_damaged w);
+  first = sym (ap page_of_walk w);
   none = λ records visited layers v spells count. let clash : Damaged page ≡ Whole records visited = sym w ∙ v in cc;
 }

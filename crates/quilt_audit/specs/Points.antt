@@ -8,7 +8,7 @@ use Rattle.quilt_types.specs.declared.plane.Kind.TheVariants as kinds
 use Rattle.quilt_types.specs.Plane.{IsBlock, in_block, quarters_of}
 use Rattle.quilt_types.specs.Layers.{PointMap, IsPointMap}
 use Rattle.quilt_types.specs.Facts.{Fact, point_facts}
-use Rattle.quilt_types.specs.Quadtrees.{points_in}
+use Rattle.quilt_types.specs.Quadtrees.{occupancy}
 use Rattle.quilt_loc.specs.Codes.{Rises, code_to}
 use Rattle.quilt_record.specs.declared.record.Record.{Record}
 use Rattle.quilt_record.specs.Records.{record_of}
@@ -37,19 +37,19 @@ pub record ArePlaced (form n : ℕ) (rs : List Record) (layer capacity end : ℕ
   pub follows : Follows n 0 (map plain bs)
   pub size : pixel_count (map plain bs) ≡ end
   pub held : (e : Pixel × ℕ) → Contains (finmap.entries points) e → (b : Block) × Contains bs b × (in_block b e.0 ≡ true)
-  pub few : (b : Block) → Contains bs b → points_in points b ≤ capacity
+  pub few : (b : Block) → Contains bs b → occupancy points b ≤ capacity
 
 -- four quarters among the blocks hold too many points for one block
 abbrev pub AreApart : ℕ → ℕ → List Block → PointMap → Type 0
 AreApart n capacity bs points =
-    (w : Block) → IsBlock n w → 1 < w.side → ((q : Block) → Contains (quarters_of w) q → Contains bs q) → capacity < points_in points w
+    (w : Block) → IsBlock n w → 1 < w.side → ((q : Block) → Contains (quarters_of w) q → Contains bs q) → capacity < occupancy points w
 
 -- the last three blocks are these, or fewer behind blocks that are none, with so many points
 pub record EndIn (bs : List Block) (points : PointMap) (recent : List Tally) : Type 0 where
   pub three : length recent ≡ 3
   pub front : List Block
   pub split : no_blocks ++ bs ≡ front ++ map (λ t. t.block) recent
-  pub counts : (t : Tally) → Contains recent t → points_in points t.block ≡ t.count
+  pub counts : (t : Tally) → Contains recent t → occupancy points t.block ≡ t.count
 
 -- all points of the blocks have come
 pub record AreClosed (form n : ℕ) (rs : List Record) (layer capacity end : ℕ) (recent : List Tally) : Type 0 where
@@ -75,10 +75,10 @@ pub record IsTallied (form n : ℕ) (rs : List Record) (layer capacity : ℕ) (r
   pub placed : ArePlaced form n rs layer capacity run.end (closed ++ run.last.block ∷ []) points
   pub apart : AreApart n capacity closed points
   pub ends : EndIn closed points run.recent
-  pub count : points_in points run.last.block ≡ run.last.count
-  pub enough : (w : Block) → AreFour n (blocks_behind run.recent run.last.block) w → capacity + run.last.count < run.least + points_in points w
+  pub count : occupancy points run.last.block ≡ run.last.count
+  pub enough : (w : Block) → AreFour n (blocks_behind run.recent run.last.block) w → capacity + run.last.count < run.least + occupancy points w
   pub due : (run.least ≡ 0)
-      ⊎ ((w : Block) × AreFour n (blocks_behind run.recent run.last.block) w × (run.least + points_in points w ≡ capacity + 1 + run.last.count))
+      ⊎ ((w : Block) × AreFour n (blocks_behind run.recent run.last.block) w × (run.least + occupancy points w ≡ capacity + 1 + run.last.count))
 
 -- no block with no point, which stands for one before the first
 abbrev pub no_tally : Tally

@@ -8,15 +8,10 @@ use Rattle.quilt_record.specs.declared.entry.Entry.{Entry}
 use Rattle.quilt_record.specs.Records.{Numbering, Spells}
 use Rattle.quilt_record.specs.Listing.{KindFits}
 use Rattle.quilt_node.specs.declared.head.Head.{Head}
-use Rattle.quilt_node.specs.Tree.{Walk, Whole, Damaged, walk_of}
+use Rattle.quilt_node.specs.Tree.{Whole, walk_of, page_of_walk}
 use Rattle.quilt_spell.specs.Spelled.{SpellsUnder}
 use Rattle.quilt_spell.specs.Catalogued.{IsCatalogOf}
 use Rattle.quilt_audit.specs.Bits.{Marks}
-
--- the first damaged page in the order of the walk, and 0 where every page passes
-abbrev pub first_damaged : Walk → ℕ
-first_damaged (Damaged page) = page
-first_damaged (Whole records visited) = 0
 
 -- what holds of the page that is said to be damaged
 abbrev pub OnDamaged : (ℕ → Type 0) → Stop → Type 0
@@ -38,7 +33,7 @@ pub record IsSurvey (pages : List (List ℕ)) (head : Head) (catalog : List Entr
 
 -- The page is the first damaged one, and the tree spells no map with the head's number of records.
 pub record IsDamage (pages : List (List ℕ)) (head : Head) (page : ℕ) : Type 0 where
-  pub first : page ≡ first_damaged (walk_of pages head.root head.height)
+  pub first : page ≡ page_of_walk (walk_of pages head.root head.height)
   pub none : (records : List Record) (visited : List ℕ) (layers : Map) → walk_of pages head.root head.height ≡ Whole records visited
       → Spells head.format head.level records layers → length records ≡ head.records → ⊥
 

@@ -3,7 +3,6 @@
 
 mod checker;
 mod codes;
-mod marks;
 mod node;
 mod points;
 mod progress;

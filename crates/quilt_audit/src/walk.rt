@@ -13,13 +13,12 @@ ghost use Rattle.quilt_audit.specs.Checking.{TakesRecords};
 ghost use Rattle.quilt_audit.specs.Walking.{Found, SpentSome};
 
 use crate::checker::Checker;
-use crate::marks::{is_marked, mark};
 use crate::node::{read_inner, read_leaf};
 use crate::progress::Surveying;
 use quilt_node::{InnerPage, rec_in, records_in};
 use quilt_record::Key;
 use quilt_store::PageStore;
-use quilt_types::Stop;
+use quilt_types::{Stop, is_listed, list_page};
 use std::alloc::AllocError;
 
 /// Hands the records of the leaf that the bytes are to the checker.
@@ -67,7 +66,7 @@ fn survey_leaf<S: PageStore>(
     ensures left { OnlyReads S.PageStore store.old store.new result }
 {
     read_leaf(store, page, is_root, low, high, bytes)?;
-    mark(&mut state.used, page);
+    list_page(&mut state.used, page);
     match feed(&mut state.checker, bytes) {
         Err(_) => Err(Stop::Memory),
         Ok(()) => Ok(()),
@@ -100,45 +99,16 @@ pub fn survey_page<S: PageStore>(
     ensures names { IfErr result (NamesPage (S.size store.old)) }
     ensures left { OnlyReads S.PageStore store.old store.new result }
 {
-    if is_marked(&state.used, page) {
+    if is_listed(&state.used, page) {
         return Err(Stop::Damaged { page });
     }
     if height == 1 {
         return survey_leaf(store, state, page, is_root, low, high, bytes);
     }
-    survey_inner(store, state, page, height, is_root, low, high, bytes)
-}
-
-/// Visits an inner page that was not visited before, and all below it.
-#[cycle(walking)]
-fn survey_inner<S: PageStore>(
-    store: &mut S,
-    state: &mut Surveying,
-    page: u32,
-    height: u8,
-    is_root: bool,
-    low: &Option<Key>,
-    high: &Option<Key>,
-    bytes: &mut [u8; 4096],
-) -> Result<(), Stop>
-    requires page { (1 ≤ page) × (page < S.size store.old) }
-    requires height { 2 ≤ height }
-    ensures found { OnOk result ((visited : List ℕ) → Marks state.old.used visited → list_any (λ v. v == page) visited ≡ false
-        → Found (S.size store.old) (S.told store.old) (λ pages. walk pages height is_root (page, record { low = low.now; high = high.now }) visited)
-        visited state.old state.new (S.reads store.old) (S.reads store.new)) }
-    ensures damaged { IfErr result
-        (OnDamaged (λ p. (pages : List (List ℕ)) (visited : List ℕ) → S.told store.old ≡ Some pages → Marks state.old.used visited
-        → list_any (λ v. v == page) visited ≡ false
-        → walk pages height is_root (page, record { low = low.now; high = high.now }) visited ≡ Damaged p)) }
-    ensures spent { OnErr result ((visited : List ℕ) → Marks state.old.used visited → list_any (λ v. v == page) visited ≡ false
-        → SpentSome (S.size store.old) visited (S.reads store.old) (S.reads store.new)) }
-    ensures names { IfErr result (NamesPage (S.size store.old)) }
-    ensures left { OnlyReads S.PageStore store.old store.new result }
-{
     match read_inner(store, page, height, is_root, low, high) {
         Err(e) => Err(e),
         Ok(inner) => {
-            mark(&mut state.used, page);
+            list_page(&mut state.used, page);
             survey_children(store, state, &inner, height - 1, low, high, bytes)
         }
     }

@@ -11,7 +11,7 @@ use Rattle.quilt_types.specs.declared.plane.Pixel.{Pixel}
 use Rattle.quilt_types.specs.Plane.{corner, whole, in_block, is_pixel, quarters_of, IsBlock}
 use Rattle.quilt_types.specs.Layers.{Points, PointMap, IsPointMap}
 use Rattle.quilt_types.specs.Facts.{Fact, HoldsPoint, HoldsNoPoint}
-use Rattle.quilt_types.specs.Quadtrees.{coloured, points_in, holds_few}
+use Rattle.quilt_types.specs.Quadtrees.{coloured, occupancy, holds_few}
 use Rattle.quilt_loc.specs.Codes.{Rises, code_at, code_from, code_to}
 use Rattle.quilt_loc.proofs.Members.{Contains-nil, Contains-here, Contains-there, Contains-cons_cases, Contains-map_from, Contains-filter, Contains-filter_from}
 use Rattle.quilt_loc.proofs.Blocks.{Holds-from, in_block-true, side_most}
@@ -79,7 +79,7 @@ some_on points b =
     by_case [] e =
         let long = length-filter (λ (e : Pixel × ℕ). in_block b e.0) (finmap.entries points) in
         let none = ap length e in
-        (HoldsNoPoint b, (refl, bare_from points b (let z : points_in points b ≡ 0 = sym long ∙ none in z)))
+        (HoldsNoPoint b, (refl, bare_from points b (let z : occupancy points b ≡ 0 = sym long ∙ none in z)))
     by_case (x ∷ xs) e =
         let w = Contains-filter_from (λ (e : Pixel × ℕ). in_block b e.0) (finmap.entries points) x
         (subst (λ (l : List (Pixel × ℕ)). Contains l x) (sym e) (Contains-here x xs)) in
@@ -94,7 +94,7 @@ on_cases points b f o = absurd o
 -- where each point of a block is one of other points too
 pub counts_le : (points others : PointMap) (w : Block)
     → ((e : Pixel × ℕ) → Contains (finmap.entries points) e → in_block w e.0 ≡ true → Contains (finmap.entries others) e)
-    → points_in points w ≤ points_in others w
+    → occupancy points w ≤ occupancy others w
 counts_le points others w sub =
     let test : Pixel × ℕ → Bool = λ e. in_block w e.0 in
     let es = finmap.entries points in
@@ -109,7 +109,7 @@ counts_le points others w sub =
 pub counts_less : (points others : PointMap) (w : Block)
     → ((e : Pixel × ℕ) → Contains (finmap.entries points) e → in_block w e.0 ≡ true → Contains (finmap.entries others) e)
     → (x : Pixel × ℕ) → Contains (finmap.entries others) x → in_block w x.0 ≡ true → (Contains (finmap.entries points) x → ⊥)
-    → points_in points w < points_in others w
+    → occupancy points w < occupancy others w
 counts_less points others w sub x there on away =
     let test : Pixel × ℕ → Bool = λ e. in_block w e.0 in
     let es = finmap.entries points in
@@ -345,7 +345,7 @@ module _ (form n : ℕ) (le : n ≤ 12) (capacity layer : ℕ) (some : 1 ≤ lay
 
     -- four quarters that are blocks of the layer, and all of whose points have come, hold too many for one block
     pub too_many : (bound : ℕ) → ((x : Record) → Contains ahead x → x.key.layer ≡ layer → bound ≤ x.key.code) → (w : Block) → IsBlock n w → 1 < w.side
-        → ((q : Block) → Contains (quarters_of w) q → Contains bs q × (code_from q < bound)) → capacity < points_in points w
+        → ((q : Block) → Contains (quarters_of w) q → Contains bs q × (code_from q < bound)) → capacity < occupancy points w
     too_many bound past w hw wide part =
         let all = counts_le full points w (λ e c t.
         let q = quarter_held w (w.side / 2) e.0 (halves w hw wide) refl (Holds-from w e.0 t) in
@@ -357,8 +357,8 @@ module _ (form n : ℕ) (le : n ≤ 12) (capacity layer : ℕ) (some : 1 ≤ lay
         let half = qr.half in
         let top = side_le n w hw in
         let g = said_block q0 (part q0 is).0 in
-        ⊎_elim (λ few. absurd (g.last (omega arith) (ap fits qr.parent ∙ le-leb (points_in full w) capacity (omega arith)))) (λ many. omega arith)
-        (cases_lt (points_in points w) (capacity + 1))
+        ⊎_elim (λ few. absurd (g.last (omega arith) (ap fits qr.parent ∙ le-leb (occupancy full w) capacity (omega arith)))) (λ many. omega arith)
+        (cases_lt (occupancy points w) (capacity + 1))
       where
         halves : (w : Block) → IsBlock n w → 1 < w.side → w.side ≡ w.side / 2 + w.side / 2
         halves w hw wide = let qr = quarters_are n w (record { x = w.x; y = w.y; side = w.side / 2 }) hw wide (0, omega arith, refl) in
@@ -445,7 +445,7 @@ module _ (form n : ℕ) (le : n ≤ 12) (capacity layer : ℕ) (some : 1 ≤ lay
           let less = counts_less t.points full last (λ e m k. point_said run.end blocks t.points t.placed e m) (p, label) h.on.1 on
           (λ m. not_both (rec (HoldsPoint last p label))
           (t.placed.has.each last (HoldsPoint last p label) last_there (on_is t.points last (HoldsPoint last p label) (refl, m, on))) c) in
-          let few = leb-true (points_in full last) capacity last_max.passes in
+          let few = leb-true (occupancy full last) capacity last_max.passes in
           let k = t.count in
           omega arith
 

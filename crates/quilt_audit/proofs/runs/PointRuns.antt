@@ -1,7 +1,6 @@
 -- The steps of a run of point records, and when they may be all.
 use Rattle.std.proofs.Common.{◌≡◌, ℕ, ◌+◌, ◌<◌, ◌≤◌, true, List, [], ◌∷◌, ◌++◌, length, get_or, Option, Some, None, refl, sym, ◌∙◌, ap, subst, inr, ⊎_elim}
 use Rattle.std.proofs.Common.{arith, Contains}
-use Rattle.std.specs.Prelude.{IfSome, IfNone}
 use Rattle.std.specs.FinMap as finmap
 use Rattle.std.specs.Ordering.{is_le}
 use Rattle.std.proofs.lemmas.Bool.{cases_lt}
@@ -35,13 +34,6 @@ use Rattle.quilt_audit.proofs.ahead.PointAhead.{no_second, no_first, no_more, ne
 use Rattle.quilt_audit.proofs.runs.PointWhole.{whole_points}
 
 -- ---- answers that hold for one value of a test
-pub some_map : {A : Type 0} (o : Option A) (P Q : A → Type 0) → ((a : A) → P a → Q a) → IfSome o P → IfSome o Q
-some_map None P Q f h = tt
-some_map (Some a) P Q f h = f a h
-
-pub none_map : {A : Type 0} (o : Option A) (P Q : Type 0) → (P → Q) → IfNone o P → IfNone o Q
-none_map None P Q f h = f h
-none_map (Some a) P Q f h = tt
 
 -- ---- a list of three
 pub shifted_three : (ts : List Tally) (z t : Tally) → length ts ≡ 3 → recent_after ts t ≡ get_or ts 1 z ∷ get_or ts 2 z ∷ t ∷ []

@@ -11,7 +11,7 @@ use Rattle.quilt_types.specs.declared.plane.Point.{Point}
 use Rattle.quilt_types.specs.Plane.{in_block, is_pixel, pixel_cmp, quarters_of, Holds, IsBlock}
 use Rattle.quilt_types.specs.Layers.{PointMap}
 use Rattle.quilt_types.specs.Facts.{Fact, HoldsPoint, HoldsNoPoint}
-use Rattle.quilt_types.specs.Quadtrees.{points_in}
+use Rattle.quilt_types.specs.Quadtrees.{occupancy}
 use Rattle.quilt_loc.specs.Codes.{Rises, code_from, code_to}
 use Rattle.quilt_loc.proofs.Members.{Contains-nil, Contains-here, Contains-there, Contains-cons_cases, Contains-map}
 use Rattle.quilt_loc.proofs.Blocks.{Holds-from, in_block-true}
@@ -30,7 +30,7 @@ use Rattle.quilt_spell.proofs.Lists.{Apart-filter}
 use Rattle.quilt_spell.proofs.Maps.{entry_from_get, get_from_entry}
 use Rattle.quilt_spell.proofs.Written.{by_key_total}
 use Rattle.quilt_point_laws.specs.Laws.{AreIn}
-use Rattle.quilt_point_laws.proofs.Counts.{Comes, put_comes, entries_apart, points_in-more, points_in-same}
+use Rattle.quilt_point_laws.proofs.Counts.{Comes, put_comes, entries_apart, occupancy-more, occupancy-same}
 use Rattle.quilt_point_laws.proofs.LocalFacts.{bare_is, on_grows, on_shrinks}
 use Rattle.quilt_point_laws.proofs.Merging.{AreIn-quarters}
 use Rattle.quilt_point_laws.proofs.OnBlocks.{IsBare, IsOn, on_from, on_is}
@@ -46,7 +46,7 @@ use Rattle.quilt_audit.proofs.Covering.{covers_more, covered_more, last_apart, l
 -- ---- how many points
 pub points_of : PointMap → List Block → ℕ
 points_of points [] = 0
-points_of points (b ∷ bs) = points_in points b + points_of points bs
+points_of points (b ∷ bs) = occupancy points b + points_of points bs
 
 points_of-append : (points : PointMap) (xs ys : List Block) → points_of points (xs ++ ys) ≡ points_of points xs + points_of points ys
 unfolding points_of
@@ -54,7 +54,7 @@ points_of-append points [] ys = let z : points_of points [] ≡ 0 = refl in omeg
 points_of-append points (x ∷ xs) ys = let r = points_of-append points xs ys in omega arith
 
 -- a block has as many points as its quarters
-pub four_counts : (n : ℕ) (points : PointMap) (w : Block) → IsBlock n w → 1 < w.side → points_in points w ≡ points_of points (quarters_of w)
+pub four_counts : (n : ℕ) (points : PointMap) (w : Block) → IsBlock n w → 1 < w.side → occupancy points w ≡ points_of points (quarters_of w)
 unfolding points_of
 four_counts n points w hw wide =
     let hs : Block → List (Pixel × ℕ) = λ r. filter (λ e. in_block r e.0) (finmap.entries points) in
@@ -78,10 +78,10 @@ four_counts n points w hw wide =
     let n3 = length-append (hs d) [] in
     omega arith
 
-pub grows : (small big : PointMap) (p : Pixel) (label : ℕ) → Comes small big p label → (w : Block) → points_in small w ≤ points_in big w
+pub grows : (small big : PointMap) (p : Pixel) (label : ℕ) → Comes small big p label → (w : Block) → occupancy small w ≤ occupancy big w
 grows small big p label h w =
-    ⊎_elim (λ t. let m = points_in-more small big p label h w t in omega arith)
-    (λ f. let m = points_in-same small big p label h w (λ on. both_ways (in_block w p) f (in_block-true w p on)) in omega arith) (cases_Bool (in_block w p))
+    ⊎_elim (λ t. let m = occupancy-more small big p label h w t in omega arith)
+    (λ f. let m = occupancy-same small big p label h w (λ on. both_ways (in_block w p) f (in_block-true w p on)) in omega arith) (cases_Bool (in_block w p))
 
 pub none_held : (p : Pixel) → Holds no_block p → ⊥
 none_held p h = let l = h.left in let r = h.right in omega arith
@@ -181,7 +181,7 @@ module _ (form n : ℕ) (le : n ≤ 12) (rs : List Record) (layer capacity end :
         held = λ e c. let w = placed.held e c in (w.0, in_front bs b w.0 w.1, w.2);
         few = λ d c.
             ⊎_elim (λ old. placed.few d old)
-            (λ is. subst (λ (z : Block). points_in points z ≤ capacity) is (let z = bare_is points b next_bare in omega arith)) (last_cases bs b d c);
+            (λ is. subst (λ (z : Block). occupancy points z ≤ capacity) is (let z = bare_is points b next_bare in omega arith)) (last_cases bs b d c);
       }
 
   module _ (p : Pixel) (label : ℕ) (on : in_block b p ≡ true) (inside : is_pixel n p ≡ true) (small : label < 2 ^ 32) where
@@ -209,22 +209,22 @@ module _ (form n : ℕ) (le : n ≤ 12) (rs : List Record) (layer capacity end :
           held = λ e c. ⊎_elim (λ old. let w = placed.held e old in (w.0, in_front bs b w.0 w.1, w.2))
               (λ is. (b, at_last bs b, ap (λ (z : Pixel × ℕ). in_block b z.0) is ∙ on)) ((h.members e).0 c);
           few = λ d c.
-              ⊎_elim (λ old. let s = points_in-same points big p label h d (apart d old) in let f = placed.few d old in omega arith)
-              (λ is. subst (λ (z : Block). points_in big z ≤ capacity) is
-              (let m = points_in-more points big p label h b on in let z = bare_is points b next_bare in let l = placed.valid.least in omega arith))
+              ⊎_elim (λ old. let s = occupancy-same points big p label h d (apart d old) in let f = placed.few d old in omega arith)
+              (λ is. subst (λ (z : Block). occupancy big z ≤ capacity) is
+              (let m = occupancy-more points big p label h b on in let z = bare_is points b next_bare in let l = placed.valid.least in omega arith))
               (last_cases bs b d c);
         }
 
 -- ---- the next block
-counts_total : (points : PointMap) (ts : List Tally) → ((t : Tally) → Contains ts t → points_in points t.block ≡ t.count)
+counts_total : (points : PointMap) (ts : List Tally) → ((t : Tally) → Contains ts t → occupancy points t.block ≡ t.count)
     → points_of points (map (λ (t : Tally). t.block) ts) ≡ total ts
 unfolding points_of
 counts_total points [] h = refl
 counts_total points (t ∷ ts) h = let a = h t (Contains-here t ts) in let r = counts_total points ts (λ u c. h u (Contains-there t ts u c)) in omega arith
 
 module _ (n : ℕ) (points : PointMap) (three : List Tally) (b : Block) (count : ℕ) (counts : (t : Tally) → Contains three t
-    → points_in points t.block ≡ t.count) (is : points_in points b ≡ count) where
-  behind_counts : (w : Block) → AreFour n (blocks_behind three b) w → points_in points w ≡ total three + count
+    → occupancy points t.block ≡ t.count) (is : occupancy points b ≡ count) where
+  behind_counts : (w : Block) → AreFour n (blocks_behind three b) w → occupancy points w ≡ total three + count
   unfolding points_of
   behind_counts w f =
       let a = four_counts n points w f.block f.wide in
@@ -234,15 +234,15 @@ module _ (n : ℕ) (points : PointMap) (three : List Tally) (b : Block) (count :
       omega arith
 
   module _ (bucket least : ℕ) (h : IsLeast n bucket three b least) where
-    enough_from : (w : Block) → AreFour n (blocks_behind three b) w → bucket + count < least + points_in points w
+    enough_from : (w : Block) → AreFour n (blocks_behind three b) w → bucket + count < least + occupancy points w
     enough_from w f = let a = h.enough w f in let c = behind_counts w f in omega arith
 
-    due_from : (least ≡ 0) ⊎ ((w : Block) × AreFour n (blocks_behind three b) w × (least + points_in points w ≡ bucket + 1 + count))
+    due_from : (least ≡ 0) ⊎ ((w : Block) × AreFour n (blocks_behind three b) w × (least + occupancy points w ≡ bucket + 1 + count))
     due_from = ⊎_elim (λ z. inl z) (λ d. inr (d.0, d.1, let c = behind_counts d.0 d.1 in let e = d.2 in omega arith)) h.due
 
 -- where the counts of the last three are the same over other points
 EndIn-same : (bs : List Block) (small big : PointMap) (recent : List Tally)
-    → ((d : Block) → Contains bs d ⊎ (d ≡ no_block) → points_in big d ≡ points_in small d) → EndIn bs small recent → EndIn bs big recent
+    → ((d : Block) → Contains bs d ⊎ (d ≡ no_block) → occupancy big d ≡ occupancy small d) → EndIn bs small recent → EndIn bs big recent
 EndIn-same bs small big recent same e = record {
   three = e.three;
   front = e.front;
@@ -257,9 +257,9 @@ EndIn-same bs small big recent same e = record {
 -- the record of what is said of a block
 module _ (form n : ℕ) (le : n ≤ 12) (rs : List Record) (layer capacity end : ℕ) (recent : List Tally) (closed : AreClosed form n rs layer capacity end recent)
     (b : Block) (hb : IsBlock n b) (from : code_from b ≡ end) (next : PointRun) (ends : next.end ≡ code_to b) (three : next.recent ≡ recent) where
-  module _ (big : PointMap) (h : (w : Block) → points_in closed.points w ≤ points_in big w) (same : (d : Block)
-      → Contains closed.blocks d ⊎ (d ≡ no_block) → points_in big d ≡ points_in closed.points d)
-      (r : Record) (count : ℕ) (opens : next.last ≡ record { block = b; count = count }) (is : points_in big b ≡ count)
+  module _ (big : PointMap) (h : (w : Block) → occupancy closed.points w ≤ occupancy big w) (same : (d : Block)
+      → Contains closed.blocks d ⊎ (d ≡ no_block) → occupancy big d ≡ occupancy closed.points d)
+      (r : Record) (count : ℕ) (opens : next.last ≡ record { block = b; count = count }) (is : occupancy big b ≡ count)
       (least : IsLeast n capacity next.recent b next.least)
       (placed : ArePlaced form n (rs ++ r ∷ []) layer capacity (code_to b) (closed.blocks ++ b ∷ []) big) where
     pub opened_with : IsTallied form n (rs ++ r ∷ []) layer capacity next
@@ -275,7 +275,7 @@ module _ (form n : ℕ) (le : n ≤ 12) (rs : List Record) (layer capacity end :
               (subst (λ (z : Block). ArePlaced form n (rs ++ r ∷ []) layer capacity (code_to b) (closed.blocks ++ z ∷ []) big) (sym block) placed);
           apart = λ w hw wide part. let a = closed.apart w hw wide part in let l = h w in omega arith;
           ends = subst (EndIn closed.blocks big) (sym three) end_in;
-          count = ap (points_in big) block ∙ is ∙ sym number;
+          count = ap (occupancy big) block ∙ is ∙ sym number;
           enough = λ w f.
               let g = subst (λ (z : Block). AreFour n (blocks_behind next.recent z) w) block f in
               let e = enough_from n big next.recent b count counts is capacity next.least least w g in
@@ -301,10 +301,10 @@ module _ (form n : ℕ) (le : n ≤ 12) (rs : List Record) (layer capacity end :
       let h = next_comes form n le rs layer capacity end bs small closed.placed b hb from x.at x.label inside fits.1 fits.2 in
       let hold = Holds-from b x.at inside in
       let z = bare_is small b (next_bare form n le rs layer capacity end bs small closed.placed b hb from) in
-      let m = points_in-more small big x.at x.label h b inside in
+      let m = occupancy-more small big x.at x.label h b inside in
       let f = follows form n le rs layer capacity end bs small closed.placed b hb from in
       opened_with big (grows small big x.at x.label h)
-      (λ d c. points_in-same small big x.at x.label h d
+      (λ d c. occupancy-same small big x.at x.label h d
       (λ k. ⊎_elim (λ old. last_apart n bs b d x.at le f old k hold) (λ e. none_held x.at (subst (λ (z : Block). Holds z x.at) e k)) c))
       (record_of n capacity [] layer (HoldsPoint b x.at x.label)) 1 opens (omega arith) least
       (placed_point form n le rs layer capacity end bs small closed.placed b hb from x.at x.label inside fits.1 fits.2)
@@ -340,15 +340,15 @@ module _ (form n : ℕ) (le : n ≤ 12) (rs : List Record) (layer capacity : ℕ
       let less : by_key old new ≡ Less = rises_before by_key rs (new ∷ []) old new up there (Contains-here new []) in
       below_itself by_key by_key_total new less))
 
-  more_count : points_in big last ≡ run.last.count + 1
-  more_count = let m = points_in-more t.points big x.at x.label comes last on in let c = t.count in omega arith
+  more_count : occupancy big last ≡ run.last.count + 1
+  more_count = let m = occupancy-more t.points big x.at x.label comes last on in let c = t.count in omega arith
 
-  four_more : (w : Block) → AreFour n (blocks_behind run.recent last) w → points_in big w ≡ points_in t.points w + 1
+  four_more : (w : Block) → AreFour n (blocks_behind run.recent last) w → occupancy big w ≡ occupancy t.points w + 1
   four_more w f =
       let block : Tally → Block = λ t. t.block in
       let m : Contains (quarters_of w) last = subst (λ (l : List Block). Contains l last) (sym f.quarters) (at_last (map block run.recent) last) in
       let q = quarters_are n w last f.block f.wide m in
-      points_in-more t.points big x.at x.label comes w (in_block-true w x.at (Within-holds last w x.at q.within hold))
+      occupancy-more t.points big x.at x.label comes w (in_block-true w x.at (Within-holds last w x.at q.within hold))
 
   made : IsTallied form n (rs ++ record_of n capacity [] layer (HoldsPoint last x.at x.label) ∷ []) layer capacity
       (record run { last = record { block = last; count = run.last.count + 1 } })
@@ -370,13 +370,13 @@ module _ (form n : ℕ) (le : n ≤ 12) (rs : List Record) (layer capacity : ℕ
           ((comes.members e).0 c);
       few = λ d c.
           ⊎_elim
-          (λ old. let s = points_in-same t.points big x.at x.label comes d (λ k. last_apart n t.closed last d x.at le t.placed.follows old k hold) in
+          (λ old. let s = occupancy-same t.points big x.at x.label comes d (λ k. last_apart n t.closed last d x.at le t.placed.follows old k hold) in
           let f = t.placed.few d c in omega arith)
-          (λ e. subst (λ (z : Block). points_in big z ≤ capacity) e (let m = more_count in omega arith)) (last_cases t.closed last d c);
+          (λ e. subst (λ (z : Block). occupancy big z ≤ capacity) e (let m = more_count in omega arith)) (last_cases t.closed last d c);
     };
     apart = λ w hw wide part. let a = t.apart w hw wide part in let l = grows t.points big x.at x.label comes w in omega arith;
     ends = EndIn-same t.closed t.points big run.recent
-        (λ d c. points_in-same t.points big x.at x.label comes d
+        (λ d c. occupancy-same t.points big x.at x.label comes d
         (λ k. ⊎_elim (λ old. last_apart n t.closed last d x.at le t.placed.follows old k hold)
         (λ e. none_held x.at (subst (λ (z : Block). Holds z x.at) e k)) c)) t.ends;
     count = more_count;
@@ -427,7 +427,7 @@ closes form n le rs layer capacity run t enough =
         three = shifted_long run.recent run.last t.ends.three;
         front = f.0;
         split = f.1;
-        counts = λ u c. ⊎_elim (λ old. t.ends.counts u old) (λ e. subst (λ (z : Tally). points_in t.points z.block ≡ z.count) e t.count)
+        counts = λ u c. ⊎_elim (λ old. t.ends.counts u old) (λ e. subst (λ (z : Tally). occupancy t.points z.block ≡ z.count) e t.count)
             (shifted_from run.recent run.last u c);
       };
     }
@@ -486,7 +486,7 @@ begins_closed form n rs layer capacity run h =
         front = [];
         split = refl;
         counts =
-            λ t c. subst (λ (u : Tally). points_in points u.block ≡ u.count) (sym (tally_none t c)) (bare_is points no_block (λ q k m t'. no_entry (q, k) m));
+            λ t c. subst (λ (u : Tally). occupancy points u.block ≡ u.count) (sym (tally_none t c)) (bare_is points no_block (λ q k m t'. no_entry (q, k) m));
       };
     } in
     subst (λ (k : ℕ). AreClosed form n rs layer capacity k (recent_after run.recent run.last)) (sym h.start.end)

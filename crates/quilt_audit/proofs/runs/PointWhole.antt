@@ -8,7 +8,7 @@ use Rattle.quilt_types.specs.declared.plane.Pixel.{Pixel}
 use Rattle.quilt_types.specs.declared.plane.Kind.TheVariants as kinds
 use Rattle.quilt_types.specs.Plane.{side, in_block}
 use Rattle.quilt_types.specs.Layers.{Points}
-use Rattle.quilt_types.specs.Quadtrees.{points_in, holds_few}
+use Rattle.quilt_types.specs.Quadtrees.{occupancy, holds_few}
 use Rattle.quilt_loc.proofs.Nesting.{side_pos}
 use Rattle.quilt_loc.proofs.Blocks.{IsBlock-from, Contains-blocks}
 use Rattle.quilt_record.specs.declared.record.Record.{Record}
@@ -32,7 +32,7 @@ module _ (form n : ℕ) (le : n ≤ 12) (rs : List Record) (layer capacity : ℕ
   tiling : IsTiling n (holds_few capacity h.points) h.blocks
   tiling = record {
     blocks_only = λ b c. Contains-blocks n b (block_lies n h.blocks b h.placed.follows c).block;
-    passing = λ b c. le-leb (points_in h.points b) capacity (h.placed.few b c);
+    passing = λ b c. le-leb (occupancy h.points b) capacity (h.placed.few b c);
     cover = λ p t.
         let both = and_parts (nat_lt p.x (side n)) (nat_lt p.y (side n)) t in
         let hx = ltb-true p.x (side n) both.0 in
@@ -45,7 +45,7 @@ module _ (form n : ℕ) (le : n ≤ 12) (rs : List Record) (layer capacity : ℕ
         let q : Block = record { x = b.x; y = b.y; side = b.side / 2 } in
         let pos = side_pos n q (block_lies n h.blocks q h.placed.follows (part q (0, omega arith, refl))).block in
         let many = h.apart b hb (omega arith) part in
-        let few = leb-true (points_in h.points b) capacity u in
+        let few = leb-true (occupancy h.points b) capacity u in
         omega arith;
   }
 

@@ -4,7 +4,7 @@ use Rattle.quilt_node.specs.Tree.{walk}
 use Rattle.quilt_audit.specs.declared.progress.Surveying.{Surveying}
 use Rattle.quilt_audit.proofs.Feeding.{Takes-none}
 use Rattle.quilt_audit.proofs.Walked.{Added-page, from_to, reached_first, reached_next, reached_stop, walk_inner, page_found, on_ok_map, on_err_map}
-use Rattle.quilt_audit.proofs.Walked.{damaged_map, Spent-none, Spent-page, SpentSome-then, stop_map}
+use Rattle.quilt_audit.proofs.Walked.{damaged_map, Spent-none, Spent-page, SpentSome-then, stop_map, unlisted}
 use Rattle.quilt_audit.proofs.walk.+walking.Goals as goal
 
 pub survey_children-loop-i-init : goal.survey_children-loop-i-init
@@ -53,26 +53,30 @@ survey_children-returns-in-Err-clause-damaged g t c =
     (w pages h.now (inv.left.told ∙ e) h.added.marks))
     c.in-Err.ensures.damaged
 
-pub survey_inner-returns-in-Err-clause-damaged : goal.survey_inner-returns-in-Err-clause-damaged
-survey_inner-returns-in-Err-clause-damaged g t c =
+pub survey_page-returns-in-Err-clause-damaged : goal.survey_page-returns-in-Err-clause-damaged
+survey_page-returns-in-Err-clause-damaged g t c =
     let some = c.requires.height in
+    let more = c.if-height-eq1.false in
     stop_map c.in-Err.e _ _
-    (λ p w pages visited e m fresh.
+    (λ p w pages visited e m.
+    let fresh = unlisted c.args.state.now.used visited c.args.page _ m c.is_listed.ensures c.if-is_listed.false in
     walk_inner pages c.args.height c.args.is_root (c.args.page, from_to c.args.low.now c.args.high.now) visited (omega arith)
     fresh
     ∙ w pages visited (walk pages (c.args.height - 1) false) e)
     c.in-Err.ensures.damaged
 
-pub survey_inner-returns-in-Ok-clause-found : goal.survey_inner-returns-in-Ok-clause-found
-survey_inner-returns-in-Ok-clause-found g t c =
+pub survey_page-returns-in-Ok-clause-found : goal.survey_page-returns-in-Ok-clause-found
+survey_page-returns-in-Ok-clause-found g t c =
     let some = c.requires.height in
+    let more = c.if-height-eq1.false in
     let b = from_to c.args.low.now c.args.high.now in
-    let mid : Surveying = record { used = c.mark.new.bits; checker = c.args.state.now.checker } in
+    let mid : Surveying = record { used = c.list_page.new.bits; checker = c.args.state.now.checker } in
     on_ok_map c.survey_children.result _ _
-    (λ found visited m fresh.
+    (λ found visited m.
+    let fresh = unlisted c.args.state.now.used visited c.args.page _ m c.is_listed.ensures c.if-is_listed.false in
     let a = Added-page (g.S.PageStore.size c.args.store.now) visited c.args.state.now mid (g.S.PageStore.reads c.args.store.now)
     (g.S.PageStore.reads c.read_inner.new.store) c.args.page []
-    c.requires.page.0 c.requires.page.1 m fresh c.mark.ensures
+    c.requires.page.0 c.requires.page.1 m fresh c.list_page.ensures
     (Takes-none c.args.state.now.checker) c.in-Ok.ensures.reads in
     page_found (g.S.PageStore.size c.args.store.now) (g.S.PageStore.told c.args.store.now) c.args.height c.args.is_root c.args.page b visited
     c.args.state.now mid c.survey_children.new.state
@@ -83,16 +87,18 @@ survey_inner-returns-in-Ok-clause-found g t c =
     (found (c.args.page ∷ visited) a.marks))
     c.survey_children.ensures.found
 
-pub survey_inner-returns-in-Ok-clause-damaged : goal.survey_inner-returns-in-Ok-clause-damaged
-survey_inner-returns-in-Ok-clause-damaged g t c =
+pub survey_page-returns-in-Ok-clause-damaged : goal.survey_page-returns-in-Ok-clause-damaged
+survey_page-returns-in-Ok-clause-damaged g t c =
     let some = c.requires.height in
+    let more = c.if-height-eq1.false in
     let b = from_to c.args.low.now c.args.high.now in
-    let mid : Surveying = record { used = c.mark.new.bits; checker = c.args.state.now.checker } in
+    let mid : Surveying = record { used = c.list_page.new.bits; checker = c.args.state.now.checker } in
     damaged_map c.survey_children.result _ _
-    (λ p w pages visited e m fresh.
+    (λ p w pages visited e m.
+    let fresh = unlisted c.args.state.now.used visited c.args.page _ m c.is_listed.ensures c.if-is_listed.false in
     let a = Added-page (g.S.PageStore.size c.args.store.now) visited c.args.state.now mid (g.S.PageStore.reads c.args.store.now)
     (g.S.PageStore.reads c.read_inner.new.store) c.args.page []
-    c.requires.page.0 c.requires.page.1 m fresh c.mark.ensures
+    c.requires.page.0 c.requires.page.1 m fresh c.list_page.ensures
     (Takes-none c.args.state.now.checker) c.in-Ok.ensures.reads in
     walk_inner pages c.args.height c.args.is_root (c.args.page, b) visited (omega arith)
     fresh
@@ -100,26 +106,27 @@ survey_inner-returns-in-Ok-clause-damaged g t c =
     ∙ w pages (c.args.page ∷ visited) (c.in-Ok.ensures.left.told ∙ e) a.marks)
     c.survey_children.ensures.damaged
 
-pub survey_page-returns-then-is_marked-clause-spent : goal.survey_page-returns-then-is_marked-clause-spent
-survey_page-returns-then-is_marked-clause-spent g t c visited m =
+pub survey_page-returns-then-is_listed-clause-spent : goal.survey_page-returns-then-is_listed-clause-spent
+survey_page-returns-then-is_listed-clause-spent g t c visited m =
     record { now = visited; spent = Spent-none (g.S.PageStore.size c.args.store.now) visited (g.S.PageStore.reads c.args.store.now) }
 
-pub survey_inner-returns-in-Err-clause-spent : goal.survey_inner-returns-in-Err-clause-spent
-survey_inner-returns-in-Err-clause-spent g t c visited m fresh = record {
+pub survey_page-returns-in-Err-clause-spent : goal.survey_page-returns-in-Err-clause-spent
+survey_page-returns-in-Err-clause-spent g t c visited m = record {
   now = c.args.page ∷ visited;
   spent = Spent-page (g.S.PageStore.size c.args.store.now) visited (g.S.PageStore.reads c.args.store.now)
       (g.S.PageStore.reads c.read_inner.new.store) c.args.page c.requires.page.0 c.requires.page.1
-      fresh c.in-Err.ensures.reads;
+      (unlisted c.args.state.now.used visited c.args.page _ m c.is_listed.ensures c.if-is_listed.false) c.in-Err.ensures.reads;
 }
 
-pub survey_inner-returns-in-Ok-clause-spent : goal.survey_inner-returns-in-Ok-clause-spent
-survey_inner-returns-in-Ok-clause-spent g t c =
-    let mid : Surveying = record { used = c.mark.new.bits; checker = c.args.state.now.checker } in
+pub survey_page-returns-in-Ok-clause-spent : goal.survey_page-returns-in-Ok-clause-spent
+survey_page-returns-in-Ok-clause-spent g t c =
+    let mid : Surveying = record { used = c.list_page.new.bits; checker = c.args.state.now.checker } in
     on_err_map c.survey_children.result _ _
-    (λ spent visited m fresh.
+    (λ spent visited m.
+    let fresh = unlisted c.args.state.now.used visited c.args.page _ m c.is_listed.ensures c.if-is_listed.false in
     let a = Added-page (g.S.PageStore.size c.args.store.now) visited c.args.state.now mid (g.S.PageStore.reads c.args.store.now)
     (g.S.PageStore.reads c.read_inner.new.store) c.args.page []
-    c.requires.page.0 c.requires.page.1 m fresh c.mark.ensures
+    c.requires.page.0 c.requires.page.1 m fresh c.list_page.ensures
     (Takes-none c.args.state.now.checker) c.in-Ok.ensures.reads in
     SpentSome-then (g.S.PageStore.size c.args.store.now) visited (c.args.page ∷ visited) (g.S.PageStore.reads c.args.store.now)
     (g.S.PageStore.reads c.read_inner.new.store) (g.S.PageStore.reads c.survey_children.new.store)
@@ -134,8 +141,8 @@ survey_children-returns-in-Err-clause-spent g t c visited m =
     (g.S.PageStore.reads c.survey_page.new.store)
     (g.S.PageStore.size c.loop-i.store) inv.left.size h.added.spent (c.in-Err.ensures.spent h.now h.added.marks)
 
-pub survey_inner-returns-in-Ok-clause-left : goal.survey_inner-returns-in-Ok-clause-left
-survey_inner-returns-in-Ok-clause-left g t c =
+pub survey_page-returns-in-Ok-clause-left : goal.survey_page-returns-in-Ok-clause-left
+survey_page-returns-in-Ok-clause-left g t c =
     only_reads_then _ g.met.S.PageStore.goes_on _ _ _ c.in-Ok.ensures.left c.survey_children.ensures.left
 
 pub survey_children-returns-in-Err-clause-left : goal.survey_children-returns-in-Err-clause-left

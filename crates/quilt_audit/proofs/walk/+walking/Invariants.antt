@@ -1,4 +1,4 @@
-use Rattle.std.proofs.Common.{ℕ, ◌+◌, ◌*◌, ◌≤◌, List}
+use Rattle.std.proofs.Common.{ℕ, ◌+◌, ◌*◌, List}
 use Rattle.quilt_store.specs.Calls.{IsOnlyRead}
 use Rattle.quilt_audit.specs.Bits.{Marks}
 use Rattle.quilt_audit.specs.Walking.{Reached}
@@ -6,13 +6,10 @@ use Rattle.quilt_audit.proofs.Walked.{of_all, of_rest}
 use Rattle.quilt_audit.proofs.walk.+walking.Given as goal
 
 abbrev pub decreases-survey_children : goal.decreases-survey_children
-decreases-survey_children g l = 3 * l.height + 2
+decreases-survey_children g l = 2 * l.height + 1
 
 abbrev pub decreases-survey_page : goal.decreases-survey_page
-decreases-survey_page g l = 3 * l.height + 1
-
-abbrev pub decreases-survey_inner : goal.decreases-survey_inner
-decreases-survey_inner g l = 3 * l.height
+decreases-survey_page g l = 2 * l.height
 
 abbrev pub invariant-survey_children-loop-i : goal.invariant-survey_children-loop-i
 invariant-survey_children-loop-i g l = record {

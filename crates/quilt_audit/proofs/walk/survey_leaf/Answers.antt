@@ -7,13 +7,13 @@ use Rattle.quilt_audit.proofs.walk.survey_leaf.Goals as goal
 
 pub returns-in-Ok-clause-found : goal.returns-in-Ok-clause-found
 returns-in-Ok-clause-found g c visited m fresh =
-    let new : Surveying = record { used = c.mark.new.bits; checker = c.feed.new.checker } in
+    let new : Surveying = record { used = c.list_page.new.bits; checker = c.feed.new.checker } in
     record {
       rs = page_records c.read_leaf.new.bytes;
       now = c.args.page ∷ visited;
       added = Added-page (g.S.PageStore.size c.args.store.now) visited c.args.state.now new (g.S.PageStore.reads c.args.store.now)
           (g.S.PageStore.reads c.read_leaf.new.store) c.args.page (page_records c.read_leaf.new.bytes)
-          c.requires.page.0 c.requires.page.1 m fresh c.mark.ensures c.in-Ok.ensures c.in_ok-read_leaf.ensures.reads;
+          c.requires.page.0 c.requires.page.1 m fresh c.list_page.ensures c.in-Ok.ensures c.in_ok-read_leaf.ensures.reads;
       walks =
           λ pages e. walk_leaf pages c.args.is_root (c.args.page, from_to c.args.low.now c.args.high.now) visited fresh ∙ c.in_ok-read_leaf.ensures.leaf pages visited e;
     }

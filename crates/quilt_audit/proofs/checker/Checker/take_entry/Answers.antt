@@ -2,8 +2,9 @@ use Rattle.std.proofs.Common.{◌≡◌, ◌++◌, ◌∷◌, [], List, length, 
 use Rattle.quilt_record.specs.declared.entry.Entry.{Entry}
 use Rattle.quilt_spell.proofs.Spelling.{all_from}
 use Rattle.quilt_audit.specs.Checking.{IsSoFar}
-use Rattle.quilt_audit.proofs.Steps.{length_with, IsSoFar-entry}
+use Rattle.quilt_audit.proofs.Steps.{IsSoFar-entry}
 use Rattle.quilt_audit.proofs.Taking.{entry_no, entry_read, entry_same, may_from}
+use Rattle.quilt_record.proofs.Entries.{length_with}
 use Rattle.quilt_audit.proofs.checker.Checker.take_entry.Goals as goal
 
 pub returns-in_default-clause-no : goal.returns-in_default-clause-no

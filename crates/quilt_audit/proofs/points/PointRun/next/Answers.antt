@@ -1,8 +1,9 @@
 use Rattle.std.proofs.Common.{ℕ, sym, ◌∙◌, subst, arith}
 use Rattle.quilt_loc.proofs.Blocks.{IsBlock-up}
 use Rattle.quilt_audit.specs.Points.{IsBlockBegun}
-use Rattle.quilt_audit.proofs.runs.PointRuns.{some_map, none_map, outside_refused, more_refused, code_refused, enough_refused, more_taken, opened_taken}
+use Rattle.quilt_audit.proofs.runs.PointRuns.{outside_refused, more_refused, code_refused, enough_refused, more_taken, opened_taken}
 use Rattle.quilt_audit.proofs.points.PointRun.next.Goals.{then-code-self-via-then-code-self, then-code-self-via-else-code-self+then-from-self}
+use Rattle.quilt_line_audit.proofs.Descents.{some_map, none_map}
 use Rattle.quilt_audit.proofs.points.PointRun.next.Goals as goal
 
 pub is_in-requires : goal.is_in-requires
@@ -16,7 +17,7 @@ returns-then-not-is_in-clause-none c form layer rs some h =
 
 pub returns-then-is_same-clause-some : goal.returns-then-is_same-clause-some
 returns-then-is_same-clause-some c =
-    some_map c.more.result _ _
+    some_map c.more.result
     (λ next m form layer rs some h.
     more_taken form c.args.level c.requires.level.0 c.requires.level.1 c.args.self.now layer some rs h c.args.block c.requires.block c.args.held c.requires.fits
     (c.is_in.ensures.yes c.if-not-is_in.false) (c.is_same.ensures.yes c.if-is_same.true) next m.0 m.1 m.2 m.3)
@@ -24,7 +25,7 @@ returns-then-is_same-clause-some c =
 
 pub returns-then-is_same-clause-none : goal.returns-then-is_same-clause-none
 returns-then-is_same-clause-none c =
-    none_map c.more.result _ _
+    none_map c.more.result
     (λ m form layer rs some h.
     more_refused form c.args.level c.requires.level.0 c.requires.level.1 c.args.self.now layer some rs h c.args.block c.requires.block
     c.args.held c.requires.fits
