@@ -6,7 +6,7 @@ use Rattle.quilt_types.specs.declared.code.Code.{Code}
 use Rattle.quilt_types.specs.declared.code.Code.TheVariants as codes_of
 use Rattle.quilt_words.specs.declared.command.Command.{Command}
 use Rattle.quilt_words.specs.Items.{asked, held, is_long, is_plain, is_silent, words_of}
-use Rattle.quilt_words.specs.Fitting.{IsFitting}
+use Rattle.quilt_words.specs.Table.{IsFitting}
 use Rattle.quilt_words.specs.Forms.{form, form_of_line, form_of_words, Spelled}
 use Rattle.quilt_words.specs.Made.{further_of, nothing_further}
 use Rattle.quilt_words.proofs.SpelledLaws.{spelled_fits}

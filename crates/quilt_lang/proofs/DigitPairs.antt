@@ -7,7 +7,7 @@ use Rattle.quilt_words.specs.Items.{colour_bytes}
 use Rattle.quilt_words.specs.Spelling.{hex_digit, row}
 use Rattle.quilt_lang.specs.Spelled.{with_byte}
 use Rattle.quilt_lang.proofs.Digits.{two_digits, no_digits}
-use Rattle.quilt_lang.proofs.Joins.{BytesSoFar, WideSoFar, bytes_none, bytes_more, bytes_at, wide_none, wide_more, wide_at}
+use Rattle.quilt_lang.proofs.Joins.{BytesSoFar, WideSoFar, bytes_none, bytes_more, bytes_at, wide_more, wide_at}
 
 -- so far these bytes were read, or one that is no digit
 pub record PairsSoFar (line : List ℕ) (i most : ℕ) (bytes : List ℕ) : Type 0 where
@@ -63,9 +63,9 @@ pub record WidePairsSoFar (line : List ℕ) (i most : ℕ) (bytes : List ℕ) : 
   pub digits : most ≤ 15 → WideSoFar line i (take i bytes)
   pub others : 15 < most → option_map (colour_bytes 1) (row line) ≡ None
 
-pub wide_pairs_first : (line bytes : List ℕ) → WidePairsSoFar line 0 0 bytes
-wide_pairs_first line bytes = record {
-  digits = λ low. wide_none line;
+pub wide_pairs_first : (line : List ℕ) (i : ℕ) (bytes : List ℕ) → WideSoFar line i (take i bytes) → WidePairsSoFar line i 0 bytes
+wide_pairs_first line i bytes so = record {
+  digits = λ low. so;
   others = λ high. absurd (omega (arith, high));
 }
 

@@ -13,5 +13,6 @@ pub mod Long
 pub mod Pieces
 pub mod ShortLines
 pub mod Shortened
+pub mod Sixteens
 pub mod Takes
 pub mod Unfinished

@@ -1,7 +1,7 @@
 ghost use Rattle.std.specs.Prelude.{◌≡◌, ◌≤◌, ◌+◌, ℕ, List, false, [], ◌∷◌, ◌++◌, drop, take, length, vec_len, OnOk, OnErr, IfOk, IfSome, MatchOption};
 ghost use Rattle.quilt_words.specs.Items.{whole_items};
 ghost use Rattle.quilt_words.specs.Forms.{Spelled};
-ghost use Rattle.quilt_words.specs.Fitting.{IsFitting};
+ghost use Rattle.quilt_words.specs.Table.{IsFitting};
 ghost use Rattle.quilt_lang.specs.Reading.{Gives, GivesCommand, GivesItem, HasNone, kept_limit};
 ghost use Rattle.quilt_lang.specs.Progress.{told_len};
 ghost use Rattle.quilt_lang.specs.Shortening.{IsTextPart, KeepsShort, bounds_of};

@@ -1,14 +1,17 @@
 //! What the further lines of an item spell: rows, list lines and ring lines.
-ghost use Rattle.std.specs.Prelude.{◌≡◌, List, ◌≤◌, ◌+◌, ◌%◌, ◌*◌, ◌==◌, ℕ, [], ◌∷◌, ◌++◌, map, flat_map, length, nat_le, Some, None, option_map, unwrap_or};
-ghost use Rattle.std.specs.Prelude.{if◌then◌else◌, IfOk, codes};
+ghost use Rattle.std.specs.Prelude.{◌≡◌, List, ◌≤◌, ◌<◌, ◌+◌, ◌%◌, ◌*◌, ◌==◌, ℕ, [], ◌∷◌, ◌++◌, map, flat_map, length, take, nat_le, Some, None, option_map, unwrap_or};
+ghost use Rattle.std.specs.Prelude.{if◌then◌else◌, ◌≢◌, true, false, IfOk, IfSome, MatchOption, codes};
+ghost use Rattle.std.specs.Simd.Lanes.{Each1, mask_l};
 ghost use Rattle.std.specs.Str.{bytes_eq};
 ghost use Rattle.quilt_words.specs.Items.{listed_by, colour_bytes, corner_of, corners_of, point, point_of, points_joined, ring_of, rings_joined, rows_joined};
 ghost use Rattle.quilt_words.specs.Items.{words_of};
 ghost use Rattle.quilt_words.specs.Spelling.{number, row, hex_digit};
+ghost use Rattle.quilt_lang.specs.Spelled.{IsWideUpTo, wide_pairs};
 
 use quilt_types::{Corner, Pixel, Point, PointList, RingList, Text};
 use quilt_words::{LINE_LIMIT, few_words, line_words, number_of, push_ring};
 use std::alloc::{AllocError, Global};
+use std::simd::prelude::*;
 
 /// How many list lines or ring lines the words ask for.
 pub fn listed(words: &[&[u8]]) -> u32
@@ -76,8 +79,41 @@ fn read_wide_pairs(line: &[u8], bytes: &mut [u8]) -> bool
     requires even { length line.now % 2 ≡ 0 }
     ensures { (if result then Some bytes.new else None) ≡ option_map (colour_bytes 1) (row line.now) }
 {
-    let mut most = 0_u8;
+    match read_sixteens(line, bytes) {
+        Some(from) => read_wide_rest(line, bytes, from),
+        None => false,
+    }
+}
+
+/// The same of sixteen digits at a time, as far as there are as many, and how many digits these are; none where one is no digit.
+fn read_sixteens(line: &[u8], bytes: &mut [u8]) -> Option<usize>
+    requires { length line.now ≡ length bytes.old }
+    ensures same { length bytes.new ≡ length bytes.old }
+    ensures read { MatchOption result (option_map (colour_bytes 1) (row line.now) ≡ None) (λ i. IsWideUpTo line.now i (take i bytes.new)) }
+    ensures within { IfSome result (λ i. i ≤ length line.now) }
+    ensures even { IfSome result (λ i. i % 2 ≡ 0) }
+{
     let mut i = 0;
+    while i + 16 <= line.len() {
+        let Some(part) = wide_sixteen(u8x16::from_slice(&line[i..])) else {
+            return None;
+        };
+        u8x16::from_array(part).copy_to_slice(&mut bytes[i..]);
+        i += 16;
+    }
+    Some(i)
+}
+
+/// The same of the digits behind these.
+fn read_wide_rest(line: &[u8], bytes: &mut [u8], from: usize) -> bool
+    requires same { length line.now ≡ length bytes.old }
+    requires even { length line.now % 2 ≡ 0 }
+    requires before { from % 2 ≡ 0 }
+    requires read { IsWideUpTo line.now from (take from bytes.old) }
+    ensures { (if result then Some bytes.new else None) ≡ option_map (colour_bytes 1) (row line.now) }
+{
+    let mut most = 0_u8;
+    let mut i = from;
     while i < bytes.len() {
         let high = digit_value(line[i]);
         let low = digit_value(line[i + 1]);
@@ -89,18 +125,41 @@ fn read_wide_pairs(line: &[u8], bytes: &mut [u8]) -> bool
     most <= 15
 }
 
-/// The bytes that pairs of hexadecimal digits spell, or none.
-fn row_bytes(alloc: Global, line: &[u8]) -> Result<Option<Vec<u8>>, AllocError>
-    ensures { IfOk result (λ bytes. option_map (λ v. v.items) bytes ≡ row line.now) }
+/// The bytes that sixteen digits spell, each behind a byte of 0, or none where one is no digit.
+fn wide_sixteen(digits: u8x16) -> Option<[u8; 16]>
+    ensures is { result ≡ option_map (colour_bytes 1) (row digits) }
+    ensures long { IfSome result (λ part. length part ≡ 16) }
 {
-    if line.len() % 2 != 0 {
-        return Ok(None);
+    let values = digit_values(digits);
+    if has_other(values) {
+        return None;
     }
-    let mut bytes = vec![in alloc; 0; line.len() / 2]?;
-    if !read_pairs(line, &mut bytes) {
-        return Ok(None);
-    }
-    Ok(Some(bytes))
+    Some(paired(values).to_array())
+}
+
+/// Whether one of the values is that of a byte that is no digit.
+fn has_other(values: u8x16) -> bool
+    ensures yes { result ≡ true → mask_l (map (λ v. v == 16) values) ≢ 0 }
+    ensures no { result ≡ false → mask_l (map (λ v. v == 16) values) ≡ 0 }
+{
+    values.simd_eq(u8x16::splat(16)).to_bitmask() != 0
+}
+
+/// The values of sixteen digits, as `digit_value` tells them. A byte that is none of `0` to `9` stands behind 15 from there.
+fn digit_values(digits: u8x16) -> u8x16
+    ensures { result ≡ map (λ c. unwrap_or (hex_digit c) 16) digits }
+{
+    let digit = (digits + u8x16::splat(198)).simd_max(u8x16::splat(6)) + u8x16::splat(10);
+    let letter = (digits - u8x16::splat(b'a')).simd_min(digits - u8x16::splat(b'A'));
+    digit.simd_min(letter.simd_min(u8x16::splat(6)) + u8x16::splat(10))
+}
+
+/// The bytes that each two digits of these values spell, behind a byte of 0. Two values are a number with the second in its high byte.
+fn paired(values: u8x16) -> u8x16
+    ensures { Each1 (λ v. v < 16) values → result ≡ wide_pairs values }
+{
+    let pairs = u16x8::from_le_bytes(values);
+    ((pairs << 12) + ((pairs >> 8) << 8)).to_le_bytes()
 }
 
 /// The most bytes that a list line may have.
@@ -148,7 +207,7 @@ pub fn list_points(alloc: Global, lines: &[&[u8]]) -> Result<Option<PointList>, 
 }
 
 /// The colours that all rows of a raster spell, two bytes each with the high one first, or none where a row is not well formed:
-/// in format 1 two digits a colour, and in format 2 four.
+/// in format 1 two digits a colour, and in format 2 four. The rows are read one after another into the same bytes.
 pub fn raster_rows(
     alloc: Global,
     format: u8,
@@ -158,47 +217,58 @@ pub fn raster_rows(
     ensures { IfOk result (λ rows. rows ≡ rows_joined format width (map (λ w. w.now) lines.now)) }
 {
     let mut rows = Text::new(alloc);
+    let mut bytes = Vec::new(alloc);
     for line in lines {
-        let Some(bytes) = row_colours(alloc, format, width, line)? else {
+        let is_row = row_colours(format, width, line, &mut bytes)?;
+        if !is_row {
             return Ok(None);
-        };
+        }
         rows.push(&bytes)?;
     }
     Ok(Some(rows))
 }
 
-/// The colours that one row spells.
+/// Puts the colours that one row spells in the place of some bytes. Says whether it is well formed; else the bytes are only given up.
 fn row_colours(
-    alloc: Global,
     format: u8,
     width: usize,
     line: &[u8],
-) -> Result<Option<Vec<u8>>, AllocError>
-    ensures { IfOk result (λ bytes. option_map (λ v. v.items) bytes ≡
+    bytes: &mut Vec<u8>,
+) -> Result<bool, AllocError>
+    ensures { IfOk result (λ is_row. (if is_row then Some bytes.new.items else None) ≡
         (if length line.now == 2 * format * width then option_map (colour_bytes format) (row line.now) else None)) }
 {
     if line.len() as u128 != 2 * u128::from(format) * width as u128 {
-        return Ok(None);
+        return Ok(false);
     }
     if format == 1 {
-        wide_bytes(alloc, line)
+        wide_bytes(line, bytes)
     } else {
-        row_bytes(alloc, line)
+        row_bytes(line, bytes)
     }
 }
 
-/// The bytes that pairs of hexadecimal digits spell, each behind a byte of 0, or none.
-fn wide_bytes(alloc: Global, line: &[u8]) -> Result<Option<Vec<u8>>, AllocError>
-    ensures { IfOk result (λ bytes. option_map (λ v. v.items) bytes ≡ option_map (colour_bytes 1) (row line.now)) }
+/// Puts the bytes that pairs of hexadecimal digits spell in the place of some bytes. Says whether they are such; else the bytes are
+/// only given up.
+fn row_bytes(line: &[u8], bytes: &mut Vec<u8>) -> Result<bool, AllocError>
+    ensures { IfOk result (λ is_row. (if is_row then Some bytes.new.items else None) ≡ row line.now) }
 {
     if line.len() % 2 != 0 {
-        return Ok(None);
+        return Ok(false);
     }
-    let mut bytes = vec![in alloc; 0; line.len()]?;
-    if !read_wide_pairs(line, &mut bytes) {
-        return Ok(None);
+    bytes.resize(line.len() / 2, 0)?;
+    Ok(read_pairs(line, bytes))
+}
+
+/// The same, each behind a byte of 0.
+fn wide_bytes(line: &[u8], bytes: &mut Vec<u8>) -> Result<bool, AllocError>
+    ensures { IfOk result (λ is_row. (if is_row then Some bytes.new.items else None) ≡ option_map (colour_bytes 1) (row line.now)) }
+{
+    if line.len() % 2 != 0 {
+        return Ok(false);
     }
-    Ok(Some(bytes))
+    bytes.resize(line.len(), 0)?;
+    Ok(read_wide_pairs(line, bytes))
 }
 
 /// The rings that all ring lines spell, or none where one is not well formed.

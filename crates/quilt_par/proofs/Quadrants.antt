@@ -9,7 +9,7 @@ use Rattle.quilt_types.specs.Plane.{side, corner, whole, quarters_of, IsBlock}
 use Rattle.quilt_types.specs.Layers.{Grid, colour_at}
 use Rattle.quilt_loc.specs.Codes.{code_from, code_to}
 use Rattle.quilt_loc.proofs.Blocks.{side_most}
-use Rattle.quilt_loc.proofs.Quartered.{IsQuarter, IsBlock-whole, quarters_are}
+use Rattle.quilt_loc.proofs.Quartered.{IsQuarter, IsBlock-whole, quarters_are, wide_side}
 use Rattle.quilt_loc.proofs.Intervals.{origin_code, half_codes, held_code}
 use Rattle.quilt_blocks.specs.Raster.{Raster}
 use Rattle.quilt_blocks.specs.Adding.{AddsColours}
@@ -22,10 +22,6 @@ use Rattle.quilt_par.specs.declared.part.Part.{Part}
 use Rattle.quilt_par.specs.declared.part.Part.TheVariants.{Single, Leaves}
 use Rattle.quilt_par.specs.Parts.{width_of, moved_colour, quadrant_at, part_in, ShowsBlock, ShowAll}
 
-pub wide_square : (n : ℕ) → 1 ≤ n → 1 < side n
-wide_square zero h = absurd (omega arith)
-wide_square (suc k) h = let p = pow-suc 2 k in let q = pow_pos k in omega arith
-
 abbrev nowhere : Block
 nowhere = record { x = 0; y = 0; side = 0 }
 
@@ -33,7 +29,7 @@ pub quadrant_is : (n i : ℕ) → 1 ≤ n → i < 4 → IsQuarter n (whole n) (q
 quadrant_is n i some lt =
     let qs = quarters_of (whole n) in
     let q = quadrant_at n i in
-    quarters_are n (whole n) q (IsBlock-whole n) (wide_square n some) (i, lt, get_or_default qs i q nowhere lt)
+    quarters_are n (whole n) q (IsBlock-whole n) (wide_side n some) (i, lt, get_or_default qs i q nowhere lt)
 
 -- where its codes begin and end
 pub record HasCodes (n i : ℕ) (q : Block) : Type 0 where
@@ -42,7 +38,7 @@ pub record HasCodes (n i : ℕ) (q : Block) : Type 0 where
 
 pub quadrant_codes : (n i : ℕ) → 1 ≤ n → n ≤ 12 → i < 4 → HasCodes n i (quadrant_at n i)
 quadrant_codes n i some most lt =
-    let p = part_at n (whole n) (quarters_of (whole n)) i nowhere most (IsBlock-whole n) (wide_square n some) (λ k. quarters_of (whole n)) lt in
+    let p = part_at n (whole n) (quarters_of (whole n)) i nowhere most (IsBlock-whole n) (wide_side n some) (λ k. quarters_of (whole n)) lt in
     let z = origin_code in
     let f = p.from in
     let t = p.to in
@@ -50,7 +46,7 @@ quadrant_codes n i some most lt =
 
 pub four_squares : (n : ℕ) → 1 ≤ n → n ≤ 12 → 4 * (side n / 2 * (side n / 2)) ≡ 4 ^ n
 four_squares n some most =
-    let c = half_codes n (whole n) (IsBlock-whole n) most (wide_square n some) in
+    let c = half_codes n (whole n) (IsBlock-whole n) most (wide_side n some) in
     let all = c.all in
     let z = origin_code in
     let w = code_to-whole n in

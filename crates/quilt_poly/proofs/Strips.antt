@@ -7,6 +7,7 @@ use Rattle.std.proofs.lemmas.Nat.Bits.{bit_at-zero}
 use Rattle.std.proofs.Math.Nat.{mul-le-mul_right}
 use Rattle.quilt_poly.specs.Bits.{strips, bit_in, sum_from, next_bit, ones_right, HasParities}
 use Rattle.quilt_poly.proofs.Sums.{sum_from-add, sum_from-odd, sum_from-even}
+use Rattle.quilt_types.proofs.Lists.{zeros_read}
 
 -- a bit whose word is kept
 pub bit_in-kept : (old new : List ℕ) (s y x : ℕ) → get_or new (x / 64 * s + y) 0 ≡ get_or old (x / 64 * s + y) 0 → bit_in new s y x ≡ bit_in old s y x
@@ -111,14 +112,10 @@ AreDone-first s strip words past = record { done = λ y x hy low high. absurd (o
 pub AreDone-all : (s : ℕ) (first now : List ℕ) → AreDone s 0 first now → HasParities s (λ p. ones_right first s p.y p.x) now
 AreDone-all s first now h = record { each = λ p px py. h.done p.y p.x py (omega arith) (omega arith) }
 
-zeros : (n k : ℕ) → get_or (replicate {A = ℕ} n 0) k 0 ≡ 0
-zeros n k =
-    ⊎_elim (get_or-replicate n k 0 0) (λ le. get_or_past (replicate {A = ℕ} n 0) k 0 (let l : length (replicate {A = ℕ} n 0) ≡ n = length-replicate n 0 in omega arith)) (cases_lt k n)
-
 -- no ones where all words are 0
 pub ones_right-none : (n s y x : ℕ) → ones_right (replicate {A = ℕ} n 0) s y x ≡ 0
 unfolding ones_right bit_in
 ones_right-none n s y x = sum_from-even (bit_in (replicate {A = ℕ} n 0) s y) x (64 * strips s - x) (λ a low high. none (a / 64 * s + y) (a % 64))
   where
     none : (k b : ℕ) → bit_at (get_or (replicate {A = ℕ} n 0) k 0) b ≡ 0
-    none k b = ap (λ w. bit_at w b) (zeros n k) ∙ bit_at-zero b
+    none k b = ap (λ w. bit_at w b) (zeros_read n k) ∙ bit_at-zero b

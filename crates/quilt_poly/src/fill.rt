@@ -5,7 +5,6 @@ ghost use Rattle.quilt_types.specs.Polygons.{filled_rings};
 ghost use Rattle.quilt_loc.specs.Codes.{code_from, code_to};
 ghost use Rattle.quilt_blocks.specs.Adding.{AddsColours};
 ghost use Rattle.quilt_blocks.specs.Cutting.{leaves_by_code};
-ghost use Rattle.quilt_tally.specs.Tallies.{HasLeaves, IsTally};
 ghost use Rattle.quilt_poly.specs.Edges.{crosses};
 ghost use Rattle.quilt_poly.specs.Bits.{strips, colour_in, HasParities};
 
@@ -14,7 +13,7 @@ use crate::edges::{RingEdge, edges_of};
 use crate::outline::mark_inside;
 use quilt_blocks::{LeafList, Maker};
 use quilt_loc::{quarters, whole_square};
-use quilt_tally::{Tally, is_few, joined};
+use quilt_tally::Pixels;
 use quilt_types::{Block, Colour, RingList};
 use std::alloc::{AllocError, Global};
 
@@ -127,33 +126,29 @@ fn fill(
     Ok(())
 }
 
+/// The colour of the pixels whose bits are 1, and the background elsewhere.
+#[derive(Drop)]
+struct Inside<'a> {
+    words: &'a [u64],
+    colour: Colour,
+}
+
+impl Pixels for Inside<'_> {
+    ghost grid = { λ inside level. grid_of level (colour_in inside.words.now (side_of level) inside.colour.0) };
+
+    ghost is_whole = { λ inside level. length inside.words.now ≡ strips (side_of level) * side_of level };
+
+    fn one_colour(&self, level: u8, square: Block) -> Option<Colour> {
+        let inside = one_bit(self.words, side_at(level), square)?;
+        Some(colour_of(inside, self.colour))
+    }
+}
+
 /// Whether a square of bits has at most so many leaves.
 fn has_few_leaves(words: &[u64], level: u8, c: Colour, most: u32) -> bool
     requires high { level ≤ 12 }
     requires room { length words.now ≡ strips (side_of level) * side_of level }
     ensures { IsTrue result ↔ (length (leaves_by_code level (grid_of level (colour_in words.now (side_of level) c.0))) ≤ most) }
 {
-    match tally(words, level, c, whole_square(level), most) {
-        Some(t) => is_few(t, most),
-        None => false,
-    }
-}
-
-/// What is known of a block's leaves, or None where there are more than so many. It ends at the first part that has more.
-fn tally(words: &[u64], level: u8, c: Colour, square: Block, most: u32) -> Option<Tally>
-    requires high { level ≤ 12 }
-    requires room { length words.now ≡ strips (side_of level) * side_of level }
-    requires valid { IsBlock level square }
-    ensures some { IfSome result (IsTally level (grid_of level (colour_in words.now (side_of level) c.0)) square) }
-    ensures none { IsNone result → (k : ℕ) → HasLeaves level (grid_of level (colour_in words.now (side_of level) c.0)) square k → most < k }
-{
-    if let Some(inside) = one_bit(words, side_at(level), square) {
-        return Some(Tally::One(colour_of(inside, c)));
-    }
-    let four = quarters(square);
-    let mut tallies = [Tally::Many(0); 4];
-    for place in 0..4_usize {
-        tallies[place] = tally(words, level, c, four[place], most)?;
-    }
-    joined(tallies[0], tallies[1], tallies[2], tallies[3], most)
+    quilt_tally::has_few_leaves(&Inside { words, colour: c }, level, most)
 }

@@ -7,37 +7,17 @@ use Rattle.std.proofs.lemmas.Bool.Decides.{nat_tests}
 use Rattle.std.specs.Ordering.{is_lt, ordering_reverse}
 use Rattle.std.specs.Cmp.Lexicographic.{nat_list_cmp_total}
 use Rattle.std.specs.FinMap.{slice_cmp-IsAntisymmetric, nat_cmp-IsAntisymmetric}
-use Rattle.std.proofs.lemmas.Bool.{ltb-false}
+use Rattle.std.proofs.lemmas.Bool.{ltb-false, and_parts, and_from}
 use Rattle.quilt_record.specs.declared.entry.Entry.{Entry}
 use Rattle.quilt_record.specs.Catalogs.{NamesAscend, IsCatalog, name_cmp, with_entry}
-
-and_parts : (a b : Bool) → a && b ≡ true → (a ≡ true) × (b ≡ true)
-and_parts true b h = (refl, h)
-and_parts false b h = cc
-
-and_both : (a b : Bool) → a ≡ true → b ≡ true → a && b ≡ true
-and_both true b h g = g
-and_both false b h g = cc
-
-all_follow : {X : Type 0} (p q : X → Bool) → ((x : X) → p x ≡ true → q x ≡ true) → (xs : List X) → list_all p xs ≡ true → list_all q xs ≡ true
-all_follow p q f [] h = refl
-all_follow p q f (x ∷ xs) h = let t = and_parts (p x) (list_all p xs) h in and_both (q x) (list_all q xs) (f x t.0) (all_follow p q f xs t.1)
-
-all_take : {X : Type 0} (p : X → Bool) (xs : List X) (i : ℕ) → list_all p xs ≡ true → list_all p (take i xs) ≡ true
-all_take p xs zero h = refl
-all_take p [] (suc i) h = refl
-all_take p (x ∷ xs) (suc i) h = let t = and_parts (p x) (list_all p xs) h in and_both (p x) (list_all p (take i xs)) t.0 (all_take p xs i t.1)
+use Rattle.quilt_types.proofs.Lists.{all_follow}
+use Rattle.quilt_record.proofs.Orders.{is_Less}
 
 all_remove : {X : Type 0} (p : X → Bool) (xs : List X) (i : ℕ) → list_all p xs ≡ true → list_all p (remove xs i) ≡ true
 all_remove p [] zero h = refl
 all_remove p [] (suc i) h = refl
 all_remove p (x ∷ xs) zero h = (and_parts (p x) (list_all p xs) h).1
-all_remove p (x ∷ xs) (suc i) h = let t = and_parts (p x) (list_all p xs) h in and_both (p x) (list_all p (remove xs i)) t.0 (all_remove p xs i t.1)
-
-is_Less : (o : Ordering) → is_lt o ≡ true → o ≡ Less
-is_Less Less h = refl
-is_Less Equal h = cc
-is_Less Greater h = cc
+all_remove p (x ∷ xs) (suc i) h = let t = and_parts (p x) (list_all p xs) h in and_from (p x) (list_all p (remove xs i)) t.0 (all_remove p xs i t.1)
 
 lt_lt : (s t u : List ℕ) → is_lt (name_cmp s t) ≡ true → is_lt (name_cmp t u) ≡ true → is_lt (name_cmp s u) ≡ true
 lt_lt s t u h g = ap is_lt (nat_list_cmp_total.trans s t u (is_Less (name_cmp s t) h) (is_Less (name_cmp t u) g))
@@ -62,12 +42,12 @@ placed e (f ∷ es) = by_case (is_lt (name_cmp e.name f.name)) (placed e es)
     by_case false h = ap (λ m. insert (f ∷ es) m e) (one-add (position_or_len (λ g. is_lt (name_cmp e.name g.name)) es)) ∙ ap (λ l. f ∷ l) h
 
 all_with : (p : Entry → Bool) (e : Entry) (es : List Entry) → p e ≡ true → list_all p es ≡ true → list_all p (with_entry e es) ≡ true
-all_with p e [] h g = and_both (p e) true h refl
+all_with p e [] h g = and_from (p e) true h refl
 all_with p e (f ∷ es) h g = by_case (is_lt (name_cmp e.name f.name)) (all_with p e es h (and_parts (p f) (list_all p es) g).1)
   where
     by_case : (b : Bool) → list_all p (with_entry e es) ≡ true → list_all p (if b then e ∷ f ∷ es else f ∷ with_entry e es) ≡ true
-    by_case true k = and_both (p e) (list_all p (f ∷ es)) h g
-    by_case false k = and_both (p f) (list_all p (with_entry e es)) (and_parts (p f) (list_all p es) g).0 k
+    by_case true k = and_from (p e) (list_all p (f ∷ es)) h g
+    by_case false k = and_from (p f) (list_all p (with_entry e es)) (and_parts (p f) (list_all p es) g).0 k
 
 order_with : (e : Entry) (es : List Entry) → NamesAscend es → All (λ f. f.name ≢ e.name) es → NamesAscend (with_entry e es)
 order_with e [] o d = (refl, tt)
@@ -75,13 +55,13 @@ order_with e (f ∷ es) o d = by_case (is_lt (name_cmp e.name f.name)) refl (ord
   where
     by_case : (b : Bool) → is_lt (name_cmp e.name f.name) ≡ b → NamesAscend (with_entry e es) → NamesAscend (if b then e ∷ f ∷ es else f ∷ with_entry e es)
     by_case true h k = (
-      and_both (is_lt (name_cmp e.name f.name)) (list_all (λ g. is_lt (name_cmp e.name g.name)) es) h
+      and_from (is_lt (name_cmp e.name f.name)) (list_all (λ g. is_lt (name_cmp e.name g.name)) es) h
           (all_follow (λ g. is_lt (name_cmp f.name g.name)) (λ g. is_lt (name_cmp e.name g.name)) (λ g t. lt_lt e.name f.name g.name h t) es o.0),
       o,
     )
     by_case false h k = (all_with (λ g. is_lt (name_cmp f.name g.name)) e es (other_way e.name f.name (d 0 f (omega arith)) h) o.0, k)
 
-length_with : (e : Entry) (es : List Entry) → length (with_entry e es) ≡ suc (length es)
+pub length_with : (e : Entry) (es : List Entry) → length (with_entry e es) ≡ suc (length es)
 length_with e [] = refl
 length_with e (f ∷ es) = by_case (is_lt (name_cmp e.name f.name)) (length_with e es)
   where

@@ -10,25 +10,13 @@ use Rattle.std.proofs.lemmas.Bool.Decides.{nat_tests}
 use Rattle.quilt_types.specs.Layers.{is_name, is_name_byte, is_letter}
 use Rattle.std.proofs.lemmas.List.{get_or-append-add}
 use Rattle.std.specs.Prelude.{unwrap_or}
-use Rattle.std.proofs.lemmas.Bool.{leb-true}
+use Rattle.std.proofs.lemmas.Bool.{leb-true, and_parts, or_cases}
 use Rattle.quilt_types.specs.declared.plane.Kind.{Kind}
 use Rattle.quilt_record.specs.declared.entry.Entry.{Entry}
 use Rattle.quilt_record.specs.declared.record.Record.{Record}
 use Rattle.quilt_record.specs.Listing.{IsEntryOf, number_of_kind, number_beside, fact_of_kind}
 use Rattle.quilt_types.specs.Bytes.{filled}
 use Rattle.quilt_record.specs.Records.{kind_number, record_of}
-
-and_parts : (a b : Bool) → a && b ≡ true → (a ≡ true) × (b ≡ true)
-and_parts true b h = (refl, h)
-and_parts false b h = cc
-
-and_both : (a b : Bool) → a ≡ true → b ≡ true → a && b ≡ true
-and_both true b h g = g
-and_both false b h g = cc
-
-or_parts : (a b : Bool) → a || b ≡ true → (a ≡ true) ⊎ (b ≡ true)
-or_parts true b h = inl refl
-or_parts false b h = inr h
 
 -- a byte of a name is no zero, and below 128
 pub record IsPlain (c : ℕ) : Type 0 where
@@ -51,8 +39,8 @@ digit_plain c h =
 
 byte_plain : (c : ℕ) → is_name_byte c ≡ true → IsPlain c
 byte_plain c h =
-    elim (or_parts (is_letter c || (nat_le 48 c && nat_le c 57)) (c == 95) h) [
-      | inl r ↦ elim (or_parts (is_letter c) (nat_le 48 c && nat_le c 57) r) [ inl l ↦ letter_plain c l | inr d ↦ digit_plain c d ]
+    elim (or_cases (is_letter c || (nat_le 48 c && nat_le c 57)) (c == 95) h) [
+      | inl r ↦ elim (or_cases (is_letter c) (nat_le 48 c && nat_le c 57) r) [ inl l ↦ letter_plain c l | inr d ↦ digit_plain c d ]
       | inr e ↦ let same : c ≡ 95 = eqb-true c 95 e in record { some = omega (arith, same); most = omega (arith, same) }
     ]
 

@@ -18,6 +18,11 @@ is_Less Less h = refl
 is_Less Equal h = cc
 is_Less Greater h = cc
 
+pub is_Equal : (o : Ordering) → is_eq o ≡ true → o ≡ Equal
+is_Equal Less h = cc
+is_Equal Equal h = refl
+is_Equal Greater h = cc
+
 -- below, and then at most
 pub lt_le_step : (a b c : Key) (o : Ordering) → o ≡ key_cmp b c → key_cmp a b ≡ Less → is_le o ≡ true → key_cmp a c ≡ Less
 lt_le_step a b c Less e h g = key_total.trans a b c h (sym e)

@@ -14,14 +14,9 @@ use Rattle.quilt_record.specs.Lists.{has_key, put, without}
 use Rattle.quilt_spell.specs.Applying.{taken, given}
 use Rattle.quilt_loc.proofs.Members.{Contains-nil, Contains-here, Contains-there, Contains-cons_cases, Contains-filter, Contains-filter_from}
 use Rattle.quilt_loc.proofs.Rising.{Rises-filter}
-use Rattle.quilt_record.proofs.Orders.{key_total}
+use Rattle.quilt_record.proofs.Orders.{key_total, is_Equal, is_Less}
 use Rattle.quilt_spell.proofs.Changes.{not_true, not_from}
 use Rattle.quilt_spell.proofs.Written.{key_same}
-
-tied : (o : Ordering) → is_eq o ≡ true → o ≡ Equal
-tied Less p = cc
-tied Equal p = refl
-tied Greater p = cc
 
 rank : Ordering → ℕ
 rank Less = 0
@@ -56,7 +51,7 @@ module _ (rs : List Record) (up : Rises by_key rs) where
         let w = Contains-filter_from (λ t. not (has_key r.key t)) rs s c in
         (w.0, λ e. not_true (has_key r.key s) w.1 (ap is_eq (ap (λ (q : Record). key_cmp q.key r.key) e ∙ tied_itself key_total r.key))),
     λ w. Contains-filter (λ t. not (has_key r.key t)) rs s w.0
-        (not_from (has_key r.key s) (λ t. w.1 (rising_alone rs up s r w.0 there (key_same s.key r.key (tied (key_cmp s.key r.key) t))))),
+        (not_from (has_key r.key s) (λ t. w.1 (rising_alone rs up s r w.0 there (key_same s.key r.key (is_Equal (key_cmp s.key r.key) t))))),
   )
 
 -- a record at its place
@@ -90,18 +85,13 @@ other_way a b d h = key_total.antisymm b a ∙ turned (key_cmp a b) refl h
     turned Equal e g = absurd (d (key_same a b e))
     turned Greater e g = refl
 
-is_less : (o : Ordering) → is_lt o ≡ true → o ≡ Less
-is_less Less h = refl
-is_less Equal h = cc
-is_less Greater h = cc
-
 pub put_rises : (r : Record) (rs : List Record) → Rises by_key rs → ((s : Record) → Contains rs s → r.key ≡ s.key → ⊥) → Rises by_key (put r rs)
 put_rises r [] h fresh = (λ s c. absurd (Contains-nil s c), tt)
 put_rises r (t ∷ ts) h fresh = by_case (is_lt (key_cmp r.key t.key)) refl (put_rises r ts h.1 (λ s c. fresh s (Contains-there t ts s c)))
   where
     by_case : (b : Bool) → is_lt (key_cmp r.key t.key) ≡ b → Rises by_key (put r ts) → Rises by_key (cond b (r ∷ t ∷ ts) (t ∷ put r ts))
     by_case true e ih =
-        let first = is_less (key_cmp r.key t.key) e in (
+        let first = is_Less (key_cmp r.key t.key) e in (
           λ s c. ⊎_elim (λ same. subst (λ (q : Record). by_key r q ≡ Less) same first)
               (λ d. key_total.trans r.key t.key s.key first (h.0 s d)) (Contains-cons_cases t ts s c),
           h,

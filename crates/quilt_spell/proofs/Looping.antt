@@ -19,7 +19,7 @@ use Rattle.quilt_spell.specs.Changing.{lost}
 use Rattle.quilt_record.specs.Lists.{has_key, put, without}
 use Rattle.quilt_spell.specs.Applying.{taken, given}
 use Rattle.quilt_loc.proofs.Members.{Contains-nil, Contains-here, Contains-there, Contains-cons_cases, Contains-filter_from}
-use Rattle.quilt_record.proofs.Orders.{key_total}
+use Rattle.quilt_record.proofs.Orders.{key_total, is_Equal}
 use Rattle.quilt_spell.proofs.Lists.{same_length, Apart-rises}
 use Rattle.std.proofs.lemmas.List.Sums.{length-filter}
 use Rattle.quilt_spell.proofs.Maps.{same_or_not}
@@ -84,15 +84,10 @@ has_some (s ∷ rs) r c =
     right true = refl
     right false = refl
 
-tied : (o : Ordering) → is_eq o ≡ true → o ≡ Equal
-tied Less p = cc
-tied Equal p = refl
-tied Greater p = cc
-
 pub has_none : (k : Key) (rs : List Record) → ((s : Record) → Contains rs s → k ≡ s.key → ⊥) → list_any (has_key k) rs ≡ false
 has_none k [] h = refl
 has_none k (s ∷ rs) h =
-    ⊎_elim (λ t. absurd (h s (Contains-here s rs) (sym (key_same s.key k (tied (key_cmp s.key k) t)))))
+    ⊎_elim (λ t. absurd (h s (Contains-here s rs) (sym (key_same s.key k (is_Equal (key_cmp s.key k) t)))))
     (λ f. ap (λ (b : Bool). b || list_any (has_key k) rs) f ∙ has_none k rs (λ t c. h t (Contains-there s rs t c)))
     (cases_Bool (has_key k s))
 

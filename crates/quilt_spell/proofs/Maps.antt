@@ -12,24 +12,13 @@ use Rattle.quilt_types.specs.Sets as finset
 use Rattle.quilt_loc.specs.Codes.{Rises}
 use Rattle.quilt_loc.proofs.Members.{Contains-nil, Contains-here, Contains-there, Contains-cons_cases, Contains-map, Contains-map_from}
 use Rattle.quilt_loc.proofs.Rising.{Rises-map}
-
-first : (a b : Bool) → T (a && b) → T a
-first true b p = tt
-first false b p = p
-
-second : (a b : Bool) → T (a && b) → T b
-second true b p = p
-second false b p = absurd p
+use Rattle.quilt_types.proofs.Truths.{T-first, T-second}
+use Rattle.quilt_record.proofs.Orders.{is_Equal}
 
 less : (o : Ordering) → T (is_lt o) → o ≡ Less
 less Less p = refl
 less Equal p = absurd p
 less Greater p = absurd p
-
-tied : (o : Ordering) → is_eq o ≡ true → o ≡ Equal
-tied Less p = cc
-tied Equal p = refl
-tied Greater p = cc
 
 -- entries by their keys
 abbrev pub by_first : {K X : Type 0} → (K → K → Ordering) → K × X → K × X → Ordering
@@ -41,11 +30,11 @@ module _ {K : Type 0} (R : K → K → Ordering) (o : IsTotalOrder R) where
 
   module _ (same : IsAntisymmetric R) where
     differ_is : (q k : K) → (q ≡ k → ⊥) → eq_by_cmp R q k ≡ false
-    differ_is q k d = ⊎_elim (λ t. absurd (d (same q k (tied (R q k) t)))) (λ f. f) (cases_Bool (eq_by_cmp R q k))
+    differ_is q k d = ⊎_elim (λ t. absurd (d (same q k (is_Equal (R q k) t)))) (λ f. f) (cases_Bool (eq_by_cmp R q k))
 
     pub same_or_not : (q k : K) → (q ≡ k) ⊎ (q ≡ k → ⊥)
     same_or_not q k =
-        ⊎_elim (λ t. inl (same q k (tied (R q k) t)))
+        ⊎_elim (λ t. inl (same q k (is_Equal (R q k) t)))
         (λ f. inr (λ e. let t : eq_by_cmp R q k ≡ true = ap is_eq (ap (λ z. R z k) e ∙ tied_itself o k) in let no : false ≡ true = sym f ∙ t in cc))
         (cases_Bool (eq_by_cmp R q k))
 
@@ -53,12 +42,12 @@ module _ {K X : Type 0} (R : K → K → Ordering) where
   below_are : (k : K) (es : List (K × X)) → T (sorted.below_all R k es) → (e : K × X) → Contains es e → R k e.0 ≡ Less
   below_are k [] h e c = absurd (Contains-nil e c)
   below_are k (f ∷ fs) h e c =
-      ⊎_elim (λ same. subst (λ (g : K × X). R k g.0 ≡ Less) same (less _ (first _ _ h)))
-      (λ d. below_are k fs (second _ _ h) e d) (Contains-cons_cases f fs e c)
+      ⊎_elim (λ same. subst (λ (g : K × X). R k g.0 ≡ Less) same (less _ (T-first _ _ h)))
+      (λ d. below_are k fs (T-second _ _ h) e d) (Contains-cons_cases f fs e c)
 
   pub Rises-sorted : (es : List (K × X)) → T (sorted.is_sorted R es) → Rises (by_first R) es
   Rises-sorted [] h = tt
-  Rises-sorted (e ∷ es) h = (λ f c. below_are e.0 es (first _ _ h) f c, Rises-sorted es (second _ _ h))
+  Rises-sorted (e ∷ es) h = (λ f c. below_are e.0 es (T-first _ _ h) f c, Rises-sorted es (T-second _ _ h))
 
   pub Rises-entries : (m : finmap.FinMap R X) → Rises (by_first R) (finmap.entries m)
   Rises-entries m = Rises-sorted (finmap.entries m) (finmap.entries_sorted m)
@@ -72,7 +61,7 @@ module _ {K X : Type 0} (R : K → K → Ordering) where
     found_is (e ∷ es) k v h =
         ⊎_elim
         (λ t.
-        let is : k ≡ e.0 = same k e.0 (tied (R k e.0) t) in
+        let is : k ≡ e.0 = same k e.0 (is_Equal (R k e.0) t) in
         let w : e.1 ≡ v = same_Some e.1 v (sym (cond-true (eq_by_cmp R k e.0) (Some e.1) (sorted.find R k es) t) ∙ h) in
         let pair : e ≡ (k, v) = λ i. (sym is i, w i) in
         subst (Contains (e ∷ es)) pair (Contains-here e es))

@@ -19,11 +19,11 @@ use Rattle.quilt_loc.specs.Codes.{Rises}
 use Rattle.quilt_spell.specs.Apart.{Apart}
 use Rattle.quilt_spell.specs.Written.{number_of, number_in, by_key, layer_records, IsWritten, IsNumbering}
 use Rattle.quilt_loc.proofs.Members.{Contains-here, Contains-there, Contains-map, Contains-map_from, Contains-flat_map, Contains-flat_map_from}
-use Rattle.quilt_record.proofs.Orders.{key_total}
+use Rattle.quilt_record.proofs.Orders.{key_total, then_equal}
 use Rattle.quilt_loc.proofs.Rising.{same_rising}
 use Rattle.quilt_spell.proofs.Lists.{Apart-map, Apart-flat_map, Apart-rises, same_length}
 use Rattle.quilt_spell.proofs.Maps.{by_first, Rises-entries, entry_from_get, get_from_entry, member_from_list, from_list_member, items_rise}
-use Rattle.quilt_spell.proofs.facts.FactKeys.{then_parts, fact_alone, facts_apart}
+use Rattle.quilt_spell.proofs.facts.FactKeys.{fact_alone, facts_apart}
 
 -- ---- orders
 pub name_same : IsAntisymmetric (slice_cmp nat_cmp)
@@ -34,10 +34,10 @@ key_same a b e =
     let d4 = ordering_then (nat_cmp a.depth b.depth) (nat_cmp a.item b.item) in
     let d3 = ordering_then (nat_cmp a.code b.code) d4 in
     let d2 = ordering_then (nat_cmp a.part b.part) d3 in
-    let t1 = then_parts (nat_cmp a.layer b.layer) d2 e in
-    let t2 = then_parts (nat_cmp a.part b.part) d3 t1.1 in
-    let t3 = then_parts (nat_cmp a.code b.code) d4 t2.1 in
-    let t4 = then_parts (nat_cmp a.depth b.depth) (nat_cmp a.item b.item) t3.1 in
+    let t1 = then_equal (nat_cmp a.layer b.layer) d2 e in
+    let t2 = then_equal (nat_cmp a.part b.part) d3 t1.1 in
+    let t3 = then_equal (nat_cmp a.code b.code) d4 t2.1 in
+    let t4 = then_equal (nat_cmp a.depth b.depth) (nat_cmp a.item b.item) t3.1 in
     let layer = nat_cmp-IsAntisymmetric a.layer b.layer t1.0 in
     let part = nat_cmp-IsAntisymmetric a.part b.part t2.0 in
     let code = nat_cmp-IsAntisymmetric a.code b.code t3.0 in
@@ -50,7 +50,7 @@ record_total = then_total (on_total (λ (r : Record). r.key) key_total) (on_tota
 
 pub record_same : IsAntisymmetric record_cmp
 record_same a b e =
-    let t = then_parts (key_cmp a.key b.key) (slice_cmp nat_cmp a.value b.value) e in
+    let t = then_equal (key_cmp a.key b.key) (slice_cmp nat_cmp a.value b.value) e in
     let key = key_same a.key b.key t.0 in
     let value = name_same a.value b.value t.1 in
     λ i. record { key = key i; value = value i }

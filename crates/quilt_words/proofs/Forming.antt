@@ -3,7 +3,8 @@ use Rattle.std.proofs.Common.{◌≡◌, inl, inr, ℕ, ◌-◌, ◌/◌, ◌==�
 use Rattle.std.specs.Str.{bytes_eq}
 use Rattle.std.proofs.lemmas.Bool.{cases_Bool}
 use Rattle.quilt_types.specs.declared.code.Code.TheVariants as codes_of
-use Rattle.quilt_words.specs.Forms.{Further, Entry, table, or_err, ◌>>=◌, values_of, with_count, recolour_entry, points_entry, form_of_words}
+use Rattle.quilt_words.specs.Forms.{or_err, ◌>>=◌, values_of, with_count, form_of_words}
+use Rattle.quilt_words.specs.Table.{Further, Entry, table, recolour_entry, points_entry}
 use Rattle.quilt_words.specs.Made.{command_made, row_formed, has_pairs, formed}
 
 -- the number of words is looked at before the first of them

@@ -14,7 +14,8 @@ use Rattle.quilt_words.specs.declared.item.Item.{Item}
 use Rattle.quilt_words.specs.declared.item.Item.TheVariants.{Long}
 use Rattle.quilt_words.specs.declared.command.Command.{Command}
 use Rattle.quilt_words.specs.declared.parse_err.ParseErr.{ParseErr}
-use Rattle.quilt_words.specs.Fitting.{IsWithin, AreColours, IsRows, ArePoints, AreRings, IsRing, IsPointOf16, IsCornerOf16, FurtherFits}
+use Rattle.quilt_words.specs.Fitting.{IsWithin, AreColours, IsRows, ArePoints, AreRings, IsRing, IsPointOf16, IsCornerOf16}
+use Rattle.quilt_words.specs.Table.{FurtherFits}
 use Rattle.quilt_words.specs.Items.{Group, held, held_as, asked, asked_by, listed_by, is_long, is_plain, words_of, begins_with, rows_of, rows_joined}
 use Rattle.quilt_words.specs.Items.{colour_bytes, points_of, points_joined, point_of, point, rings_of, rings_joined, ring_of, corners_of, corner_of}
 use Rattle.quilt_words.specs.Spelling.{number, row, hex_digit, cons_both, is_spelled, value_of}

@@ -8,7 +8,8 @@ use Rattle.quilt_types.specs.declared.code.Code.TheVariants as codes_of
 use Rattle.quilt_types.specs.Layers.{colours}
 use Rattle.quilt_words.specs.declared.command.Command.{Command}
 use Rattle.quilt_words.specs.declared.command.Command.TheVariants as commands
-use Rattle.quilt_words.specs.Forms.{Argument, Value, Called, Number, Further, colour, or_err, ◌>>=◌, values_of, pairs_of, recolour_command}
+use Rattle.quilt_words.specs.Forms.{or_err, ◌>>=◌, values_of}
+use Rattle.quilt_words.specs.Table.{Argument, Value, Called, Number, Further, colour, pairs_of, recolour_command}
 use Rattle.quilt_words.specs.Made.{recoloured_command, has_pairs}
 use Rattle.std.proofs.lemmas.List.{length-map}
 use Rattle.quilt_words.specs.Pairs.{pairs_in, ReadsPair}

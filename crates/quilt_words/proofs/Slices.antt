@@ -1,5 +1,5 @@
 -- The elements of a short list, one by one.
-use Rattle.std.proofs.Common.{Bor, ◌≡◌, ℕ, ◌<◌, ◌≤◌, List, [], ◌∷◌, length, get_or, take, drop, ◌-◌, length-drop, map, refl, arith}
+use Rattle.std.proofs.Common.{Bor, ◌≡◌, ℕ, zero, suc, ◌<◌, ◌≤◌, List, [], ◌∷◌, length, get_or, take, drop, ◌-◌, length-drop, map, refl, sym, ◌∙◌, ap, arith}
 use Rattle.std.proofs.lemmas.List.{take_all}
 
 -- the slice from an index on
@@ -14,53 +14,34 @@ map_first f (x ∷ xs) d some = rw (behind 1 (x ∷ xs)) refl
 abbrev pub unread : Bor (List ℕ)
 unread = record { ref_ptr = (0, 0); now = [] }
 
--- the words of a list of two
-pub two_words : (ws : List (Bor (List ℕ))) → 2 ≤ length ws → length ws < 3 → map (λ w. w.now) ws ≡ (get_or ws 0 unread).now ∷ (get_or ws 1 unread).now ∷ []
-two_words [] low high = absurd (omega (arith, low))
-two_words (w1 ∷ []) low high = absurd (omega (arith, low))
-two_words (w1 ∷ w2 ∷ []) low high = refl
-two_words (w1 ∷ w2 ∷ w ∷ ws) low high = absurd (omega (arith, high))
+-- so many words from an index on
+abbrev pub listed : ℕ → ℕ → List (Bor (List ℕ)) → List (List ℕ)
+listed i zero ws = []
+listed i (suc k) ws = (get_or ws i unread).now ∷ listed (suc i) k ws
 
--- the words of a list of three
-pub three_words : (ws : List (Bor (List ℕ))) → 3 ≤ length ws → length ws < 4 →
-    map (λ w. w.now) ws ≡ (get_or ws 0 unread).now ∷ (get_or ws 1 unread).now ∷ (get_or ws 2 unread).now ∷ []
-three_words [] low high = absurd (omega (arith, low))
-three_words (w1 ∷ []) low high = absurd (omega (arith, low))
-three_words (w1 ∷ w2 ∷ []) low high = absurd (omega (arith, low))
-three_words (w1 ∷ w2 ∷ w3 ∷ []) low high = refl
-three_words (w1 ∷ w2 ∷ w3 ∷ w ∷ ws) low high = absurd (omega (arith, high))
+listed_behind : (i k : ℕ) (w : Bor (List ℕ)) (ws : List (Bor (List ℕ))) → listed (suc i) k (w ∷ ws) ≡ listed i k ws
+listed_behind i zero w ws = refl
+listed_behind i (suc k) w ws = ap (λ (rest : List (List ℕ)). (get_or ws i unread).now ∷ rest) (listed_behind (suc i) k w ws)
 
--- the words of a list of four
-pub four_words : (ws : List (Bor (List ℕ))) → 4 ≤ length ws → length ws < 5 →
-    map (λ w. w.now) ws ≡ (get_or ws 0 unread).now ∷ (get_or ws 1 unread).now ∷ (get_or ws 2 unread).now ∷ (get_or ws 3 unread).now ∷ []
-four_words [] low high = absurd (omega (arith, low))
-four_words (w1 ∷ []) low high = absurd (omega (arith, low))
-four_words (w1 ∷ w2 ∷ []) low high = absurd (omega (arith, low))
-four_words (w1 ∷ w2 ∷ w3 ∷ []) low high = absurd (omega (arith, low))
-four_words (w1 ∷ w2 ∷ w3 ∷ w4 ∷ []) low high = refl
-four_words (w1 ∷ w2 ∷ w3 ∷ w4 ∷ w ∷ ws) low high = absurd (omega (arith, high))
+all_listed : (ws : List (Bor (List ℕ))) → map (λ w. w.now) ws ≡ listed 0 (length ws) ws
+all_listed [] = refl
+all_listed (w ∷ ws) = ap (λ (rest : List (List ℕ)). w.now ∷ rest) (all_listed ws ∙ sym (listed_behind 0 (length ws) w ws))
 
--- the words of a list of five
-pub five_words : (ws : List (Bor (List ℕ))) → 5 ≤ length ws → length ws < 6 →
-    map (λ w. w.now) ws ≡ (get_or ws 0 unread).now ∷ (get_or ws 1 unread).now ∷ (get_or ws 2 unread).now
-    ∷ (get_or ws 3 unread).now ∷ (get_or ws 4 unread).now ∷ []
-five_words [] low high = absurd (omega (arith, low))
-five_words (w1 ∷ []) low high = absurd (omega (arith, low))
-five_words (w1 ∷ w2 ∷ []) low high = absurd (omega (arith, low))
-five_words (w1 ∷ w2 ∷ w3 ∷ []) low high = absurd (omega (arith, low))
-five_words (w1 ∷ w2 ∷ w3 ∷ w4 ∷ []) low high = absurd (omega (arith, low))
-five_words (w1 ∷ w2 ∷ w3 ∷ w4 ∷ w5 ∷ []) low high = refl
-five_words (w1 ∷ w2 ∷ w3 ∷ w4 ∷ w5 ∷ w ∷ ws) low high = absurd (omega (arith, high))
+-- the words of a list of which the length is known, one by one
+few_listed : (n : ℕ) (ws : List (Bor (List ℕ))) → n ≤ length ws → length ws < suc n → map (λ w. w.now) ws ≡ listed 0 n ws
+few_listed n ws low high = let same : length ws ≡ n = omega arith in all_listed ws ∙ ap (λ (k : ℕ). listed 0 k ws) same
 
--- the words of a list of six
-pub six_words : (ws : List (Bor (List ℕ))) → 6 ≤ length ws → length ws < 7 →
-    map (λ w. w.now) ws ≡ (get_or ws 0 unread).now ∷ (get_or ws 1 unread).now ∷ (get_or ws 2 unread).now
-    ∷ (get_or ws 3 unread).now ∷ (get_or ws 4 unread).now ∷ (get_or ws 5 unread).now ∷ []
-six_words [] low high = absurd (omega (arith, low))
-six_words (w1 ∷ []) low high = absurd (omega (arith, low))
-six_words (w1 ∷ w2 ∷ []) low high = absurd (omega (arith, low))
-six_words (w1 ∷ w2 ∷ w3 ∷ []) low high = absurd (omega (arith, low))
-six_words (w1 ∷ w2 ∷ w3 ∷ w4 ∷ []) low high = absurd (omega (arith, low))
-six_words (w1 ∷ w2 ∷ w3 ∷ w4 ∷ w5 ∷ []) low high = absurd (omega (arith, low))
-six_words (w1 ∷ w2 ∷ w3 ∷ w4 ∷ w5 ∷ w6 ∷ []) low high = refl
-six_words (w1 ∷ w2 ∷ w3 ∷ w4 ∷ w5 ∷ w6 ∷ w ∷ ws) low high = absurd (omega (arith, high))
+pub two_words : (ws : List (Bor (List ℕ))) → 2 ≤ length ws → length ws < 3 → map (λ w. w.now) ws ≡ listed 0 2 ws
+two_words ws low high = few_listed 2 ws low high
+
+pub three_words : (ws : List (Bor (List ℕ))) → 3 ≤ length ws → length ws < 4 → map (λ w. w.now) ws ≡ listed 0 3 ws
+three_words ws low high = few_listed 3 ws low high
+
+pub four_words : (ws : List (Bor (List ℕ))) → 4 ≤ length ws → length ws < 5 → map (λ w. w.now) ws ≡ listed 0 4 ws
+four_words ws low high = few_listed 4 ws low high
+
+pub five_words : (ws : List (Bor (List ℕ))) → 5 ≤ length ws → length ws < 6 → map (λ w. w.now) ws ≡ listed 0 5 ws
+five_words ws low high = few_listed 5 ws low high
+
+pub six_words : (ws : List (Bor (List ℕ))) → 6 ≤ length ws → length ws < 7 → map (λ w. w.now) ws ≡ listed 0 6 ws
+six_words ws low high = few_listed 6 ws low high

@@ -14,12 +14,13 @@ use Rattle.quilt_words.specs.declared.command.Command.{Command}
 use Rattle.quilt_words.specs.declared.command.Command.TheVariants as commands
 use Rattle.quilt_words.specs.declared.item.Item.{Item}
 use Rattle.quilt_words.specs.declared.item.Item.TheVariants.{Long, Line, Rows, PointLines, RingLines}
-use Rattle.quilt_words.specs.Fitting.{IsFitting, FurtherFits, IsName, IsWithin, IsShift, IsColour, IsPixelOf16, IsWindowOf16}
-use Rattle.quilt_words.specs.Forms.{Further, Argument, A_name, A_number, A_signed, Value, Called, Number, Signed, coordinate, colour, label, pixel, window}
-use Rattle.quilt_words.specs.Forms.{pairs_of, or_err, ◌>>=◌, Entry, table, argument_value, values_of, form_of_words, form_of_line, form, Spelled, at_command}
-use Rattle.quilt_words.specs.Forms.{buffer_command, copy_command, drop_command, layers_command, line_command, lines_command, points_command, polygon_command}
-use Rattle.quilt_words.specs.Forms.{put_command, rank_command, raster_command, recolour_command, rect_command, region_command, scatter_command, set_command}
-use Rattle.quilt_words.specs.Forms.{shift_command, show_command, union_command, unline_command, window_command}
+use Rattle.quilt_words.specs.Fitting.{IsName, IsWithin, IsShift, IsColour, IsPixelOf16, IsWindowOf16}
+use Rattle.quilt_words.specs.Table.{IsFitting, FurtherFits, Further, Argument, A_name, A_number, A_signed, Value, Called, Number, Signed, coordinate, colour}
+use Rattle.quilt_words.specs.Table.{label, pixel, window, pairs_of, Entry, table, at_command, buffer_command, copy_command, drop_command, layers_command}
+use Rattle.quilt_words.specs.Table.{line_command, lines_command, points_command, polygon_command, put_command, rank_command, raster_command, recolour_command}
+use Rattle.quilt_words.specs.Table.{rect_command, region_command, scatter_command, set_command, shift_command, show_command, union_command, unline_command}
+use Rattle.quilt_words.specs.Table.{window_command}
+use Rattle.quilt_words.specs.Forms.{or_err, ◌>>=◌, argument_value, values_of, form_of_words, form_of_line, form, Spelled}
 use Rattle.quilt_words.specs.Items.{Group, held, is_plain, words_of}
 use Rattle.quilt_words.specs.Parsing.{IsParsedAs}
 use Rattle.quilt_words.specs.declared.parse_err.ParseErr.{ParseErr}

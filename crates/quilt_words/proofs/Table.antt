@@ -5,10 +5,10 @@ use Rattle.std.specs.List.{list_any, list_all}
 use Rattle.std.specs.Str.{bytes_eq}
 use Rattle.std.proofs.lemmas.Bool.{eq-eqb, cases_Bool}
 use Rattle.std.proofs.lemmas.Slice.Eq.{bytes_eq-Decides}
-use Rattle.quilt_words.specs.declared.word.Word.{Word}
+use Rattle.quilt_words.specs.declared.command.Word.{Word}
 use Rattle.quilt_types.specs.declared.code.Code.TheVariants as codes_of
-use Rattle.quilt_words.specs.Words.{first_is, spelling, all_words}
-use Rattle.quilt_words.specs.Forms.{Further, Entry, table, form_of_words}
+use Rattle.quilt_words.specs.Table.{first_is, spelling, all_words, Further, Entry, table}
+use Rattle.quilt_words.specs.Forms.{form_of_words}
 
 pub find_holds : {X : Type 0} (p : X → Bool) (xs : List X) (x : X) → find p xs ≡ Some x → p x ≡ true
 find_holds p [] x is = cc

@@ -8,9 +8,6 @@ use Rattle.quilt_types.specs.declared.plane.Corner.{Corner}
 use Rattle.quilt_types.specs.declared.plane.Seg.{Seg}
 use Rattle.quilt_types.specs.Layers.{is_name, colours}
 use Rattle.quilt_types.specs.Plane.{side}
-use Rattle.quilt_words.specs.declared.command.Command.{Command}
-use Rattle.quilt_words.specs.declared.command.Command.TheVariants as commands
-use Rattle.quilt_words.specs.Forms.{Further}
 
 -- the range that numbers of an argument have
 pub record IsWithin (low high n : ℕ) : Type 0 where
@@ -87,53 +84,3 @@ pub record ArePairs (f : ℕ) (pairs : List (Colour × Colour)) : Type 0 where
 pub record IsShift (z : ℤ) : Type 0 where
   pub least : neg_ℤ (pos 65535) ≤ℤ z
   pub most : z ≤ℤ pos 65535
-
--- what a command has that an item spells in a format at a level
-abbrev pub IsFitting : ℕ → ℕ → Command → Type 0
-IsFitting f n (commands.Region a c) = IsName a × IsColour f c
-IsFitting f n (commands.Points p bucket) = IsName p × IsWithin 1 16 bucket
-IsFitting f n (commands.Lines l t) = IsName l × IsWithin 1 32 t
-IsFitting f n (commands.Drop a) = IsName a
-IsFitting f n (commands.Copy a b) = IsName a × IsName b
-IsFitting f n commands.Layers = Unit {0}
-IsFitting f n (commands.Blocks a) = IsName a
-IsFitting f n commands.Records = Unit {0}
-IsFitting f n (commands.Set a at c) = IsName a × IsPixelOf16 at × IsColour f c
-IsFitting f n (commands.Rect a w c) = IsName a × IsWindowOf16 w × IsColour f c
-IsFitting f n (commands.Raster a rows) = IsName a × IfSome rows (IsRows f n)
-IsFitting f n (commands.At a at) = IsName a × IsPixelOf16 at
-IsFitting f n (commands.Show a w) = IsName a × IsWindowOf16 w
-IsFitting f n (commands.Leaves a) = IsName a
-IsFitting f n (commands.Union a b c) = IsName a × IsName b × IsName c
-IsFitting f n (commands.Inter a b c) = IsName a × IsName b × IsName c
-IsFitting f n (commands.Diff a b c) = IsName a × IsName b × IsName c
-IsFitting f n (commands.Recolour a c pairs) = IsName a × IsName c × ArePairs f pairs
-IsFitting f n (commands.Window a w c) = IsName a × IsWindowOf16 w × IsName c
-IsFitting f n (commands.Shift a dx dy c) = IsName a × IsShift dx × IsShift dy × IsName c
-IsFitting f n (commands.Buffer a r c) = IsName a × (r ≤ 65535) × IsName c
-IsFitting f n (commands.Area a c) = IsName a × IsColour f c
-IsFitting f n (commands.Perimeter a c) = IsName a × IsColour f c
-IsFitting f n (commands.Put p at label) = IsName p × IsPixelOf16 at × (label < 2 ^ 32)
-IsFitting f n (commands.Del p at) = IsName p × IsPixelOf16 at
-IsFitting f n (commands.Scatter p points) = IsName p × IfSome points ArePoints
-IsFitting f n (commands.Find p at) = IsName p × IsPixelOf16 at
-IsFitting f n (commands.Within p w) = IsName p × IsWindowOf16 w
-IsFitting f n (commands.Line l id seg) = IsName l × (id < 2 ^ 32) × IsSegOf16 seg
-IsFitting f n (commands.Unline l id) = IsName l × (id < 2 ^ 32)
-IsFitting f n (commands.Cross l w) = IsName l × IsWindowOf16 w
-IsFitting f n (commands.Clip l w) = IsName l × IsWindowOf16 w
-IsFitting f n (commands.Nearest l at) = IsName l × IsPixelOf16 at
-IsFitting f n (commands.Over l a) = IsName l × IsName a
-IsFitting f n commands.Edition = Unit {0}
-IsFitting f n commands.Publish = Unit {0}
-IsFitting f n commands.Upgrade = Unit {0}
-IsFitting f n commands.Revert = Unit {0}
-IsFitting f n (commands.Polygon c colour rings) = IsName c × IsColour f colour × IfSome rings AreRings
-IsFitting f n (commands.Rank l at k) = IsName l × IsPixelOf16 at × IsWithin 1 100000 k
-IsFitting f n (commands.Crossings l m) = IsName l × IsName m
-
--- what the further lines of an item spell, where they are there and well formed
-pub record FurtherFits (f n : ℕ) (more : Further) : Type 0 where
-  pub rows : IfSome more.rows (IsRows f n)
-  pub points : IfSome more.points ArePoints
-  pub rings : IfSome more.rings AreRings

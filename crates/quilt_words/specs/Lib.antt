@@ -5,4 +5,4 @@ pub mod Made
 pub mod Pairs
 pub mod Parsing
 pub mod Spelling
-pub mod Words
+pub mod Table

@@ -8,8 +8,8 @@ use Rattle.quilt_words.specs.declared.item.Item.{Item}
 use Rattle.quilt_words.specs.declared.item.Item.TheVariants.{Long, Line, Rows, PointLines, RingLines}
 use Rattle.quilt_words.specs.declared.further.FurtherLines.{FurtherLines}
 use Rattle.quilt_words.specs.Parsing.{counted}
-use Rattle.quilt_words.specs.Forms.{Argument, Value, Further, Entry, table, or_err, ◌>>=◌, values_of}
-use Rattle.quilt_words.specs.Forms.{points_arguments, points_command, recolour_arguments, recolour_command}
+use Rattle.quilt_words.specs.Forms.{or_err, ◌>>=◌, values_of}
+use Rattle.quilt_words.specs.Table.{Argument, Value, Further, Entry, table, points_arguments, points_command, recolour_arguments, recolour_command}
 
 -- the command that so many arguments make, each as it is spelled
 abbrev pub command_made : List Argument → (Further → List Value → Option Command) → Further → List (List ℕ) → Result Command Code

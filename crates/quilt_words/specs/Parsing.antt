@@ -3,7 +3,8 @@ use Rattle.std.specs.Prelude.{◌≡◌, ◌<◌, ◌⊎◌, ◌==◌, ℕ, List
 use Rattle.quilt_types.specs.CodeTable.{code_number, code_word}
 use Rattle.quilt_types.specs.declared.code.Code.{Code}
 use Rattle.quilt_types.specs.declared.code.Code.TheVariants as codes_of
-use Rattle.quilt_words.specs.Forms.{Argument, Value, values_of}
+use Rattle.quilt_words.specs.Forms.{values_of}
+use Rattle.quilt_words.specs.Table.{Argument, Value}
 use Rattle.quilt_words.specs.Items.{words_of}
 use Rattle.quilt_words.specs.declared.item.Item.{Item}
 use Rattle.quilt_words.specs.declared.item.Item.TheVariants.{Long, Line, Rows, PointLines, RingLines}

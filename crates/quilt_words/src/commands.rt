@@ -1,17 +1,16 @@
 //! The command that a word makes of the words behind it.
 ghost use Rattle.std.specs.Prelude.{◌≡◌, ◌≤◌, ◌-◌, ◌%◌, ◌==◌, true, ℕ, [], ◌∷◌, map, length, codes};
-ghost use Rattle.quilt_words.specs.Forms.{Further};
+ghost use Rattle.quilt_words.specs.Table.{Further, spelling, map_spelling, region_spelling, algebra_spelling, point_spelling, line_spelling};
 ghost use Rattle.quilt_words.specs.Made.{formed, row_formed, recoloured_command, command_made, spelled_by};
-ghost use Rattle.quilt_words.specs.Words.{spelling, map_spelling, region_spelling, algebra_spelling, point_spelling, line_spelling};
 
 use crate::arguments::most_colour;
+use crate::command::{AlgebraWord, LineWord, MapWord, PointWord, RegionWord, Word};
 use crate::recolour::recolour_command;
 use crate::shapes::{
     name_id_segment, name_number, name_number_rings, name_pixel, name_pixel_number,
     name_radius_name, name_shift_name, name_window, name_window_name, name_window_number, nothing,
     one_name, three_names, two_names,
 };
-use crate::word::{AlgebraWord, LineWord, MapWord, PointWord, RegionWord, Word};
 use crate::{Command, FurtherLines};
 use quilt_types::{Code, Colour};
 

@@ -12,16 +12,14 @@ mod parser;
 mod recolour;
 mod refusal;
 mod shapes;
-mod word;
 mod words;
 
 pub use arguments::number_of;
-pub use command::Command;
+pub use command::{AlgebraWord, Command, LineWord, MapWord, PointWord, RegionWord, Word};
 pub use further::{FurtherLines, push_ring};
 pub use item::Item;
 pub use pairs::Pairs;
 pub use parse_err::ParseErr;
 pub use parser::{parse, parse_line, parse_words};
 pub use refusal::refusal_text;
-pub use word::{AlgebraWord, LineWord, MapWord, PointWord, RegionWord, Word};
 pub use words::{LINE_LIMIT, few_words, first_word, is_comment_line, is_plain_line, line_words};

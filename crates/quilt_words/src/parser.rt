@@ -4,10 +4,10 @@ ghost use Rattle.quilt_words.specs.Forms.{form_of_words, form_of_line, form, Spe
 ghost use Rattle.quilt_words.specs.Made.{spelled_by};
 ghost use Rattle.quilt_words.specs.Parsing.{IsParsedAs, WantsMemory};
 ghost use Rattle.quilt_words.specs.declared.parse_err.ParseErr.TheVariants as errs;
-ghost use Rattle.quilt_words.specs.Fitting.{IsFitting};
+ghost use Rattle.quilt_words.specs.Table.{IsFitting};
 
+use crate::command::Word;
 use crate::commands::command;
-use crate::word::Word;
 use crate::words::{few_words, is_plain_line, line_words};
 use crate::{Command, FurtherLines, Item, ParseErr};
 use quilt_types::Code;

@@ -1,6 +1,6 @@
 //! The command that gives colours new ones.
 ghost use Rattle.std.specs.Prelude.{◌≡◌, ◌≤◌, ◌-◌, ◌*◌, ◌/◌, ℕ, true, [], ◌∷◌, map, length, Ok, Err, IfOk};
-ghost use Rattle.quilt_words.specs.Forms.{Further};
+ghost use Rattle.quilt_words.specs.Table.{Further};
 ghost use Rattle.quilt_words.specs.Made.{recoloured_command, has_pairs};
 ghost use Rattle.quilt_words.specs.Pairs.{pairs_in, ReadsPair};
 

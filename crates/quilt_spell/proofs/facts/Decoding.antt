@@ -25,7 +25,7 @@ use Rattle.quilt_spell.proofs.facts.FactMembers.{layer_says}
 two_bytes : (a b : ℕ) → a < 2 ^ 16 → b < 2 ^ 16 → to_be_bytes w16 a ≡ to_be_bytes w16 b → a ≡ b
 two_bytes a b ha hb e = sym (from_be_bytes-to_be_bytes_2 a ha) ∙ ap (from_be_bytes w16) e ∙ from_be_bytes-to_be_bytes_2 b hb
 
-four_bytes : (a b : ℕ) → a < 2 ^ 32 → b < 2 ^ 32 → to_be_bytes w32 a ≡ to_be_bytes w32 b → a ≡ b
+pub four_bytes : (a b : ℕ) → a < 2 ^ 32 → b < 2 ^ 32 → to_be_bytes w32 a ≡ to_be_bytes w32 b → a ≡ b
 four_bytes a b ha hb e = sym (from_be_bytes-to_be_bytes_4 a ha) ∙ ap (from_be_bytes w32) e ∙ from_be_bytes-to_be_bytes_4 b hb
 
 abbrev point_value : Pixel → ℕ → List ℕ

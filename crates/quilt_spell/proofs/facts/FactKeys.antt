@@ -20,7 +20,7 @@ use Rattle.quilt_types.specs.Codes.{code, depth}
 use Rattle.quilt_types.specs.Layers.{Layer, Region, Points, Lines, Grid, PointMap, SegMap, BlockSet, IsLayer, colour_at}
 use Rattle.quilt_types.specs.Facts.{Fact, IsOfKind, HasColour, HoldsPoint, HoldsNoPoint, IsSegment, IsMetBy, IsMetByNone, or_none, point_facts, line_facts}
 use Rattle.quilt_types.specs.Facts.{facts}
-use Rattle.quilt_types.specs.Quadtrees.{maximal_blocks, is_uniform, coloured, leaves, holds_few, points_in, point_blocks}
+use Rattle.quilt_types.specs.Quadtrees.{maximal_blocks, is_uniform, coloured, leaves, holds_few, occupancy, point_blocks}
 use Rattle.quilt_types.specs.Segments.{square, meets}
 use Rattle.quilt_record.specs.declared.key.Key.{Key}
 use Rattle.quilt_record.specs.Records.{capacity_of, record_of, point_item}
@@ -34,24 +34,21 @@ use Rattle.quilt_loc.proofs.InOrder.{Rises-maximal}
 use Rattle.quilt_spell.proofs.Lists.{Apart-append, Apart-filter, Apart-map, Apart-flat_map, Apart-rises}
 use Rattle.quilt_spell.proofs.Maps.{by_first, Rises-keys, Rises-entries, get_from_entry}
 use Rattle.quilt_spell.proofs.facts.FactMembers.{layer_says, or_none_member}
+use Rattle.quilt_record.proofs.Orders.{then_equal}
 
 -- ---- orders of which only equals tie
-pub then_parts : (a b : Ordering) → ordering_then a b ≡ Equal → (a ≡ Equal) × (b ≡ Equal)
-then_parts Less b e = cc
-then_parts Equal b e = (refl, e)
-then_parts Greater b e = cc
 
 pub pixel_same : IsAntisymmetric pixel_cmp
 pixel_same p q e =
-    let t = then_parts (nat_cmp p.y q.y) (nat_cmp p.x q.x) e in
+    let t = then_equal (nat_cmp p.y q.y) (nat_cmp p.x q.x) e in
     let y = nat_cmp-IsAntisymmetric p.y q.y t.0 in
     let x = nat_cmp-IsAntisymmetric p.x q.x t.1 in
     λ i. record { x = x i; y = y i }
 
 pub block_same : IsAntisymmetric block_cmp
 block_same a b e =
-    let t = then_parts (nat_cmp a.y b.y) (ordering_then (nat_cmp a.x b.x) (nat_cmp a.side b.side)) e in
-    let u = then_parts (nat_cmp a.x b.x) (nat_cmp a.side b.side) t.1 in
+    let t = then_equal (nat_cmp a.y b.y) (ordering_then (nat_cmp a.x b.x) (nat_cmp a.side b.side)) e in
+    let u = then_equal (nat_cmp a.x b.x) (nat_cmp a.side b.side) t.1 in
     let y = nat_cmp-IsAntisymmetric a.y b.y t.0 in
     let x = nat_cmp-IsAntisymmetric a.x b.x u.0 in
     let s = nat_cmp-IsAntisymmetric a.side b.side u.1 in
@@ -134,7 +131,7 @@ module _ (n : ℕ) (le : n ≤ 12) where
         ⊎_elim
         (λ one.
         let is = eqb-true capacity 1 one in
-        let few = leb-true (points_in points b) capacity u.1 in
+        let few = leb-true (occupancy points b) capacity u.1 in
         let pair : ◌≡◌ {A = Pixel × ℕ} (p, k) (q, l) =
         most_once (λ (e : Pixel × ℕ). in_block b e.0) (finmap.entries points) (p, k) (q, l) (omega arith) u.2 u.3 v.2 (ap (λ z. in_block z q) same ∙ v.3) in
         ap (λ (w : Pixel × ℕ). w.0) pair)
@@ -203,7 +200,7 @@ module _ (n : ℕ) (le : n ≤ 12) where
         lines_alone t 0 segs f g (layer_says form n (Lines t segs cover) h f c) (layer_says form n (Lines t segs cover) h g d) e
 
 -- ---- no fact stands twice
-or_none_apart : (none : Fact) (fs : List Fact) → Apart fs → Apart (or_none none fs)
+pub or_none_apart : (none : Fact) (fs : List Fact) → Apart fs → Apart (or_none none fs)
 or_none_apart none [] h = (λ c. Contains-nil none c, tt)
 or_none_apart none (f ∷ fs) h = h
 

@@ -15,9 +15,10 @@ use Rattle.quilt_types.specs.Facts.{facts}
 use Rattle.quilt_types.specs.Quadtrees.{is_whole, is_maximal, maximal_blocks, is_uniform, coloured, leaves, holds_few, point_blocks}
 use Rattle.quilt_types.specs.Segments.{square, meets}
 use Rattle.quilt_spell.specs.LayerFacts.{LayerSays, RegionSays, PointsSay, LinesSay}
-use Rattle.quilt_loc.proofs.Members.{Contains-nil, Contains-cons_cases, Contains-map, Contains-map_from, Contains-filter, Contains-filter_from}
+use Rattle.quilt_loc.proofs.Members.{Contains-nil, Contains-here, Contains-cons_cases, Contains-map, Contains-map_from, Contains-filter, Contains-filter_from}
 use Rattle.quilt_loc.proofs.Members.{Contains-flat_map_from}
 use Rattle.quilt_loc.proofs.Blocks.{IsBlock-from}
+use Rattle.quilt_types.proofs.Lists.{nothing_in}
 
 -- ---- members
 pub passing_block : (n : ℕ) (fits : Block → Bool) (b : Block) → Contains (maximal_blocks n fits) b → IsBlock n b × (fits b ≡ true)
@@ -30,8 +31,13 @@ pub or_none_member : (none : Fact) (fs : List Fact) (f : Fact) → Contains (or_
 or_none_member none [] f c = ⊎_elim (λ e. inl (sym e, refl)) (λ d. absurd (Contains-nil f d)) (Contains-cons_cases none [] f c)
 or_none_member none (g ∷ fs) f c = inr c
 
-nothing_in : {X : Type 0} (xs : List X) → xs ≡ [] → (x : X) → Contains xs x → ⊥
-nothing_in xs e x c = Contains-nil x (subst (λ (l : List _). Contains l x) e c)
+pub or_none_some : (none : Fact) (fs : List Fact) (f : Fact) → Contains fs f → Contains (or_none none fs) f
+or_none_some none [] f c = absurd (Contains-nil f c)
+or_none_some none (g ∷ fs) f c = c
+
+pub or_none_none : (none : Fact) (fs : List Fact) → ((f : Fact) → Contains fs f → ⊥) → Contains (or_none none fs) none
+or_none_none none [] h = Contains-here none []
+or_none_none none (g ∷ fs) h = absurd (h g (Contains-here g fs))
 
 region_says : (n : ℕ) (grid : Grid) (f : Fact) → Contains (facts n (Region grid)) f → RegionSays n grid f
 unfolding leaves

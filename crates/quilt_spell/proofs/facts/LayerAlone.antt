@@ -15,7 +15,7 @@ use Rattle.quilt_types.specs.Plane.{side, corner, pixels_of, in_block, Holds, pi
 use Rattle.quilt_types.specs.Layers.{Layer, Region, Points, Lines, Grid, PointMap, SegMap, BlockSet, IsLayer, IsGrid, IsPointMap, IsLineMap, colour_at}
 use Rattle.quilt_types.specs.Facts.{Fact, IsOfKind, HasColour, HoldsPoint, HoldsNoPoint, IsSegment, IsMetBy, IsMetByNone, or_none, point_facts, line_facts}
 use Rattle.quilt_types.specs.Facts.{facts}
-use Rattle.quilt_types.specs.Quadtrees.{maximal_blocks, is_uniform, coloured, leaves, holds_few, points_in, point_blocks}
+use Rattle.quilt_types.specs.Quadtrees.{maximal_blocks, is_uniform, coloured, leaves, holds_few, occupancy, point_blocks}
 use Rattle.quilt_types.specs.Segments.{square, meets}
 use Rattle.quilt_spell.specs.Apart.{Apart, SameMembers}
 use Rattle.quilt_loc.proofs.Members.{Contains-nil, Contains-here, Contains-there, Contains-cons_cases, Contains-map, Contains-map_from, Contains-filter}
@@ -118,7 +118,7 @@ module _ (n : ℕ) (g h : Grid) (w : (f : Fact) → Contains (facts n (Region g)
       ap (λ k. get_or g k 0) e ∙ c ∙ ap (λ k. get_or h k 0) (sym e))
 
 -- ---- points
-few_if_one : {X : Type 0} (xs : List X) → Apart xs → ((x y : X) → Contains xs x → Contains xs y → x ≡ y) → length xs ≤ 1
+pub few_if_one : {X : Type 0} (xs : List X) → Apart xs → ((x y : X) → Contains xs x → Contains xs y → x ≡ y) → length xs ≤ 1
 few_if_one [] h one = omega arith
 few_if_one (x ∷ []) h one = omega arith
 few_if_one (x ∷ y ∷ ys) h one =
@@ -139,7 +139,7 @@ module _ (n capacity : ℕ) (points : PointMap) where
       let label = one_label points d.0 e.0 d.1 e.1 u.0 v.0 at in
       λ i. (at i, label i)) in
       let count = length-filter test es in
-      le-leb (points_in points b) capacity (omega arith)
+      le-leb (occupancy points b) capacity (omega arith)
 
   point_there : 1 ≤ capacity → (e : Pixel × ℕ) → is_pixel n e.0 ≡ true → Contains (finmap.entries points) e
       → (b : Block) × Contains (facts n (Points capacity points)) (HoldsPoint b e.0 e.1)

@@ -7,13 +7,13 @@ loop-line-init c = rw c.new-rows.ensures (rows_none c.args.format c.args.width (
 
 pub loop-line-preserved : goal.loop-line-preserved
 loop-line-preserved c =
-    let is = rw c.in-Some.is at c.in_ok-bytes.ensures in
+    let is = rw c.if-not-is_row.false at c.in_ok-is_row.ensures in
     rw (c.in_ok-push.ensures.ok, c.deref.ensures.value)
     (rows_more c.args.format c.args.width (λ w. w.now) c.args.lines.now c.loop-line.line-index _ c.loop-line.rows _ (omega arith) c.loop-line.invariant is)
 
-pub returns-in_default : goal.returns-in_default
-returns-in_default c =
-    let is = rw c.in_default.is at c.in_ok-bytes.ensures in
+pub returns-then-not-is_row : goal.returns-then-not-is_row
+returns-then-not-is_row c =
+    let is = rw c.if-not-is_row.true at c.in_ok-is_row.ensures in
     rows_fail c.args.format c.args.width (λ w. w.now) c.args.lines.now c.loop-line.line-index _ c.loop-line.rows (omega arith) c.loop-line.invariant is
 
 pub returns : goal.returns

@@ -2,8 +2,8 @@ use Rattle.std.proofs.Common.{◌*◌, sym, ◌∙◌, ap, subst, arith}
 use Rattle.quilt_types.specs.declared.plane.Block.{Block}
 use Rattle.quilt_types.specs.Plane.{whole, IsBlock}
 use Rattle.quilt_loc.proofs.Blocks.{IsBlock-up}
-use Rattle.quilt_loc.proofs.Quartered.{IsBlock-whole}
-use Rattle.quilt_par.proofs.Quadrants.{wide_square, quadrant_is, quadrant_found}
+use Rattle.quilt_loc.proofs.Quartered.{IsBlock-whole, wide_side}
+use Rattle.quilt_par.proofs.Quadrants.{quadrant_is, quadrant_found}
 use Rattle.quilt_par.proofs.square.quadrant.Goals as goal
 
 pub quarters-requires-clause-valid : goal.quarters-requires-clause-valid
@@ -15,7 +15,7 @@ pub quarters-requires-clause-wide : goal.quarters-requires-clause-wide
 quarters-requires-clause-wide c =
     let n = c.args.level in
     let w = ap (λ (b : Block). b.side) c.whole_square.ensures in
-    let s = wide_square n c.requires.least in
+    let s = wide_side n c.requires.least in
     omega arith
 
 pub returns-clause-value : goal.returns-clause-value
