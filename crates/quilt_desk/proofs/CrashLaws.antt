@@ -5,7 +5,7 @@ use Rattle.std.proofs.Common.{◌≡◌, inl, inr, true, false, Bool, cond, ℕ,
 use Rattle.std.proofs.Common.{◌∙◌, ap, subst, arith, get_or-set_same, get_or-set_other}
 use Rattle.std.proofs.Math.ListN.{length-set}
 use Rattle.std.proofs.lemmas.List.{take-append-drop}
-use Rattle.std.proofs.lemmas.Bool.{cases_lt, cases_Bool, false≢true, or_parts}
+use Rattle.std.proofs.lemmas.Bool.{cases_lt, cases_Bool, false≢true, or_parts, and_parts}
 use Rattle.std.proofs.lemmas.List.Folds.{list_all_at, list_all-append}
 use Rattle.std.proofs.lemmas.List.Sums.{fold_more}
 use Rattle.quilt_world.specs.Disk.{Pages, Log, Mark, Untouched, Written, Torn, marked, mark_from, unsynced_after, unsynced_from, is_unsynced, CanLeave}
@@ -240,11 +240,7 @@ pub left_all : (start : Pages) (log : Log) (choice : List ℕ) (image : Pages) (
 left_all start log choice image n below all =
     record { size = below.size; each = λ i within. below.each i (omega arith) ∙ left_same start log i (slice_index choice i) }
 
-and_front : (a b : Bool) → (a && b) ≡ true → a ≡ true
-and_front true b both = refl
-and_front false b both = both
-
 pub whole-take : (n : ℕ) (log : Log) → list_all is_whole_page log ≡ true → list_all is_whole_page (take n log) ≡ true
 whole-take n log all =
-    and_front (list_all is_whole_page (take n log)) (list_all is_whole_page (drop n log))
-    (sym (list_all-append is_whole_page (take n log) (drop n log)) ∙ ap (λ (l : Log). list_all is_whole_page l) (take-append-drop n log) ∙ all)
+    (and_parts (list_all is_whole_page (take n log)) (list_all is_whole_page (drop n log))
+    (sym (list_all-append is_whole_page (take n log) (drop n log)) ∙ ap (λ (l : Log). list_all is_whole_page l) (take-append-drop n log) ∙ all)).0

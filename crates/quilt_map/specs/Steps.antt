@@ -40,26 +40,33 @@ abbrev pub goes_back : Command → Bool
 goes_back commands.Revert = true
 goes_back command = false
 
--- the commands that ask, and leave the work as it is
+-- the commands that ask, and leave the work as it is: all but those that change it and those that give an edition or go back to one
 abbrev pub asks : Command → Bool
-asks commands.Layers = true
-asks commands.Records = true
-asks commands.Edition = true
-asks (commands.Blocks a) = true
-asks (commands.At a p) = true
-asks (commands.Show a w) = true
-asks (commands.Leaves a) = true
-asks (commands.Area a c) = true
-asks (commands.Perimeter a c) = true
-asks (commands.Find p at) = true
-asks (commands.Within p w) = true
-asks (commands.Cross l w) = true
-asks (commands.Clip l w) = true
-asks (commands.Nearest l at) = true
-asks (commands.Rank l at k) = true
-asks (commands.Over l a) = true
-asks (commands.Crossings l m) = true
-asks command = false
+asks (commands.Region a c) = false
+asks (commands.Points p bucket) = false
+asks (commands.Lines l t) = false
+asks (commands.Drop a) = false
+asks (commands.Copy a b) = false
+asks (commands.Set a at c) = false
+asks (commands.Rect a w c) = false
+asks (commands.Raster a rows) = false
+asks (commands.Union a b c) = false
+asks (commands.Inter a b c) = false
+asks (commands.Diff a b c) = false
+asks (commands.Recolour a c pairs) = false
+asks (commands.Window a w c) = false
+asks (commands.Shift a dx dy c) = false
+asks (commands.Buffer a r c) = false
+asks (commands.Put p at label) = false
+asks (commands.Del p at) = false
+asks (commands.Scatter p points) = false
+asks (commands.Line l id seg) = false
+asks (commands.Unline l id) = false
+asks (commands.Polygon c colour rings) = false
+asks commands.Publish = false
+asks commands.Upgrade = false
+asks commands.Revert = false
+asks command = true
 
 -- how many records were changed since the last edition or revert, after a command
 abbrev pub changes_after : State → Command → ℕ → ℕ

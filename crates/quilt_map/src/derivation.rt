@@ -2,7 +2,7 @@ ghost use Rattle.std.specs.Prelude.{◌≡◌, ◌≢◌, ℕ, ◌+◌, ◌<◌,
 ghost use Rattle.quilt_types.specs.Layers.{Grid, Region};
 ghost use Rattle.quilt_types.specs.declared.plane.Window.{Window as AnyWindow};
 ghost use Rattle.quilt_words.specs.declared.command.Command.TheVariants as commands;
-ghost use Rattle.quilt_words.specs.Fitting.{IsFitting};
+ghost use Rattle.quilt_words.specs.Table.{IsFitting};
 ghost use Rattle.quilt_world.specs.Tale.{Goes};
 ghost use Rattle.quilt_store.specs.Stops.{HasStopCause, IsNotDamage};
 ghost use Rattle.quilt_region.specs.Covers.{IsSideOver};

@@ -3,6 +3,7 @@
 
 mod algebra;
 mod drawing;
+mod drawn_segments;
 mod measures;
 mod pixel_maps;
 mod points;
@@ -10,6 +11,7 @@ mod segments;
 
 pub use algebra::{plain_buffer, plain_overlay, plain_recolour, plain_shift, plain_window};
 pub use drawing::{Dice, colour_of, drawn, drawn_distance, drawn_pairs};
+pub use drawn_segments::{are_in_square, drawn_coordinate, drawn_seg, next_state};
 pub use measures::{plain_area, plain_histogram, plain_perimeter};
 pub use pixel_maps::map_of;
 pub use points::PlainPoints;

@@ -18,6 +18,7 @@ use Rattle.quilt_lang.specs.Trials.{spaced}
 use Rattle.quilt_replies.specs.Answers.{Done, block_lines, kind_words, layer_line, digits_of, row_line}
 use Rattle.quilt_replies.specs.Bodies.{lines, words_of_kind, entry_line, HasCounts}
 use Rattle.quilt_replies.specs.Runs.{text_of}
+use Rattle.quilt_types.proofs.Lists.{range_more}
 
 -- the text of a reply, where its body was put together
 pub finished : {E : Type 0} (r : Result (List ℕ) E) (text : List ℕ) (body : List (List ℕ))
@@ -74,10 +75,6 @@ pub record IsCounting (level : ℕ) (counts : List ℕ) (k : ℕ) (text : List �
   pub most : k ≤ level + 1
   pub rest : lines (flat_map (λ j. count_lines j (slice_index counts j)) (reverse (below (level + 1)))) ≡ text
       ++ lines (flat_map (λ j. count_lines j (slice_index counts j)) (reverse (below k)))
-
-range_more : (a n : ℕ) → range_with_len a (suc n) ≡ range_with_len a n ++ (a + n) ∷ []
-range_more a zero = let e : a ≡ a + 0 = omega arith in ap (λ (z : ℕ). z ∷ []) e
-range_more a (suc n) = ap (λ l. a ∷ l) (range_more (a + 1) n ∙ (let e : a + 1 + n ≡ a + suc n = omega arith in ap (λ z. range_with_len (a + 1) n ++ z ∷ []) e))
 
 -- the numbers below a number from the greatest down
 pub reverse_below : (k : ℕ) → reverse (below (suc k)) ≡ k ∷ reverse (below k)

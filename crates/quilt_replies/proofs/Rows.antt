@@ -18,7 +18,8 @@ use Rattle.quilt_loc.proofs.PlaneOrders.{block_total}
 use Rattle.quilt_loc.proofs.Rising.{Rises-map, same_rising}
 use Rattle.quilt_blocks.specs.Cutting.{leaves_by_code, leaf_cmp}
 use Rattle.quilt_spell.specs.Apart.{Apart}
-use Rattle.quilt_spell.proofs.facts.FactKeys.{then_parts, block_same}
+use Rattle.quilt_spell.proofs.facts.FactKeys.{block_same}
+use Rattle.quilt_record.proofs.Orders.{is_Equal, then_equal}
 
 -- leaves by their blocks, and then their colours
 abbrev pub row_cmp : Block × ℕ → Block × ℕ → Ordering
@@ -29,15 +30,10 @@ row_total = then_total (on_total (λ (e : Block × ℕ). e.0) block_total) (on_t
 
 row_same : (d e : Block × ℕ) → row_cmp d e ≡ Equal → d ≡ e
 row_same d e h =
-    let parts = then_parts (block_cmp d.0 e.0) (nat_cmp d.1 e.1) h in
+    let parts = then_equal (block_cmp d.0 e.0) (nat_cmp d.1 e.1) h in
     let block = block_same d.0 e.0 parts.0 in
     let colour = nat_cmp-IsAntisymmetric d.1 e.1 parts.1 in
     λ i. (block i, colour i)
-
-tied : (o : Ordering) → is_eq o ≡ true → o ≡ Equal
-tied Less h = cc
-tied Equal h = refl
-tied Greater h = cc
 
 -- ---- how often an element stands in a list
 module _ {X : Type 0} where
@@ -141,7 +137,7 @@ pub leaves_sorted : (n : ℕ) (g : Grid) (xs ys : List (Block × ℕ)) → xs �
 leaves_sorted n g xs ys is order members moved sorted =
     let apart : Apart xs = subst Apart (sym is) (rises_apart leaf_cmp never_below (leaves_by_code n g) order) in
     let once = λ (x : Block × ℕ).
-    let few = count_once (λ y. is_eq (row_cmp x y)) xs x apart (λ y t. sym (row_same x y (tied (row_cmp x y) t))) in
+    let few = count_once (λ y. is_eq (row_cmp x y)) xs x apart (λ y t. sym (row_same x y (is_Equal (row_cmp x y) t))) in
     let kept : count_by (λ y. is_eq (row_cmp x y)) ys ≡ count_by (λ y. is_eq (row_cmp x y)) xs =
     sum_by-IsPermutation (λ (y : Block × ℕ). cond {A = ℕ} (is_eq (row_cmp x y)) 1 0) xs ys moved in
     let all : count_by (λ y. is_eq (row_cmp x y)) ys ≤ 1 = omega arith in

@@ -70,7 +70,7 @@ fn pool_size(pool: Option<&str>) -> Option<u32>
 /// The file that the commands of this source are run over, where it has a name.
 fn run_over<'a>(path: &'a str, pool: u32, source: Source) -> Option<Order<'a>>
     requires { (8 ≤ pool) × (pool ≤ 4096) }
-    ensures { option_map meant result ≡ (if table.is_empty path.entry.now then None else Some (run_from source path.entry.now pool)) }
+    ensures { option_map meant result ≡ (if table.is_unnamed path.entry.now then None else Some (run_from source path.entry.now pool)) }
 {
     if path.is_empty() {
         return None;

@@ -5,7 +5,7 @@ use Rattle.std.specs.Fmt.{decimal}
 use Rattle.std.proofs.Math.Nat.{mod-le}
 use Rattle.std.proofs.lemmas.List.Sums.{sum_by-append}
 use Rattle.quilt_types.specs.Plane.{side}
-use Rattle.quilt_lang.specs.Trials.{Drawn, drawn, stepped, spaced, line, draw, rect_line, numbered_line, pixel_line, small_line, seg_line, drawn_line}
+use Rattle.quilt_lang.specs.Trials.{Drawn, drawn, stepped, spaced, line, draw, rect_line, numbered_line, pixel_line, small_line, segment_command, drawn_line}
 use Rattle.quilt_lang.specs.Trials.{lines_from, trial_text}
 use Rattle.quilt_trial.specs.Drawing.{has_no_newline}
 use Rattle.quilt_trial.specs.Rest.{newlines}
@@ -73,7 +73,7 @@ pixel_one w a s x first second = one_line (behind first (behind second (behind (
 small_one : (w a : List ℕ) (m x : ℕ) → IsPlain w → IsPlain a → newlines (small_line w a m x).text ≡ 1
 small_one w a m x first second = one_line (behind first (behind second (one (number m x))))
 
-seg_one : (s x : ℕ) → newlines (seg_line s x).text ≡ 1
+seg_one : (s x : ℕ) → newlines (segment_command s x).text ≡ 1
 seg_one s x =
     let y = stepped x in
     let z = stepped (stepped y) in

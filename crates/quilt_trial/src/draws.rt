@@ -1,6 +1,6 @@
 //! The lines that are drawn.
 ghost use Rattle.std.specs.Prelude.{◌≡◌, true, ℕ, ◌<◌, ◌≤◌, ◌^◌, [], ◌∷◌, ◌++◌, IfOk, OnOk, codes, decimal, map};
-ghost use Rattle.quilt_lang.specs.Trials.{rect_line, numbered_line, pixel_line, small_line, seg_line, drawn_line, draw};
+ghost use Rattle.quilt_lang.specs.Trials.{rect_line, numbered_line, pixel_line, small_line, segment_command, drawn_line, draw};
 ghost use Rattle.quilt_trial.specs.Drawing.{IsDrawn, IsTextLine, command_text, has_no_newline};
 
 use crate::generator::Generator;
@@ -105,7 +105,7 @@ fn draw_small(
 fn draw_seg(alloc: Global, side: u64, generator: &mut Generator) -> Result<Text, AllocError>
     requires { 0 < side }
     ensures line { IfOk result IsTextLine }
-    ensures is { IfOk result (λ text. IsDrawn text generator.new.state (seg_line side generator.old.state)) }
+    ensures is { IfOk result (λ text. IsDrawn text generator.new.state (segment_command side generator.old.state)) }
 {
     let id = generator.draw(1000);
     let x1 = generator.draw(side);

@@ -5,7 +5,7 @@ use Rattle.std.proofs.lemmas.List.{take-append-le, take_all, append-nil}
 use Rattle.std.proofs.lemmas.Bool.{cases_lt}
 use Rattle.quilt_world.specs.Disk.{Pages, Log, CanLeave}
 use Rattle.quilt_world.specs.PageBytes.{last_bytes, fixed_bytes, SparesAll}
-use Rattle.quilt_world.specs.Stops.{last, fixed, Leaves, LeavesNow, Since}
+use Rattle.quilt_world.specs.Stops.{latest, fixed, Leaves, LeavesNow, Since}
 use Rattle.quilt_world.specs.Tale.{Tale, IsConsistent, IsSameFile, Adds}
 use Rattle.quilt_world.specs.declared.event.Event.TheVariants.{Wrote, Tore, Synced}
 use Rattle.quilt_world.proofs.PageLaws.{last-spared, last-Wrote, fixed-spared, fixed-Synced, left_page, last_from_fixed}
@@ -32,13 +32,13 @@ at_new P events m n adds at = subst (λ s. P s n.log) (sym adds.file.start) (sub
 pub fixed_kept : (events : Log) (m n : Tale) (i : ℕ) (b : List ℕ) → Adds events m n → SparesAll i events → fixed m i ≡ Some b → fixed n i ≡ Some b
 fixed_kept events m n i b adds spares is = at_new (λ s l. fixed_bytes s l i ≡ Some b) events m n adds (log_fixed m.start m.log events i b spares is)
 
-pub last_kept : (events : Log) (m n : Tale) (i : ℕ) (b : List ℕ) → Adds events m n → SparesAll i events → last m i ≡ Some b → last n i ≡ Some b
+pub last_kept : (events : Log) (m n : Tale) (i : ℕ) (b : List ℕ) → Adds events m n → SparesAll i events → latest m i ≡ Some b → latest n i ≡ Some b
 last_kept events m n i b adds spares is = at_new (λ s l. last_bytes s l i ≡ Some b) events m n adds (log_last m.start m.log events i spares ∙ is)
 
-pub last_wrote : (m n : Tale) (i : ℕ) (b : List ℕ) → Adds (Wrote i b ∷ []) m n → last n i ≡ Some b
+pub last_wrote : (m n : Tale) (i : ℕ) (b : List ℕ) → Adds (Wrote i b ∷ []) m n → latest n i ≡ Some b
 last_wrote m n i b adds = at_new (λ s l. last_bytes s l i ≡ Some b) (Wrote i b ∷ []) m n adds (last-Wrote m.start m.log i b)
 
-pub fixed_synced : (m n : Tale) (i : ℕ) (b : List ℕ) → Adds (Synced ∷ []) m n → last m i ≡ Some b → fixed n i ≡ Some b
+pub fixed_synced : (m n : Tale) (i : ℕ) (b : List ℕ) → Adds (Synced ∷ []) m n → latest m i ≡ Some b → fixed n i ≡ Some b
 fixed_synced m n i b adds is = at_new (λ s l. fixed_bytes s l i ≡ Some b) (Synced ∷ []) m n adds (fixed-Synced m.start m.log i ∙ is)
 
 -- ---- images
@@ -130,7 +130,7 @@ nothing_touches i m n adds = record { events = []; adds = adds; one = omega arit
 pub fixed_spared : (i j : ℕ) (b : List ℕ) (m n : Tale) → Touches i m n → i ≢ j → fixed m j ≡ Some b → fixed n j ≡ Some b
 fixed_spared i j b m n touches ne is = fixed_kept touches.events m n j b touches.adds (touches.spares j ne) is
 
-pub last_spared : (i j : ℕ) (b : List ℕ) (m n : Tale) → Touches i m n → i ≢ j → last m j ≡ Some b → last n j ≡ Some b
+pub last_spared : (i j : ℕ) (b : List ℕ) (m n : Tale) → Touches i m n → i ≢ j → latest m j ≡ Some b → latest n j ≡ Some b
 last_spared i j b m n touches ne is = last_kept touches.events m n j b touches.adds (touches.spares j ne) is
 
 pub since_touch : (i : ℕ) (o m n : Tale) (P : Pages → Type 0) → Since o m P → Touches i m n → LeavesNow n P → Since o n P
@@ -142,8 +142,8 @@ pub image_page : (t : Tale) (image : Pages) (i : ℕ) (b : List ℕ) → CanLeav
     → fixed t i ≡ Some b → get_or image i [] ≡ b
 image_page t image i b left within is = left_page t.start t.log image i b left within is
 
-pub seen_page : (t : Tale) (i : ℕ) (b : List ℕ) → IsConsistent t → i < length t.start → last t i ≡ Some b → get_or t.seen i [] ≡ b
+pub seen_page : (t : Tale) (i : ℕ) (b : List ℕ) → IsConsistent t → i < length t.start → latest t i ≡ Some b → get_or t.seen i [] ≡ b
 seen_page t i b so within is = so.last i b within is
 
-pub last_from : (t : Tale) (i : ℕ) (b : List ℕ) → fixed t i ≡ Some b → last t i ≡ Some b
+pub last_from : (t : Tale) (i : ℕ) (b : List ℕ) → fixed t i ≡ Some b → latest t i ≡ Some b
 last_from t i b is = last_from_fixed t.start t.log i b is

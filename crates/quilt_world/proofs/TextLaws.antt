@@ -7,7 +7,7 @@ use Rattle.quilt_world.specs.Added.{is_of_text, AddsOnly}
 use Rattle.quilt_world.specs.Disk.{Pages, Log, Mark, Untouched, marked, mark_from, unsynced_after, unsynced_from, is_unsynced, holds, CanLeave}
 use Rattle.quilt_world.specs.Doors.{TakesFrom}
 use Rattle.quilt_world.specs.PageBytes.{bytes_by, last_bytes, fixed_bytes}
-use Rattle.quilt_world.specs.Stops.{last, fixed, LeavesNow}
+use Rattle.quilt_world.specs.Stops.{latest, fixed, LeavesNow}
 use Rattle.quilt_world.specs.Tale.{Tale, Adds}
 use Rattle.quilt_world.specs.declared.event.Event.TheVariants.{Took, Put, Wrote, Tore, Synced}
 
@@ -53,7 +53,7 @@ text_leaves start log text image only left = record {
 
 -- ---- a tale
 
-pub last_text : (o n : Tale) (i : ℕ) → AddsOnly is_of_text o n → last n i ≡ last o i
+pub last_text : (o n : Tale) (i : ℕ) → AddsOnly is_of_text o n → latest n i ≡ latest o i
 last_text o n i adds =
     ap (λ (l : Log). last_bytes n.start l i) adds.log ∙ last_bytes-text n.start o.log adds.events i adds.only
     ∙ ap (λ (s : Pages). last_bytes s o.log i) adds.file.start

@@ -2,7 +2,7 @@
 use Rattle.std.proofs.Common.{◌≡◌, ℕ, ◌<◌, ◌∙◌, arith, List, [], get_or, length, Option, Some, None, refl, subst}
 use Rattle.std.specs.Option.{IfSome}
 use Rattle.quilt_world.specs.Tale.{Tale, IsConsistent, Adds, Goes}
-use Rattle.quilt_world.specs.Stops.{last}
+use Rattle.quilt_world.specs.Stops.{latest}
 use Rattle.quilt_world.proofs.StopLaws.{last_kept, seen_page}
 
 -- before the first call
@@ -28,7 +28,7 @@ goes_then R S T (Some t) (Some u) (Some v) r s step = step t u v r s
 -- a read more, and what it gave
 pub goes_read : (i size : ℕ) (into : List ℕ) (R S T : Tale → Tale → Type 0) (o m n : Option Tale) → Goes R o m → Goes S m n
     → IfSome n (λ t. IsConsistent t × (length t.start ≡ size)) → i < size → IfSome n (λ t. into ≡ get_or t.seen i [])
-    → ((t u v : Tale) → R t u → S u v → ((b : List ℕ) → last v i ≡ Some b → into ≡ b) → T t v) → Goes T o n
+    → ((t u v : Tale) → R t u → S u v → ((b : List ℕ) → latest v i ≡ Some b → into ≡ b) → T t v) → Goes T o n
 goes_read i size into R S T None None None r s law within reads step = tt
 goes_read i size into R S T None None (Some v) r s law within reads step = s
 goes_read i size into R S T None (Some u) n r s law within reads step = absurd r
@@ -75,7 +75,7 @@ start_size o n t law is = (subst (λ x. IfSome x (λ t. IsConsistent t × (lengt
 -- what a read gives: the page's last bytes, where it has them
 pub read_gives : (i size : ℕ) (into : List ℕ) (S : Tale → Tale → Type 0) (o n : Option Tale) → ((t u : Tale) → S t u → Adds [] t u) → Goes S o n
     → IfSome n (λ t. IsConsistent t × (length t.start ≡ size)) → i < size → IfSome n (λ t. into ≡ get_or t.seen i [])
-    → IfSome o (λ t. (b : List ℕ) → last t i ≡ Some b → into ≡ b)
+    → IfSome o (λ t. (b : List ℕ) → latest t i ≡ Some b → into ≡ b)
 read_gives i size into S None n adds goes law within reads = tt
 read_gives i size into S (Some t) None adds goes law within reads = absurd goes
 read_gives i size into S (Some t) (Some u) adds goes law within reads = λ b is.

@@ -4,9 +4,9 @@ use Rattle.quilt_world.specs.Disk.{Pages, Log, CanLeave}
 use Rattle.quilt_world.specs.PageBytes.{last_bytes, fixed_bytes}
 use Rattle.quilt_world.specs.Tale.{Tale, IsSameFile}
 
--- the page's last bytes
-abbrev pub last : Tale → ℕ → Option (List ℕ)
-last t i = last_bytes t.start t.log i
+-- the page's latest bytes, synced or not; none where it is torn
+abbrev pub latest : Tale → ℕ → Option (List ℕ)
+latest t i = last_bytes t.start t.log i
 
 -- the page's bytes in each image that a stop may leave
 abbrev pub fixed : Tale → ℕ → Option (List ℕ)

@@ -1,5 +1,5 @@
 ghost use Rattle.std.specs.Prelude.{◌≡◌, ◌↔◌, ℕ, ◌+◌, ◌*◌, ◌<◌, ◌≤◌, IsTrue, length, slice_index, EachIndex, MatchOption};
-ghost use Rattle.quilt_world.specs.Home.{label};
+ghost use Rattle.quilt_world.specs.Home.{file_label};
 
 /// The bytes of a page.
 pub const PAGE_SIZE: usize = 4096;
@@ -79,7 +79,7 @@ fn is_zeros(bytes: &[u8]) -> bool
 
 /// Whether the page is the label.
 pub fn is_label(page: &[u8; 4096]) -> bool
-    ensures { IsTrue result ↔ (page.now ≡ label) }
+    ensures { IsTrue result ↔ (page.now ≡ file_label) }
 {
     let bytes: &[u8] = page;
     begins(&bytes[..15], &LABEL) && is_zeros(&bytes[15..])

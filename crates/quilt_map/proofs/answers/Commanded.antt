@@ -17,7 +17,7 @@ use Rattle.quilt_world.specs.Causes.{Rose}
 use Rattle.quilt_world.specs.Tale.{Tale, IsConsistent, Goes}
 use Rattle.quilt_world.specs.declared.disk.Disk as disk
 use Rattle.quilt_world.proofs.StopLaws.{since_weaker}
-use Rattle.quilt_words.specs.Fitting.{IsFitting}
+use Rattle.quilt_words.specs.Table.{IsFitting}
 use Rattle.quilt_words.specs.Forms.{Spelled}
 use Rattle.quilt_words.proofs.SpelledLaws.{spelled_fits}
 use Rattle.quilt_words.specs.declared.command.Command.{Command}
@@ -44,7 +44,7 @@ use Rattle.quilt_map.specs.declared.session.Session.{Session}
 use Rattle.quilt_map.proofs.answers.Answered.{format_is, keeps_at, warm_at}
 use Rattle.quilt_map.proofs.answers.Asked.{if_ok, if_err}
 use Rattle.quilt_map.proofs.states.Keeping.{book_idle, book_leaves, book_stands}
-use Rattle.quilt_map.proofs.answers.Orderly.{quiet_none, refused_after}
+use Rattle.quilt_map.proofs.answers.Orderly.{asks_only, gives_else, quiet_none, refused_after}
 use Rattle.quilt_map.proofs.states.Going.{goes_of}
 use Rattle.quilt_map.proofs.states.Moving.{IsLawful}
 
@@ -73,19 +73,6 @@ damaged_of At (Err e) h = λ page is s at. h s at page is
 device_of : {T : Type 0} (before now : ℕ) (r : Result T Stop) → HasStopCause before now r → IfErr r (λ stop. stop ≡ stops.Device → Rose before now)
 device_of before now (Ok x) h = tt
 device_of before now (Err e) h = λ is. h.device (ap Err is)
-
--- a command that gives an edition does not go back, and asks nothing
-gives_else : (c : Command) → gives_edition c ≡ true → (goes_back c ≡ false) × (asks c ≡ false)
-gives_else commands.Publish gives = (refl, refl)
-gives_else commands.Upgrade gives = (refl, refl)
-gives_else c gives = absurd (both_ways (gives_edition c) refl gives)
-
--- a command that only asks gives no edition and does not go back
-asks_only : (c : Command) → asks c ≡ true → (gives_edition c ≡ false) × (goes_back c ≡ false)
-asks_only commands.Publish is = absurd (both_ways false refl is)
-asks_only commands.Upgrade is = absurd (both_ways false refl is)
-asks_only commands.Revert is = absurd (both_ways false refl is)
-asks_only c is = (refl, refl)
 
 -- what a command has that is spelled is of the format and the level of the work, and so of the last edition
 module _ {W : Type 0} {D : disk.Ghosts W} where

@@ -11,7 +11,8 @@ use Rattle.quilt_types.specs.Layers.{Layer, Region, Grid, IsGrid, colours}
 use Rattle.quilt_world.specs.declared.disk.Disk as disk
 use Rattle.quilt_words.specs.declared.command.Command.{Command}
 use Rattle.quilt_words.specs.declared.command.Command.TheVariants as commands
-use Rattle.quilt_words.specs.Fitting.{IsFitting, IsColour}
+use Rattle.quilt_words.specs.Fitting.{IsColour}
+use Rattle.quilt_words.specs.Table.{IsFitting}
 use Rattle.quilt_blocks.specs.Raster.{Raster}
 use Rattle.quilt_overlay.specs.Combining.{numbers_of}
 use Rattle.quilt_region.specs.Regions.{HasRegion}

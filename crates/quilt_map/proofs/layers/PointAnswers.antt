@@ -22,7 +22,6 @@ use Rattle.quilt_map.specs.Making.{AnsweredBy, layer_placed}
 use Rattle.quilt_map.specs.PointLayers.{IsNoPoints, points_put, points_del}
 use Rattle.quilt_map.specs.declared.session.Session.{Session}
 use Rattle.quilt_map.proofs.answers.Answered.{IsBodyOf}
-use Rattle.quilt_map.proofs.answers.Asks.{Asks, alone}
 use Rattle.quilt_map.proofs.answers.FirstTests.{points_refused, first_true, first_false}
 use Rattle.quilt_map.proofs.answers.Outcomes.{nothing_done}
 use Rattle.quilt_map.proofs.answers.Placing.{placed_within, answered_by}
@@ -64,23 +63,6 @@ module _ (s : State) (a : List ℕ) where
   unfolding answer
   within_refused w code first =
       first (window_outside s w ∷ []) (told s (map point_line (filter (λ e. in_window w e.0) (finmap.entries (points_in (layer s a))))))
-
-  -- ---- what is answered without a change
-  pub find_asks : (p : Pixel) → Asks s (commands.Find a p)
-  unfolding answer
-  find_asks p = record {
-    nothing = alone s (unknown s a ∷ unless_points s a ∷ outside s p ∷ (is_none (finmap.get (points_in (layer s a)) p), no.Absent) ∷ [])
-        (decimal (unwrap_or (finmap.get (points_in (layer s a)) p) 0) ∷ []);
-    forward = refl;
-  }
-
-  pub within_asks : (w : Window) → Asks s (commands.Within a w)
-  unfolding answer
-  within_asks w = record {
-    nothing = alone s (unknown s a ∷ unless_points s a ∷ window_outside s w ∷ [])
-        (map point_line (filter (λ e. in_window w e.0) (finmap.entries (points_in (layer s a)))));
-    forward = refl;
-  }
 
   -- ---- a layer of points
   module _ (capacity : ℕ) (points : PointMap) (got : finmap.get s.work a ≡ Some (Points capacity points)) where

@@ -1,6 +1,6 @@
 -- What a command that measures a region layer is answered.
 use Rattle.std.specs.Prelude.{decimal}
-use Rattle.std.proofs.Common.{◌≡◌, ℕ, false, not, List, [], ◌∷◌, Option, Some, is_none, refl, sym, ◌∙◌, ap}
+use Rattle.std.proofs.Common.{◌≡◌, ℕ, true, not, List, [], ◌∷◌, Option, Some, IfSome, is_none, refl, sym, ◌∙◌, ap, subst}
 use Rattle.std.specs.FinMap as finmap
 use Rattle.quilt_types.specs.declared.code.Code.{Code}
 use Rattle.quilt_types.specs.declared.code.Code.TheVariants as no
@@ -16,36 +16,29 @@ use Rattle.quilt_map.specs.Asking.{IsRegionAt, IsRefusedFirst}
 use Rattle.quilt_map.specs.Measuring.{layer_measured, measured}
 use Rattle.quilt_replies.specs.Runs.{text_of}
 use Rattle.quilt_map.specs.Sessions.{IsAtState, told_of, tree_in}
-use Rattle.quilt_map.specs.Steps.{goes_back}
+use Rattle.quilt_map.specs.Steps.{asks}
 use Rattle.quilt_map.specs.declared.session.Session.{Session}
 use Rattle.quilt_map.proofs.answers.Answered.{IsBodyOf, raster_is}
-use Rattle.quilt_map.proofs.answers.Asks.{Asks, alone}
-use Rattle.quilt_map.proofs.answers.Outcomes.{nothing_done}
 
 -- the measure of the layer
 abbrev measuring : State → Command → List ℕ → Outcome
 measuring s command name = unless (unknown s name ∷ unless_region s name ∷ []) s (answers.told s (decimal (measured command s.last.level (grid s name)) ∷ []))
 
-measure_is : (s : State) (command : Command) (name : List ℕ) → layer_measured command ≡ Some name → answer s command ≡ measuring s command name
+-- what a command that measures answers, with no word of the others but of one, by which all are told apart
+measure_at : (s : State) (command : Command) → IfSome (layer_measured command) (λ name. answer s command ≡ measuring s command name)
 unfolding answer
-measure_is s (commands.Area a c) name is = let same : a ≡ name = cc in ap (λ (x : List ℕ). measuring s (commands.Area a c) x) same
-measure_is s (commands.Perimeter a c) name is = let same : a ≡ name = cc in ap (λ (x : List ℕ). measuring s (commands.Perimeter a c) x) same
-measure_is s command name is = cc
+measure_at s commands.Layers = tt
+measure_at s command = search
 
-measure_forward : (command : Command) (name : List ℕ) → layer_measured command ≡ Some name → goes_back command ≡ false
-measure_forward (commands.Area a c) name is = refl
-measure_forward (commands.Perimeter a c) name is = refl
-measure_forward command name is = cc
+measure_is : (s : State) (command : Command) (name : List ℕ) → layer_measured command ≡ Some name → answer s command ≡ measuring s command name
+measure_is s command name is =
+    subst (λ (o : Option (List ℕ)). IfSome o (λ a. answer s command ≡ measuring s command a)) is (measure_at s command)
+
+pub measured_asks : (command : Command) (name : List ℕ) → layer_measured command ≡ Some name → asks command ≡ true
+measured_asks commands.Layers name is = refl
+measured_asks command name is = search
 
 module _ (command : Command) (name : List ℕ) (is : layer_measured command ≡ Some name) where
-  pub measure_asks : (s : State) → Asks s command
-  measure_asks s =
-      let e = measure_is s command name is in record {
-        nothing = e ∙ alone s (unknown s name ∷ unless_region s name ∷ []) (decimal (measured command s.last.level (grid s name)) ∷ [])
-            ∙ ap (λ (o : Outcome). nothing_done s o.reply) (sym e);
-        forward = measure_forward command name is;
-      }
-
   pub measure_refused : (s : State) (code : Code) → IsRefusedFirst s name code → (answer s command).reply ≡ Refused code
   measure_refused s code first =
       ap (λ (o : Outcome). o.reply) (measure_is s command name is) ∙ first [] (answers.told s (decimal (measured command s.last.level (grid s name)) ∷ []))

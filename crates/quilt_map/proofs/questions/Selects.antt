@@ -9,7 +9,7 @@ use Rattle.quilt_types.specs.Layers.{Layer, Region, Lines, SegMap, BlockSet, Gri
 use Rattle.quilt_types.specs.Segments.{nearest}
 use Rattle.quilt_types.specs.Crossings.{crossings}
 use Rattle.quilt_types.specs.Ranking.{ranked}
-use Rattle.quilt_words.specs.Fitting.{IsFitting}
+use Rattle.quilt_words.specs.Table.{IsFitting}
 use Rattle.quilt_words.specs.declared.command.Command.{Command}
 use Rattle.quilt_words.specs.declared.command.Command.TheVariants as commands
 use Rattle.quilt_world.specs.Tale.{Goes}
@@ -20,8 +20,7 @@ use Rattle.quilt_replies.specs.declared.reply.Reply as replies
 use Rattle.quilt_map.specs.LineLayers.{IsNoLines}
 use Rattle.quilt_map.specs.Selecting.{layer_asked, is_place, AsksSome, nearest_reply, selected, selected_over, HasFound, IsAnswered, pages_for_answer}
 use Rattle.quilt_map.specs.Selecting.{AreNotLinesAndRegion, AreNotLines, crossed}
-use Rattle.quilt_map.specs.Steps.{goes_back}
-use Rattle.quilt_map.proofs.answers.Asks.{Asks, alone_reply}
+use Rattle.quilt_map.specs.Steps.{asks}
 use Rattle.quilt_map.proofs.answers.Outcomes.{nothing_done}
 
 -- ---- what the definition answers
@@ -55,23 +54,11 @@ ask_is s (commands.Rank l at k) name is =
     ∙ ap (λ (x : List ℕ). asking s (commands.Rank l at k) x) same
 ask_is s command name is = cc
 
-ask_forward : (command : Command) (name : List ℕ) → layer_asked command ≡ Some name → goes_back command ≡ false
-ask_forward (commands.Cross l w) name is = refl
-ask_forward (commands.Clip l w) name is = refl
-ask_forward (commands.Nearest l at) name is = refl
-ask_forward (commands.Rank l at k) name is = refl
-ask_forward command name is = cc
+pub lines_asked : (command : Command) (name : List ℕ) → layer_asked command ≡ Some name → asks command ≡ true
+lines_asked commands.Layers name is = refl
+lines_asked command name is = search
 
 module _ (command : Command) (name : List ℕ) (is : layer_asked command ≡ Some name) (s : State) where
-  pub ask_asks : Asks s command
-  ask_asks =
-      let e = ask_is s command name is in record {
-        nothing = e ∙ alone_reply s (unknown s name ∷ unless_lines s name ∷ (not (is_place s.last.level command), no.Outside) ∷ [])
-            (selected command (segs_in (layer s name)))
-            ∙ ap (λ (o : Outcome). nothing_done s o.reply) (sym e);
-        forward = ask_forward command name is;
-      }
-
   reply_is : (answer s command).reply ≡ (asking s command name).reply
   reply_is = ap (λ (o : Outcome). o.reply) (ask_is s command name is)
 
@@ -115,14 +102,6 @@ module _ (s : State) (l a : List ℕ) where
   unfolding answer
   over_is = refl
 
-  pub over_asks : Asks s (commands.Over l a)
-  over_asks = record {
-    nothing = over_is ∙ alone_reply s (unknown s l ∷ unknown s a ∷ unless_lines s l ∷ unless_region s a ∷ [])
-        (selected_over s.last.level (grid s a) (segs_in (layer s l)))
-        ∙ ap (λ (o : Outcome). nothing_done s o.reply) (sym over_is);
-    forward = refl;
-  }
-
   pub over_refused : (code : Code) → AreNotLinesAndRegion s l a code → (answer s (commands.Over l a)).reply ≡ Refused code
   over_refused code first = ap (λ (o : Outcome). o.reply) over_is ∙ first [] (nothing_done s (selected_over s.last.level (grid s a) (segs_in (layer s l))))
 
@@ -145,14 +124,6 @@ module _ (s : State) (l m : List ℕ) where
       let pairs = crossings (segs_in (layer s l)) (segs_in (layer s m)) in
       ap (λ (o : Outcome). unless (unknown s l ∷ unknown s m ∷ unless_lines s l ∷ unless_lines s m ∷ []) s o)
       (last_case s (nat_lt 1000000 (length pairs)) no.Many (map pair_line pairs))
-
-  pub crossings_asks : Asks s (commands.Crossings l m)
-  crossings_asks = record {
-    nothing = crossings_are ∙ alone_reply s (unknown s l ∷ unknown s m ∷ unless_lines s l ∷ unless_lines s m ∷ [])
-        (crossed (segs_in (layer s l)) (segs_in (layer s m)))
-        ∙ ap (λ (o : Outcome). nothing_done s o.reply) (sym crossings_are);
-    forward = refl;
-  }
 
   pub crossings_refused : (code : Code) → AreNotLines s l m code → (answer s (commands.Crossings l m)).reply ≡ Refused code
   crossings_refused code first = ap (λ (o : Outcome). o.reply) crossings_are ∙ first [] (nothing_done s (crossed (segs_in (layer s l)) (segs_in (layer s m))))

@@ -10,7 +10,7 @@ use Rattle.quilt_map.proofs.answers.Answered.{level_is, test_at, catalog_as, kee
 use Rattle.quilt_map.proofs.answers.Asked.{if_ok, if_err}
 use Rattle.quilt_map.proofs.answers.Asks.{asked_here, asked_on}
 use Rattle.quilt_map.proofs.plans.LinePlans.{found_lines}
-use Rattle.quilt_map.proofs.questions.Selects.{ask_asks, ask_refused, ask_outside, ask_done, ask_reads}
+use Rattle.quilt_map.proofs.questions.Selects.{lines_asked, ask_refused, ask_outside, ask_done, ask_reads}
 use Rattle.quilt_map.proofs.session.Session.ask_lines.Goals as goal
 
 pub returns-in-Err-clause-answer : goal.returns-in-Err-clause-answer
@@ -18,7 +18,7 @@ returns-in-Err-clause-answer g c = λ s at.
     let old = c.args.self.now in
     let command = c.args.command.now in
     let name = c.args.name.now in
-    asked_here {D = g.W.Disk} s command (ask_asks command name c.requires.asks s) old at old.warm (reply.No c.in-Err.code)
+    asked_here {D = g.W.Disk} s command (lines_asked command name c.requires.asks) old at old.warm (reply.No c.in-Err.code)
     (ask_refused command name c.requires.asks s c.in-Err.code
     (c.in-Err.ensures.refused s at.work.numbers (catalog_as {D = g.W.Disk} old s at c.entries.result.now c.entries.ensures.entries)))
 
@@ -31,7 +31,7 @@ returns-then-not-has_place-clause-answer g c = λ s at.
     let command = c.args.command.now in
     let name = c.args.name.now in
     let found = found_lines {D = g.W.Disk} old s at name c.in-Ok.layer c.entries.result.now c.entries.ensures.entries c.in-Ok.ensures.found in
-    asked_here {D = g.W.Disk} s command (ask_asks command name c.requires.asks s) old at old.warm (reply.No no.Outside)
+    asked_here {D = g.W.Disk} s command (lines_asked command name c.requires.asks) old at old.warm (reply.No no.Outside)
     (ask_outside command name c.requires.asks s c.in-Ok.layer.threshold found.segs found.cover found.is.got
     (test_at (λ n. is_place n command) c.head.result.level s.last.level c.has_place.result false
     (ap (λ (h : Head). h.level) c.head.ensures.work ∙ level_is {D = g.W.Disk} old s at) c.has_place.ensures c.if-not-has_place.true))
@@ -49,7 +49,7 @@ returns-else-not-has_place-clause-answer g c =
     let inside = test_at (λ n. is_place n command) c.head.result.level s.last.level c.has_place.result true
     (ap (λ (h : Head). h.level) c.head.ensures.work ∙ level_is {D = g.W.Disk} old s at) c.has_place.ensures c.if-not-has_place.false in
     let done = ask_done command name c.requires.asks s c.in-Ok.layer.threshold found.segs found.cover found.is.got inside in
-    asked_on {D = g.W.Disk} s command (ask_asks command name c.requires.asks s) old at c.select_in.new.book old.warm given c.select_in.ensures.still
+    asked_on {D = g.W.Disk} s command (lines_asked command name c.requires.asks) old at c.select_in.new.book old.warm given c.select_in.ensures.still
     (g.met.W.Disk.is_consistent c.select_in.new.book.world)
     (subst (λ (r : answers.Reply). Tells given r) (sym done) (tells found.segs found.cover found.holds))) c.select_in.ensures.reply
 

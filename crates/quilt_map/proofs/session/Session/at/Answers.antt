@@ -18,14 +18,14 @@ use Rattle.quilt_node.specs.declared.head.Head.{Head}
 use Rattle.quilt_words.specs.declared.command.Command.TheVariants as commands
 use Rattle.quilt_replies.specs.Answers.{answer}
 use Rattle.quilt_map.proofs.answers.Answered.{text_tells, at_refused, at_outside, at_body, level_is, test_at, catalog_as, keeps_here, has_region, has_number}
-use Rattle.quilt_map.proofs.answers.Asks.{asked_here, asked_on, at_asks}
+use Rattle.quilt_map.proofs.answers.Asks.{asked_here, asked_on}
 use Rattle.quilt_map.proofs.session.Session.at.Goals as goal
 
 pub returns-then-not-has_pixel-clause-answer : goal.returns-then-not-has_pixel-clause-answer
 returns-then-not-has_pixel-clause-answer g c = λ s at.
     let old = c.args.self.now in
     let region = c.in-Ok.ensures.found s.work at.work.numbers (catalog_as {D = g.W.Disk} old s at c.entries.result.now c.entries.ensures.entries) in
-    asked_here {D = g.W.Disk} s (commands.At c.args.name.now c.args.at) (at_asks s c.args.name.now c.args.at) old at old.warm (reply.No no.Outside)
+    asked_here {D = g.W.Disk} s (commands.At c.args.name.now c.args.at) refl old at old.warm (reply.No no.Outside)
     (at_outside s c.args.name.now region.grid region.got c.args.at
     (test_at (λ n. is_pixel n c.args.at) c.head.result.level s.last.level c.has_pixel.result false
     (ap (λ (h : Head). h.level) c.head.ensures.work ∙ level_is {D = g.W.Disk} old s at) c.has_pixel.ensures c.if-not-has_pixel.true))
@@ -35,7 +35,7 @@ returns-then-not-has_pixel-clause-keeps g c = keeps_here {D = g.W.Disk} c.args.s
 
 pub returns-in-Err-clause-answer : goal.returns-in-Err-clause-answer
 returns-in-Err-clause-answer g c = λ s at.
-    asked_here {D = g.W.Disk} s (commands.At c.args.name.now c.args.at) (at_asks s c.args.name.now c.args.at) c.args.self.now at c.args.self.now.warm (reply.No c.in-Err.code)
+    asked_here {D = g.W.Disk} s (commands.At c.args.name.now c.args.at) refl c.args.self.now at c.args.self.now.warm (reply.No c.in-Err.code)
     (at_refused s c.args.name.now c.args.at c.in-Err.code
     (c.in-Err.ensures.refused s at.work.numbers (catalog_as {D = g.W.Disk} c.args.self.now s at c.entries.result.now c.entries.ensures.entries)))
 
@@ -59,7 +59,7 @@ returns-in-Ok-number_text-clause-answer g c = λ s at.
     let region = c.in-Ok.ensures.found s.work at.work.numbers (catalog_as {D = g.W.Disk} old s at c.entries.result.now c.entries.ensures.entries) in
     let inside = test_at (λ n. is_pixel n c.args.at) c.head.result.level s.last.level c.has_pixel.result true
     (ap (λ (h : Head). h.level) c.head.ensures.work ∙ level_is {D = g.W.Disk} old s at) c.has_pixel.ensures c.if-not-has_pixel.false in
-    asked_on {D = g.W.Disk} s (commands.At name c.args.at) (at_asks s name c.args.at) old at c.read_colour.new.book old.warm
+    asked_on {D = g.W.Disk} s (commands.At name c.args.at) refl old at c.read_colour.new.book old.warm
     (reply.Ok c.in-Ok-number_text.text) c.read_colour.ensures.still (g.met.W.Disk.is_consistent c.read_colour.new.book.world)
     (text_tells ((answer s (commands.At name c.args.at)).reply) c.in-Ok-number_text.text
     (at_body {D = g.W.Disk} old s at name c.in-Ok.number region c.args.at c.in_ok-colour-in-Ok.colour.0 c.from.result inside

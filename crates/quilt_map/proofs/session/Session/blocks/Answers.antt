@@ -8,13 +8,13 @@ use Rattle.quilt_map.specs.Asking.{reads_in}
 use Rattle.quilt_map.proofs.questions.Costs.{blocks_cost}
 use Rattle.quilt_map.proofs.answers.Answered.{blocks_unknown, level_is, catalog_as, keeps_here}
 use Rattle.quilt_map.proofs.answers.Asked.{if_ok}
-use Rattle.quilt_map.proofs.answers.Asks.{asked_here, told_on, blocks_asks}
+use Rattle.quilt_map.proofs.answers.Asks.{asked_here, told_on}
 use Rattle.quilt_map.proofs.questions.Counts.{under_there, under_number, blocks_body}
 use Rattle.quilt_map.proofs.session.Session.blocks.Goals as goal
 
 pub returns-in-None-clause-answer : goal.returns-in-None-clause-answer
 returns-in-None-clause-answer g c = λ s at.
-    asked_here {D = g.W.Disk} s (commands.Blocks c.args.name.now) (blocks_asks s c.args.name.now) c.args.self.now at c.args.self.now.warm (reply.No no.Unknown)
+    asked_here {D = g.W.Disk} s (commands.Blocks c.args.name.now) refl c.args.self.now at c.args.self.now.warm (reply.No no.Unknown)
     (blocks_unknown s c.args.name.now
     (c.in-None.ensures.none refl s.work at.work.numbers (catalog_as {D = g.W.Disk} c.args.self.now s at c.entries.result.now c.entries.ensures.entries)))
 
@@ -37,7 +37,7 @@ returns-in_ok-counts-in-Some-clause-answer g c =
     let old = c.args.self.now in
     let name = c.args.name.now in
     let some = c.in-Some in
-    told_on {D = g.W.Disk} (commands.Blocks name) (λ s. blocks_asks s name) old c.count_blocks.new.book old.warm c.blocks_text.result c.told.result
+    told_on {D = g.W.Disk} (commands.Blocks name) refl old c.count_blocks.new.book old.warm c.blocks_text.result c.told.result
     c.count_blocks.ensures.still (g.met.W.Disk.is_consistent c.count_blocks.new.book.world) c.told.ensures.text (λ s at.
     let under = some.ensures.some s.work at.work.numbers (catalog_as {D = g.W.Disk} old s at c.entries.result.now c.entries.ensures.entries) in
     if_ok _ _ c.blocks_text.result (λ t h.

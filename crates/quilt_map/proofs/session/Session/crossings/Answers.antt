@@ -15,7 +15,7 @@ use Rattle.quilt_map.proofs.answers.Asked.{if_ok, if_err, still_both}
 use Rattle.quilt_map.proofs.answers.Asks.{asked_here, asked_on}
 use Rattle.quilt_map.proofs.plans.LinePlans.{found_lines}
 use Rattle.quilt_map.proofs.states.Moving.{with_book}
-use Rattle.quilt_map.proofs.questions.Selects.{crossings_asks, crossings_refused, crossings_done}
+use Rattle.quilt_map.proofs.questions.Selects.{crossings_refused, crossings_done}
 use Rattle.quilt_map.proofs.questions.ShownLines.{ends_at}
 use Rattle.quilt_map.proofs.session.Session.crossings.Goals as goal
 
@@ -24,7 +24,7 @@ returns-in-Err-clause-answer g c = λ s at.
     let old = c.args.self.now in
     let l = c.args.l.now in
     let m = c.args.m.now in
-    asked_here {D = g.W.Disk} s (commands.Crossings l m) (crossings_asks s l m) old at old.warm (reply.No c.in-Err.code)
+    asked_here {D = g.W.Disk} s (commands.Crossings l m) refl old at old.warm (reply.No c.in-Err.code)
     (crossings_refused s l m c.in-Err.code
     (c.in-Err.ensures.refused s at.work.numbers (catalog_as {D = g.W.Disk} old s at c.entries.result.now c.entries.ensures.entries)))
 
@@ -65,7 +65,7 @@ returns-then-eq-clause-answer g c =
     let got = subst (λ (x : List ℕ). finmap.get s.work x ≡ Some (Lines t one.segs one.cover)) ((bytes_eq-Decides l m).0 same) one.is.got in
     let listed = c.in_ok-a-in-Ok.ensures.segments one.segs one.cover one.holds in
     let last = c.read_segments.new.book in
-    asked_on {D = g.W.Disk} s (commands.Crossings l m) (crossings_asks s l m) old at last old.warm given c.read_segments.ensures.still
+    asked_on {D = g.W.Disk} s (commands.Crossings l m) refl old at last old.warm given c.read_segments.ensures.still
     (g.met.W.Disk.is_consistent last.world)
     (subst (λ (r : answers.Reply). Tells given r) (sym (crossings_done s l m t t one.segs one.segs one.cover one.cover one.is.got got))
     (tells one.segs one.segs (sym (c.items.ensures ∙ listed)) (sym (c.items-then-eq.ensures ∙ listed)))))
@@ -91,7 +91,7 @@ returns-else-eq-clause-answer g c =
     let first = sym (c.in_ok-a-in-Ok.ensures.segments one.segs one.cover one.holds) in
     let last = c.crossed_with.new.book in
     let done = crossings_done s l m c.in-Ok.first.threshold c.in-Ok.second.threshold one.segs two.segs one.cover two.cover one.is.got two.is.got in
-    let then = asked_on {D = g.W.Disk} s (commands.Crossings l m) (crossings_asks s l m) mid there last old.warm given c.crossed_with.ensures.still
+    let then = asked_on {D = g.W.Disk} s (commands.Crossings l m) refl mid there last old.warm given c.crossed_with.ensures.still
     (g.met.W.Disk.is_consistent last.world)
     (subst (λ (r : answers.Reply). Tells given r) (sym done) (tells one.segs two.segs two.cover first two.holds)) in
     record { tells = then.tells; at = then.at; count = then.count }) c.crossed_with.ensures.reply

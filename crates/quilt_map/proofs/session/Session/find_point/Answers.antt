@@ -1,4 +1,4 @@
-use Rattle.std.proofs.Common.{true, false, sym, ◌∙◌, ap}
+use Rattle.std.proofs.Common.{refl, true, false, sym, ◌∙◌, ap}
 use Rattle.std.proofs.lemmas.Result.{err_from_is_err_and}
 use Rattle.quilt_types.specs.Plane.{is_pixel}
 use Rattle.quilt_types.specs.declared.code.Code.TheVariants as no
@@ -8,7 +8,7 @@ use Rattle.quilt_replies.specs.declared.reply.Reply.TheVariants as reply
 use Rattle.quilt_map.proofs.answers.Answered.{level_is, test_at, catalog_as, keeps_here}
 use Rattle.quilt_map.proofs.answers.Asked.{if_ok}
 use Rattle.quilt_map.proofs.answers.Asks.{asked_here, asked_on, told_on}
-use Rattle.quilt_map.proofs.layers.PointAnswers.{find_asks, find_refused, find_outside, find_absent, find_body}
+use Rattle.quilt_map.proofs.layers.PointAnswers.{find_refused, find_outside, find_absent, find_body}
 use Rattle.quilt_map.proofs.plans.PointPlans.{found_points}
 use Rattle.quilt_map.proofs.session.Session.find_point.Goals as goal
 
@@ -16,7 +16,7 @@ pub returns-in-Err-clause-answer : goal.returns-in-Err-clause-answer
 returns-in-Err-clause-answer g c = λ s at.
     let old = c.args.self.now in
     let name = c.args.name.now in
-    asked_here {D = g.W.Disk} s (commands.Find name c.args.at) (find_asks s name c.args.at) old at old.warm (reply.No c.in-Err.code)
+    asked_here {D = g.W.Disk} s (commands.Find name c.args.at) refl old at old.warm (reply.No c.in-Err.code)
     (find_refused s name c.args.at c.in-Err.code
     (c.in-Err.ensures.refused s at.work.numbers (catalog_as {D = g.W.Disk} old s at c.entries.result.now c.entries.ensures.entries)))
 
@@ -28,7 +28,7 @@ returns-then-not-has_pixel-clause-answer g c = λ s at.
     let old = c.args.self.now in
     let name = c.args.name.now in
     let found = found_points {D = g.W.Disk} old s at name c.in-Ok.layer c.entries.result.now c.entries.ensures.entries c.in-Ok.ensures.found in
-    asked_here {D = g.W.Disk} s (commands.Find name c.args.at) (find_asks s name c.args.at) old at old.warm (reply.No no.Outside)
+    asked_here {D = g.W.Disk} s (commands.Find name c.args.at) refl old at old.warm (reply.No no.Outside)
     (find_outside s name c.in-Ok.layer.bucket found.points found.is.got c.args.at
     (test_at (λ n. is_pixel n c.args.at) c.head.result.level s.last.level c.has_pixel.result false
     (ap (λ (h : Head). h.level) c.head.ensures.work ∙ level_is {D = g.W.Disk} old s at) c.has_pixel.ensures c.if-not-has_pixel.true))
@@ -51,7 +51,7 @@ returns-in-None-clause-answer g c = λ s at.
     let name = c.args.name.now in
     let found = found_points {D = g.W.Disk} old s at name c.in-Ok.layer c.entries.result.now c.entries.ensures.entries c.in-Ok.ensures.found in
     let none = sym (c.in_ok-read_label-in-Ok.ensures.label found.points found.holds) ∙ c.in-None.is in
-    asked_on {D = g.W.Disk} s (commands.Find name c.args.at) (find_asks s name c.args.at) old at c.read_label.new.book old.warm
+    asked_on {D = g.W.Disk} s (commands.Find name c.args.at) refl old at c.read_label.new.book old.warm
     (reply.No no.Absent) c.read_label.ensures.still (g.met.W.Disk.is_consistent c.read_label.new.book.world)
     (find_absent s name c.in-Ok.layer.bucket found.points found.is.got c.args.at
     (test_at (λ n. is_pixel n c.args.at) c.head.result.level s.last.level c.has_pixel.result true
@@ -61,7 +61,7 @@ pub returns-in-Some-clause-answer : goal.returns-in-Some-clause-answer
 returns-in-Some-clause-answer g c =
     let old = c.args.self.now in
     let name = c.args.name.now in
-    told_on {D = g.W.Disk} (commands.Find name c.args.at) (λ s. find_asks s name c.args.at) old c.read_label.new.book old.warm c.number_text.result
+    told_on {D = g.W.Disk} (commands.Find name c.args.at) refl old c.read_label.new.book old.warm c.number_text.result
     c.told.result c.read_label.ensures.still (g.met.W.Disk.is_consistent c.read_label.new.book.world) c.told.ensures.text (λ s at.
     let found = found_points {D = g.W.Disk} old s at name c.in-Ok.layer c.entries.result.now c.entries.ensures.entries c.in-Ok.ensures.found in
     let some = sym (c.in_ok-read_label-in-Ok.ensures.label found.points found.holds) ∙ c.in-Some.is in

@@ -1,14 +1,15 @@
+use Rattle.std.proofs.Common.{refl}
 use Rattle.std.proofs.lemmas.Result.{err_from_is_err_and}
 use Rattle.quilt_replies.specs.declared.reply.Reply.TheVariants as reply
 use Rattle.quilt_words.specs.declared.command.Command.TheVariants as commands
 use Rattle.quilt_map.proofs.answers.Answered.{leaves_refused, leaves_body, catalog_as, keeps_here, has_region, has_number}
-use Rattle.quilt_map.proofs.answers.Asks.{asked_here, told_on, leaves_asks}
+use Rattle.quilt_map.proofs.answers.Asks.{asked_here, told_on}
 use Rattle.quilt_map.proofs.answers.Asked.{if_ok}
 use Rattle.quilt_map.proofs.session.Session.leaves.Goals as goal
 
 pub returns-in-Err-clause-answer : goal.returns-in-Err-clause-answer
 returns-in-Err-clause-answer g c = λ s at.
-    asked_here {D = g.W.Disk} s (commands.Leaves c.args.name.now) (leaves_asks s c.args.name.now) c.args.self.now at c.args.self.now.warm
+    asked_here {D = g.W.Disk} s (commands.Leaves c.args.name.now) refl c.args.self.now at c.args.self.now.warm
     (reply.No c.in-Err.code)
     (leaves_refused s c.args.name.now c.in-Err.code
     (c.in-Err.ensures.refused s at.work.numbers (catalog_as {D = g.W.Disk} c.args.self.now s at c.entries.result.now c.entries.ensures.entries)))
@@ -30,7 +31,7 @@ pub returns-in_ok-list-in-Ok-clause-answer : goal.returns-in_ok-list-in-Ok-claus
 returns-in_ok-list-in-Ok-clause-answer g c =
     let old = c.args.self.now in
     let name = c.args.name.now in
-    told_on {D = g.W.Disk} (commands.Leaves name) (λ s. leaves_asks s name) old c.read_region.new.book old.warm c.leaves_text.result c.told.result
+    told_on {D = g.W.Disk} (commands.Leaves name) refl old c.read_region.new.book old.warm c.leaves_text.result c.told.result
     c.read_region.ensures.still (g.met.W.Disk.is_consistent c.read_region.new.book.world) c.told.ensures.text (λ s at.
     let region = c.in-Ok.ensures.found s.work at.work.numbers (catalog_as {D = g.W.Disk} old s at c.entries.result.now c.entries.ensures.entries) in
     if_ok _ _ c.leaves_text.result

@@ -3,7 +3,7 @@ use Rattle.quilt_replies.specs.declared.reply.Reply.TheVariants as reply
 use Rattle.quilt_map.proofs.answers.Answered.{catalog_as, keeps_here, has_region, has_number}
 use Rattle.quilt_map.proofs.answers.Asks.{asked_here, told_on}
 use Rattle.quilt_map.proofs.answers.Asked.{if_ok}
-use Rattle.quilt_map.proofs.questions.Measures.{measure_asks, measure_refused, measure_body}
+use Rattle.quilt_map.proofs.questions.Measures.{measured_asks, measure_refused, measure_body}
 use Rattle.quilt_map.proofs.session.Session.measure.Goals as goal
 
 pub returns-in-Err-clause-answer : goal.returns-in-Err-clause-answer
@@ -11,7 +11,7 @@ returns-in-Err-clause-answer g c = λ s at.
     let old = c.args.self.now in
     let command = c.args.command.now in
     let name = c.args.name.now in
-    asked_here {D = g.W.Disk} s command (measure_asks command name c.requires s) old at old.warm (reply.No c.in-Err.code)
+    asked_here {D = g.W.Disk} s command (measured_asks command name c.requires) old at old.warm (reply.No c.in-Err.code)
     (measure_refused command name c.requires s c.in-Err.code
     (c.in-Err.ensures.refused s at.work.numbers (catalog_as {D = g.W.Disk} old s at c.entries.result.now c.entries.ensures.entries)))
 
@@ -33,7 +33,7 @@ returns-in_ok-list-in-Ok-clause-answer g c =
     let old = c.args.self.now in
     let command = c.args.command.now in
     let name = c.args.name.now in
-    told_on {D = g.W.Disk} command (measure_asks command name c.requires) old c.read_region.new.book old.warm c.number_text.result c.told.result
+    told_on {D = g.W.Disk} command (measured_asks command name c.requires) old c.read_region.new.book old.warm c.number_text.result c.told.result
     c.read_region.ensures.still (g.met.W.Disk.is_consistent c.read_region.new.book.world) c.told.ensures.text (λ s at.
     let region = c.in-Ok.ensures.found s.work at.work.numbers (catalog_as {D = g.W.Disk} old s at c.entries.result.now c.entries.ensures.entries) in
     if_ok _ _ c.number_text.result

@@ -12,7 +12,7 @@ use Rattle.quilt_map.proofs.answers.Asked.{if_ok, if_err, still_both}
 use Rattle.quilt_map.proofs.answers.Asks.{asked_here, asked_on}
 use Rattle.quilt_map.proofs.plans.LinePlans.{found_lines}
 use Rattle.quilt_map.proofs.states.Moving.{with_book}
-use Rattle.quilt_map.proofs.questions.Selects.{over_asks, over_refused, over_done}
+use Rattle.quilt_map.proofs.questions.Selects.{over_refused, over_done}
 use Rattle.quilt_map.proofs.session.Session.over.Goals as goal
 
 pub returns-in-Err-clause-answer : goal.returns-in-Err-clause-answer
@@ -20,7 +20,7 @@ returns-in-Err-clause-answer g c = λ s at.
     let old = c.args.self.now in
     let l = c.args.l.now in
     let a = c.args.a.now in
-    asked_here {D = g.W.Disk} s (commands.Over l a) (over_asks s l a) old at old.warm (reply.No c.in-Err.code)
+    asked_here {D = g.W.Disk} s (commands.Over l a) refl old at old.warm (reply.No c.in-Err.code)
     (over_refused s l a c.in-Err.code
     (c.in-Err.ensures.refused s at.work.numbers (catalog_as {D = g.W.Disk} old s at c.entries.result.now c.entries.ensures.entries)))
 
@@ -52,7 +52,7 @@ returns-in_ok-list-in-Ok-clause-answer g c =
     let same = ap (λ (x : Raster). selected_over x.level x.grid found.segs) raster in
     let last = c.select_over.new.book in
     let done = over_done s l a c.in-Ok.layer.threshold found.segs found.cover region.grid found.is.got region.got in
-    let then = asked_on {D = g.W.Disk} s (commands.Over l a) (over_asks s l a) mid there last old.warm given c.select_over.ensures.still
+    let then = asked_on {D = g.W.Disk} s (commands.Over l a) refl mid there last old.warm given c.select_over.ensures.still
     (g.met.W.Disk.is_consistent last.world)
     (subst (λ (r : answers.Reply). Tells given r) (same ∙ sym done) (tells found.segs found.cover found.holds)) in
     record { tells = then.tells; at = then.at; count = then.count }) c.select_over.ensures.reply

@@ -1,4 +1,4 @@
-use Rattle.std.proofs.Common.{true, false, ◌∙◌, ap}
+use Rattle.std.proofs.Common.{refl, true, false, ◌∙◌, ap}
 use Rattle.std.proofs.lemmas.Result.{err_from_is_err_and}
 use Rattle.quilt_types.specs.Plane.{is_window}
 use Rattle.quilt_types.specs.declared.code.Code.TheVariants as no
@@ -10,7 +10,7 @@ use Rattle.quilt_map.proofs.questions.Costs.{within_cost}
 use Rattle.quilt_map.proofs.answers.Answered.{level_is, test_at, catalog_as, keeps_here}
 use Rattle.quilt_map.proofs.answers.Asked.{if_ok}
 use Rattle.quilt_map.proofs.answers.Asks.{asked_here, told_on}
-use Rattle.quilt_map.proofs.layers.PointAnswers.{within_asks, within_refused, within_outside, within_body}
+use Rattle.quilt_map.proofs.layers.PointAnswers.{within_refused, within_outside, within_body}
 use Rattle.quilt_map.proofs.plans.PointPlans.{found_points}
 use Rattle.quilt_map.proofs.session.Session.points_within.Goals as goal
 
@@ -18,7 +18,7 @@ pub returns-in-Err-clause-answer : goal.returns-in-Err-clause-answer
 returns-in-Err-clause-answer g c = λ s at.
     let old = c.args.self.now in
     let name = c.args.name.now in
-    asked_here {D = g.W.Disk} s (commands.Within name c.args.w) (within_asks s name c.args.w) old at old.warm (reply.No c.in-Err.code)
+    asked_here {D = g.W.Disk} s (commands.Within name c.args.w) refl old at old.warm (reply.No c.in-Err.code)
     (within_refused s name c.args.w c.in-Err.code
     (c.in-Err.ensures.refused s at.work.numbers (catalog_as {D = g.W.Disk} old s at c.entries.result.now c.entries.ensures.entries)))
 
@@ -30,7 +30,7 @@ returns-then-not-has_window-clause-answer g c = λ s at.
     let old = c.args.self.now in
     let name = c.args.name.now in
     let found = found_points {D = g.W.Disk} old s at name c.in-Ok.layer c.entries.result.now c.entries.ensures.entries c.in-Ok.ensures.found in
-    asked_here {D = g.W.Disk} s (commands.Within name c.args.w) (within_asks s name c.args.w) old at old.warm (reply.No no.Outside)
+    asked_here {D = g.W.Disk} s (commands.Within name c.args.w) refl old at old.warm (reply.No no.Outside)
     (within_outside s name c.in-Ok.layer.bucket found.points found.is.got c.args.w
     (test_at (λ n. is_window n c.args.w) c.head.result.level s.last.level c.has_window.result false
     (ap (λ (h : Head). h.level) c.head.ensures.work ∙ level_is {D = g.W.Disk} old s at) c.has_window.ensures c.if-not-has_window.true))
@@ -51,7 +51,7 @@ pub returns-in_ok-list-in-Ok-clause-answer : goal.returns-in_ok-list-in-Ok-claus
 returns-in_ok-list-in-Ok-clause-answer g c =
     let old = c.args.self.now in
     let name = c.args.name.now in
-    told_on {D = g.W.Disk} (commands.Within name c.args.w) (λ s. within_asks s name c.args.w) old c.read_points.new.book old.warm
+    told_on {D = g.W.Disk} (commands.Within name c.args.w) refl old c.read_points.new.book old.warm
     c.points_text.result c.told.result c.read_points.ensures.still (g.met.W.Disk.is_consistent c.read_points.new.book.world) c.told.ensures.text (λ s at.
     let found = found_points {D = g.W.Disk} old s at name c.in-Ok.layer c.entries.result.now c.entries.ensures.entries c.in-Ok.ensures.found in
     let all = c.in_ok-list-in-Ok.ensures.points found.points found.holds in

@@ -1,6 +1,6 @@
 use Rattle.quilt_types.specs.declared.code.Code.TheVariants as no
 use Rattle.quilt_replies.specs.declared.reply.Reply.TheVariants as reply
-use Rattle.std.proofs.Common.{true, false, ◌∙◌, ap}
+use Rattle.std.proofs.Common.{refl, true, false, ◌∙◌, ap}
 use Rattle.std.proofs.lemmas.Result.{err_from_is_err_and}
 use Rattle.quilt_types.specs.Plane.{is_window}
 use Rattle.quilt_node.specs.declared.head.Head.{Head}
@@ -8,13 +8,13 @@ use Rattle.quilt_words.specs.declared.command.Command.TheVariants as commands
 use Rattle.quilt_map.specs.Asking.{reads_in}
 use Rattle.quilt_map.proofs.questions.Costs.{show_cost}
 use Rattle.quilt_map.proofs.answers.Answered.{show_refused, show_outside, show_body, level_is, test_at, catalog_as, keeps_here, has_region, has_number}
-use Rattle.quilt_map.proofs.answers.Asks.{asked_here, told_on, show_asks}
+use Rattle.quilt_map.proofs.answers.Asks.{asked_here, told_on}
 use Rattle.quilt_map.proofs.answers.Asked.{if_ok}
 use Rattle.quilt_map.proofs.session.Session.show.Goals as goal
 
 pub returns-in-Err-clause-answer : goal.returns-in-Err-clause-answer
 returns-in-Err-clause-answer g c = λ s at.
-    asked_here {D = g.W.Disk} s (commands.Show c.args.name.now c.args.w) (show_asks s c.args.name.now c.args.w)
+    asked_here {D = g.W.Disk} s (commands.Show c.args.name.now c.args.w) refl
     c.args.self.now at c.args.self.now.warm (reply.No c.in-Err.code)
     (show_refused s c.args.name.now c.args.w c.in-Err.code
     (c.in-Err.ensures.refused s at.work.numbers (catalog_as {D = g.W.Disk} c.args.self.now s at c.entries.result.now c.entries.ensures.entries)))
@@ -36,7 +36,7 @@ pub returns-in_ok-list-in-Ok-clause-answer : goal.returns-in_ok-list-in-Ok-claus
 returns-in_ok-list-in-Ok-clause-answer g c =
     let old = c.args.self.now in
     let name = c.args.name.now in
-    told_on {D = g.W.Disk} (commands.Show name c.args.w) (λ s. show_asks s name c.args.w) old c.read_part.new.book old.warm c.show_text.result
+    told_on {D = g.W.Disk} (commands.Show name c.args.w) refl old c.read_part.new.book old.warm c.show_text.result
     c.told.result c.read_part.ensures.still (g.met.W.Disk.is_consistent c.read_part.new.book.world) c.told.ensures.text (λ s at.
     let region = c.in-Ok.ensures.found s.work at.work.numbers (catalog_as {D = g.W.Disk} old s at c.entries.result.now c.entries.ensures.entries) in
     if_ok _ _ c.show_text.result
@@ -50,7 +50,7 @@ pub returns-then-not-has_window-clause-answer : goal.returns-then-not-has_window
 returns-then-not-has_window-clause-answer g c = λ s at.
     let old = c.args.self.now in
     let region = c.in-Ok.ensures.found s.work at.work.numbers (catalog_as {D = g.W.Disk} old s at c.entries.result.now c.entries.ensures.entries) in
-    asked_here {D = g.W.Disk} s (commands.Show c.args.name.now c.args.w) (show_asks s c.args.name.now c.args.w) old at old.warm (reply.No no.Outside)
+    asked_here {D = g.W.Disk} s (commands.Show c.args.name.now c.args.w) refl old at old.warm (reply.No no.Outside)
     (show_outside s c.args.name.now region.grid region.got c.args.w
     (test_at (λ n. is_window n c.args.w) c.head-head.result.level s.last.level c.has_window.result false
     (ap (λ (h : Head). h.level) c.head-head.ensures.work ∙ level_is {D = g.W.Disk} old s at) c.has_window.ensures c.if-not-has_window.true))
