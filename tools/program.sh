@@ -192,15 +192,46 @@ restore_older() {
     ! is_as_recorded "$older" "$older.digest" || { mv "$older" "$here/$built" && mv "$older.digest" "$record"; }
 }
 
-# lanes EACH: how many processes work side by side: RT_JOBS, or so many for each processor, as far as memory has 4 GB for a large crate and 2 GB for each of
-# the others.
+# lanes: how many processes work side by side: RT_JOBS, or one for each processor, as far as memory has 2 GB for each and 2 GB besides
 lanes() {
-    most=$(($1 * $(nproc 2>/dev/null || echo 1)))
+    most=$(nproc 2>/dev/null || echo 1)
     lanes=$(awk '$1 == "MemAvailable:" { print int(($2 / 1000000 - 2) / 2) }' /proc/meminfo 2>/dev/null)
     lanes=${lanes:-1}
     [ "$lanes" -le "$most" ] || lanes=$most
     [ "$lanes" -ge 1 ] || lanes=1
     echo "${RT_JOBS:-$lanes}"
+}
+
+# Copies the sources of the program alone to a repository of their own, with no tests and no edits.
+lay_out() {
+    rm -rf "$side"
+    mkdir -p "$side/.git" "$side/crates" || return
+    lines_of_crates >"$side/crates.txt"
+    cp "$here/HANDLES" "$side" 2>/dev/null
+    for name in $(stands_on quilt); do
+        mkdir "$side/crates/$name" || return
+        for part in src specs proofs args stdin stdout status data; do
+            [ ! -e "$here/crates/$name/$part" ] || cp -R "$here/crates/$name/$part" "$side/crates/$name" || return
+        done
+    done
+}
+
+# Whether rt keeps what it proved beside the kit, where other runs of it find it.
+keeps() {
+    store=$(dirname "$(dirname "$(rt doc)")")/rattle-kept
+    mkdir -p "$store" 2>/dev/null && [ -O "$store" ]
+}
+
+# below NAME: what this crate stands on, one a line
+below() {
+    stands_on "$1" | grep -v -x "$1"
+}
+
+# free_of NAME: those of the crates on standard input that do not stand on this one, and are not it
+free_of() {
+    while read -r name; do
+        stands_on "$name" | grep -q -x "$1" || echo "$name"
+    done
 }
 
 # begin WORDS..: runs these words, and notes under which number
@@ -209,146 +240,86 @@ begin() {
     sh -c 'echo "$$" >>"$1"; shift; exec "$@"' sh "$out/rt.pid" "$@"
 }
 
-# Two crates that most of the others wait for, or lie below. Each takes minutes, and among those that rt builds side by side it would have one process.
-tree=quilt_btree
-map=quilt_map
-
-# below NAME: what this crate stands on, one a line
-below() {
-    stands_on "$1" | grep -v -x "$1"
-}
-
-# free_of NAME: those of the crates on standard input that do not stand on this one
-free_of() {
-    while read -r crate; do
-        stands_on "$crate" | grep -q -x "$1" || echo "$crate"
+# ahead NAME..: proves these crates one after the other, with as many processes as rt gives to one that no other is proved beside
+ahead() {
+    for name in "$@"; do
+        # shellcheck disable=SC2086 # no word, or two
+        begin env -u RT_JOBS -u CI $lets_through rt ci "$name" || return
     done
 }
 
-# write_below FOLDER NAME..: makes a crate there that stands on these, since rt builds those side by side that lie below one crate. It has nothing of its own.
-write_below() {
-    below=$1
-    shift
-    rm -rf "$below"
-    mkdir -p "$below/src" || return
-    printf '//! Stands on what is to be built side by side.\n#![tactic(auto)]\n' >"$below/src/lib.rt"
-    {
-        echo 'rattle_crate(name = "what_lies_below", deps = ['
-        printf '    "//crates/%s",\n' "$@"
-        echo '])'
-    } >"$below/BUILD.bazel"
-}
-
-# side_by_side LANES NAME..: proves these crates and what they stand on. A crate that waits for another keeps its place among those that are worked on, so
-# there should be two for each processor.
-side_by_side() {
-    side=$1
-    shift
-    write_below "$out/below" "$@" || return
-    (cd "$out/below" && begin rt all check --jobs "$side")
-}
-
-# beside NAME OTHER..: proves this crate with several processes, and the others side by side meanwhile; or the one after the other, where there is one lane,
-# or no way to let an interrupt come to what a shell has put into the background.
+# beside AHEAD NAME..: proves the crates of the first word ahead, and the others side by side behind them. Each run takes what another has proved, and waits for
+# what another is proving, for which one process more is at work.
 beside() {
-    wide=$1 every=$(lanes 2)
+    # shellcheck disable=SC2086 # the names of crates are plain words
+    ahead $1 &
+    chain=$!
     shift
-    if [ "$every" -eq 1 ] || ! env --default-signal=INT true 2>/dev/null; then
-        side_by_side "$every" "$@" && (cd "$here/crates/$wide" && begin rt lib --jobs "$(lanes 1)")
-        return
-    fi
-    part=$(((every * 3 + 7) / 8))
-    (cd "$here/crates/$wide" && begin env --default-signal=INT rt lib --jobs "$part") &
-    lib=$!
-    side_by_side $((every - part)) "$@"
-    others=$?
-    wait "$lib" && return "$others"
+    RT_JOBS=$(($(lanes) + 1)) begin env -u CI nice -n 5 rt ci "$@"
+    status=$?
+    wait "$chain" && return "$status"
 }
 
-# Proves what the program stands on, but for the last crates, in an order that keeps the processors busy: what lies below the tree; the tree, and all that
-# need not wait for it; what else lies below the map; and the map, and all that need not wait for that.
-prove_below() {
+# Proves most of what the program stands on. Where crates can be proved side by side, rt gives one process to each, and would end with the longest chain of
+# them alone. So the largest of that chain are proved ahead, with several processes: the tree and the lines, beside all that lies below the session, and then
+# the session, beside what need not lie there.
+prove_most() {
+    # A shell has what it puts into the background pass over interrupts, which have to come to rt.
+    lets_through=
+    ! env --default-signal=INT true 2>/dev/null || lets_through='env --default-signal=INT'
     # shellcheck disable=SC2046 # the names of crates are plain words
-    side_by_side "$(lanes 2)" $(below "$tree") &&
-        beside "$tree" $(below "$map" | free_of "$tree") &&
-        side_by_side "$(lanes 2)" $(below "$map") &&
-        beside "$map" $(stands_on quilt | free_of "$map")
+    beside 'quilt_btree quilt_lines' $(below quilt_map | free_of quilt_lines) && beside quilt_map $(stands_on quilt | free_of quilt_map)
 }
 
-# Proves and builds the program; where memory does not last for that, one crate after the other. The program runs at the end: it ends in status 6 for a map
-# that is not there, in which rt itself never ends.
+# Proves and builds the program, as the gate does: rt runs it too. Where one process is to work at a time, or rt keeps nothing, one run proves all.
 prove() {
-    jobs=$(lanes 1)
+    side=$out/side
     (
-        # (no gate runs over a folder that such a crate was left in)
-        trap 'rm -rf "$out/below"' EXIT
+        # (no gate runs over a folder in which such a copy was left)
+        trap 'rm -rf "$side"' EXIT
         trap 'exit 130' INT HUP TERM
-        if [ -d "$here/crates/$tree" ]; then
-            prove_below
-        else
-            # shellcheck disable=SC2046 # the names of crates are plain words
-            side_by_side "$(lanes 2)" $(below quilt)
-        fi
+        lay_out && cd "$side" || exit
+        [ "$(lanes)" -eq 1 ] || ! stands_on quilt | grep -q -x quilt_map || ! keeps || prove_most || exit
+        begin rt ci && mv crates/quilt/out/quilt "$here/$built"
     )
-    is_well=$?
-    if [ "$is_well" -ne 0 ]; then
-        # (the log's last lines are on their way)
-        sleep 1
-        grep -q 'failed (-9)$' "$log" || return
-        echo 'launcher: memory was short; once more, one crate at a time'
-        jobs=1
-    fi
-    (cd "$here/crates/quilt" && begin rt run --jobs "$jobs" -- run out/no-such-map)
-    [ $? -eq 6 ]
 }
 
-# The crates that a log tells to be proved, one a line.
+# The crates that are told to be proved by what is said on standard input, one a line.
 proved_by() {
-    sed -n 's/^crate \([a-z0-9_]*\): .*/\1/p' "$1"
+    sed -n -E 's/^rt: ([a-z0-9_]+) (proved|is kept: .*)$/\1/p' | sort -u
 }
 
 # Reads what a build says, and tells how far it is, a line for each crate. Succeeds where the build does.
 tell_progress() {
     all=$(stands_on quilt | wc -l)
-    proved='' said=0 built_well=1
+    proved=' ' count=0 built_well=1
     while read -r word name rest; do
-        case $word in
-        crate)
-            proved="$proved ${name%:}"
-            count=$(stands_on "$proved" | wc -l)
-            [ -t 2 ] || [ "$count" -eq "$said" ] || echo "quilt: $count of $all crates proved" >&2
-            said=$count
+        case "$word $rest" in
+        'rt: proved' | 'rt: is kept: '*)
+            case $proved in *" $name "*) continue ;; esac
+            proved="$proved$name " count=$((count + 1))
+            [ -t 2 ] || echo "quilt: $count of $all crates proved" >&2
             ;;
-        ended) built_well=$name ;;
-        launcher:) echo "quilt: $name $rest" >&2 ;;
-        rt:) case $rest in *waiting*) echo "quilt: $name $rest" >&2 ;; esac ;;
+        'ended '*) built_well=$name ;;
         esac
     done
     return "$built_well"
 }
 
-# functions_so_far FILE: how many functions of how many are done, of the crate that is being proved at the end of what was said
-functions_so_far() {
-    tail -c 16384 "$1" 2>/dev/null | awk '/^crate |^== / { told = "" } /^so far: / { told = $3 " " $5 } END { if (told != "") print told }'
+# How many functions are told to be proved by what is said on standard input.
+functions_in() {
+    awk '/^logic=proved functions=/ { sub(/^functions=/, "", $2); all += $2 } END { print all + 0 }'
 }
 
-# The crates that are being proved by each rt of these numbers, in one line, and how many of their functions are done. Where rt works on several crates it
-# keeps what is said of one in a file without a name until that is done; of one crate it says so at once.
+# The crates that are being proved by each rt of these numbers, in one line.
 crates_under_way() {
     for number in "$@"; do
         # shellcheck disable=SC2013 # they are numbers in one line
         for child in $(cat "/proc/$number/task/"*/children 2>/dev/null); do
-            tr '\0' '\n' <"/proc/$child/cmdline" 2>/dev/null | sed -n '/^--crate-name$/{n;p;q;}'
+            # (it may have ended meanwhile)
+            { tr '\0' '\n' <"/proc/$child/cmdline"; } 2>/dev/null | sed -n '/^--crate-name$/{n;p;q;}'
         done
-    done | tr '\n' ' '
-    {
-        functions_so_far "$log"
-        for number in "$@"; do
-            for file in "/proc/$number/fd/"*; do
-                case $(readlink "$file") in *'(deleted)') functions_so_far "$file" ;; esac
-            done
-        done
-    } | awk '{ done += $1; all += $2 } END { if (all) print done " of " all }'
+    done | sort -u | paste -s -d ' '
 }
 
 # bar DONE ALL: twenty places, filled as far as it is done
@@ -362,11 +333,11 @@ watch() {
     began=$(date +%s)
     columns=$(stty size 2>/dev/null <&2 | cut -d ' ' -f 2)
     while kill -0 "$1" 2>/dev/null; do
-        count=$(stands_on "$(proved_by "$log" | tr '\n' ' ')" | wc -l)
+        count=$(proved_by <"$log" | wc -l)
         spent=$(($(date +%s) - began))
         # shellcheck disable=SC2046 # the numbers are plain words
-        line=$(printf 'quilt: [%s] %d:%02d, %d of %d crates, %s' "$(bar "$count" "$all")" $((spent / 60)) $((spent % 60)) \
-            "$count" "$all" "$(crates_under_way $(cat "$out/rt.pid" 2>/dev/null))")
+        line=$(printf 'quilt: [%s] %d:%02d, %d of %d crates, %d functions, %s' "$(bar "$count" "$all")" $((spent / 60)) $((spent % 60)) \
+            "$count" "$all" "$(functions_in <"$log")" "$(crates_under_way $(cat "$out/rt.pid" 2>/dev/null))")
         printf '\r%.*s\033[K' "$((${columns:-80} - 1))" "$line" >&2
         sleep 1
     done
@@ -375,7 +346,7 @@ watch() {
 # Says what a build that failed said last, and which kits it is about.
 tell_failure() {
     echo "quilt: the program was not built; $log says why, and ends in" >&2
-    grep -v -E '^([a-z0-9_]+: (ok|not run, since .*)|statements .*|ended 1)$' "$log" | tail -n 12 | sed 's/^/    /' >&2
+    grep -v -E '^(statements .*|library .*|rt: .* NOT PROVED: its library .*|rt: FAILED: .*|[0-9]+ passed, .*|ended [0-9]+)$' "$log" | tail -n 12 | sed 's/^/    /' >&2
     echo "quilt: the kit here is $kit, and the one last tried is $tried" >&2
     ! find_older || echo 'quilt: with --old as its first word it takes the program that worked before' >&2
     exit 126
@@ -446,7 +417,7 @@ tell_origin() {
         [ "$found" != "$released" ] || by=", which was built with $(word_of "$here/release/digests" kit)"
         echo "Program: $program, of these sources$by"
     else
-        echo "Program: none of these sources. The first call proves and builds it: 54 minutes of the processor, 23 on the clock where four are quiet, and"
-        echo "8 GB of disk, with 2 GB of memory for each processor and 2 GB more"
+        echo "Program: none of these sources. The first call proves and builds it, which took 98 minutes of the processor, 42 on the clock of four that did"
+        echo "other work too, and 2 GB of disk, with 2 GB of memory for each processor and 2 GB more"
     fi
 }
