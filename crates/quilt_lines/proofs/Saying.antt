@@ -1,46 +1,21 @@
 -- What records that were read say, one by one.
-use Rattle.std.proofs.Common.{◌≡◌, ◌≢◌, ℕ, List, [], ◌∷◌, ◌++◌, map, true, All, Option, Some, None, refl, sym, ◌∙◌, ap, subst, arith}
+use Rattle.std.proofs.Common.{◌≡◌, ℕ, List, [], ◌∷◌, ◌++◌, map, true, All, Option, Some, None, sym, ◌∙◌, ap}
 use Rattle.std.specs.List.{list_all}
 use Rattle.std.proofs.lemmas.List.{map-append}
 use Rattle.quilt_types.specs.declared.plane.Block.{Block}
 use Rattle.quilt_types.specs.declared.plane.Seg.{Seg}
-use Rattle.quilt_types.specs.declared.stop.Stop.{Stop}
-use Rattle.quilt_types.specs.declared.stop.Stop.TheVariants.{Device, Memory, Damaged}
 use Rattle.quilt_types.specs.Facts.{IsSegment}
 use Rattle.quilt_loc.proofs.Members.{list_all-at}
 use Rattle.quilt_record.specs.declared.key.Key.{Key}
 use Rattle.quilt_record.specs.declared.record.Record.{Record}
-use Rattle.quilt_store.specs.Stops.{IsNotDamage}
 use Rattle.quilt_btree.specs.declared.tree.Tree.{Tree}
-use Rattle.quilt_btree.specs.Damage.{NamesBad}
 use Rattle.quilt_btree.specs.Trees.{IsTree}
 use Rattle.quilt_btree.specs.Lists.{value_at_key, range_of, is_from_to}
-use Rattle.quilt_btree.specs.Stops.{NamesPage}
 use Rattle.quilt_spell.proofs.Spelling.{all_from}
 use Rattle.quilt_lines.specs.Layers.{fact_record}
 use Rattle.quilt_lines.specs.Reads.{segment_key, none_of}
 use Rattle.quilt_lines.specs.Said.{greatest, SaySegment, records_at, segment_records}
 use Rattle.quilt_lines.proofs.Keys.{range_alike}
-
--- an answer that names no page names none but 0
-pub sound_zero : (e : Stop) → IsNotDamage e → NamesPage 1 e
-sound_zero Device h = tt
-sound_zero Memory h = tt
-sound_zero (Damaged page) h = absurd (h page refl)
-
--- nor does one that names 0 alone
-pub zero_page : (e : Stop) → ((page : ℕ) → e ≡ Damaged page → page ≡ 0) → NamesPage 1 e
-zero_page Device h = tt
-zero_page Memory h = tt
-zero_page (Damaged page) h = let is = h page refl in omega arith
-
-pub tree_along : (old new : Option (List (List ℕ))) (tree : Tree) (rs : List Record) → new ≡ old → IsTree old tree rs → IsTree new tree rs
-tree_along old new tree rs e is = subst (λ (z : Option (List (List ℕ))). IsTree z tree rs) (sym e) is
-
--- a page that is bad in what a store told before, where it tells the same
-pub bad_along : (old new : Option (List (List ℕ))) (tree : Tree) (e : Stop) → new ≡ old
-    → (e ≢ Damaged 0 → NamesBad new tree.height tree.root e) → e ≢ Damaged 0 → NamesBad old tree.height tree.root e
-bad_along old new tree e is f ne = subst (λ (z : Option (List (List ℕ))). NamesBad z tree.height tree.root e) is (f ne)
 
 -- a record that says a segment under the key of an id
 pub segment_at : (n layer : ℕ) (rs : List Record) (id : ℕ) (key : Key) (v : List ℕ) (o : Option (List ℕ)) (said : ℕ × Seg) → key ≡ segment_key layer id

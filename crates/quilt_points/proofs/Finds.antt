@@ -10,8 +10,6 @@ use Rattle.std.proofs.lemmas.Option.{none-some, same_Some}
 use Rattle.quilt_types.specs.declared.plane.Pixel.{Pixel}
 use Rattle.quilt_types.specs.declared.plane.Block.{Block}
 use Rattle.quilt_types.specs.declared.plane.Point.{Point}
-use Rattle.quilt_types.specs.declared.stop.Stop.{Stop}
-use Rattle.quilt_types.specs.declared.stop.Stop.TheVariants.{Device, Memory, Damaged}
 use Rattle.quilt_types.specs.Plane.{side, in_block, is_pixel, pixel_cmp}
 use Rattle.quilt_types.specs.Layers.{PointMap}
 use Rattle.quilt_types.specs.Facts.{Fact, HoldsPoint, HoldsNoPoint, same_pixel}
@@ -25,12 +23,11 @@ use Rattle.quilt_record.specs.declared.key.Key.{Key}
 use Rattle.quilt_record.specs.declared.record.Record.{Record}
 use Rattle.quilt_record.specs.Records.{point_item}
 use Rattle.quilt_record.specs.Canonical.{IsRecordOf, point_fact}
-use Rattle.quilt_store.specs.Stops.{IsNotDamage}
 use Rattle.quilt_btree.specs.Lists.{value_in, value_at_key}
-use Rattle.quilt_btree.specs.Stops.{NamesPage}
 use Rattle.quilt_btree.specs.declared.tree.Tree.{Tree}
 use Rattle.quilt_btree.specs.Lists.{floor_of}
 use Rattle.quilt_btree.specs.Trees.{IsTree}
+pub use Rattle.quilt_btree.proofs.Stops.{zero_page, tree_along}
 use Rattle.quilt_spell.specs.Written.{by_key}
 use Rattle.quilt_points.proofs.Trees.{tree_rises}
 use Rattle.quilt_edits.proofs.Lookups.{find_away, find_at}
@@ -277,20 +274,6 @@ label_same points at read p e i =
 pub has_along : (old new : Option (List (List ℕ))) (t : Tree) (layer n capacity : ℕ) (points : PointMap) → new ≡ old
     → HasPoints old t layer n capacity points → HasPoints new t layer n capacity points
 has_along old new t layer n capacity points e h = subst (λ (z : Option (List (List ℕ))). HasPoints z t layer n capacity points) (sym e) h
-
-pub tree_along : (old new : Option (List (List ℕ))) (t : Tree) (rs : List Record) → new ≡ old → IsTree old t rs → IsTree new t rs
-tree_along old new t rs e is = subst (λ (z : Option (List (List ℕ))). IsTree z t rs) (sym e) is
-
--- an answer that names no page names none but 0
-pub zero_named : (e : Stop) → IsNotDamage e → NamesPage 1 e
-zero_named Device h = tt
-zero_named Memory h = tt
-zero_named (Damaged page) h = absurd (h page refl)
-
-pub zero_page : (e : Stop) → ((page : ℕ) → e ≡ Damaged page → page ≡ 0) → NamesPage 1 e
-zero_page Device zero = tt
-zero_page Memory zero = tt
-zero_page (Damaged page) zero = let is = zero page refl in omega arith
 
 -- ---- answers that may be none
 pub if_some_weaker : {X : Type 0} (o : Option X) (P Q : X → Type 0) → ((x : X) → P x → Q x) → IfSome o P → IfSome o Q

@@ -29,28 +29,19 @@ same_lanes (x ∷ xs) (y ∷ ys) e z zero lt = lane_same x y (mask_l (map (top 7
 same_lanes (x ∷ xs) (y ∷ ys) e z (suc k) lt =
     same_lanes xs ys (omega (arith, e)) (rest_same (top 7 (differs x y)) (mask_l (map (top 7) (zip2 differs xs ys))) z) k (omega (arith, lt))
 
--- the first byte of each pair, and the second
-high_at : (a b k : ℕ) → k < 8 → get_or (eight_pairs a b) (2 * k) 0 ≡ a
-high_at a b zero lt = refl
-high_at a b (suc zero) lt = refl
-high_at a b (suc (suc zero)) lt = refl
-high_at a b (suc (suc (suc zero))) lt = refl
-high_at a b (suc (suc (suc (suc zero)))) lt = refl
-high_at a b (suc (suc (suc (suc (suc zero))))) lt = refl
-high_at a b (suc (suc (suc (suc (suc (suc zero)))))) lt = refl
-high_at a b (suc (suc (suc (suc (suc (suc (suc zero))))))) lt = refl
-high_at a b (suc (suc (suc (suc (suc (suc (suc (suc k)))))))) lt = absurd (omega (arith, lt))
+-- so many pairs of bytes, and the two bytes of each
+abbrev pairs : (n a b : ℕ) → List ℕ
+pairs zero a b = []
+pairs (suc n) a b = a ∷ b ∷ pairs n a b
 
-low_at : (a b k : ℕ) → k < 8 → get_or (eight_pairs a b) (2 * k + 1) 0 ≡ b
-low_at a b zero lt = refl
-low_at a b (suc zero) lt = refl
-low_at a b (suc (suc zero)) lt = refl
-low_at a b (suc (suc (suc zero))) lt = refl
-low_at a b (suc (suc (suc (suc zero)))) lt = refl
-low_at a b (suc (suc (suc (suc (suc zero))))) lt = refl
-low_at a b (suc (suc (suc (suc (suc (suc zero)))))) lt = refl
-low_at a b (suc (suc (suc (suc (suc (suc (suc zero))))))) lt = refl
-low_at a b (suc (suc (suc (suc (suc (suc (suc (suc k)))))))) lt = absurd (omega (arith, lt))
+pair_at : (n a b k : ℕ) → k < n → (get_or (pairs n a b) (2 * k) 0 ≡ a) × (get_or (pairs n a b) (2 * k + 1) 0 ≡ b)
+pair_at zero a b k lt = absurd (omega (arith, lt))
+pair_at (suc n) a b zero lt = (refl, refl)
+pair_at (suc n) a b (suc k) lt =
+    let at = pair_at n a b k (omega (arith, lt)) in
+    let first : 2 * suc k ≡ suc (suc (2 * k)) = omega arith in
+    let second : 2 * suc k + 1 ≡ suc (suc (2 * k + 1)) = omega arith in
+    (ap (λ i. get_or (pairs (suc n) a b) i 0) first ∙ at.0, ap (λ i. get_or (pairs (suc n) a b) i 0) second ∙ at.1)
 
 -- eight colours are one where their bytes do not differ from those of eight pairs
 pub eight_are : (bytes : List ℕ) (from high low : ℕ) → 2 * from + 16 ≤ length bytes
@@ -67,10 +58,10 @@ eight_are bytes from high low room same k le lt =
     let within : j < 8 = omega (arith, le, lt) in
     let first : get_or bytes (2 * from + 2 * j) 0 ≡ high =
     sym (get_or-chunk (2 * from) 16 bytes (2 * j) 0 (omega (arith, within)))
-    ∙ same_lanes found (eight_pairs high low) long none (2 * j) (omega (arith, within, long)) ∙ high_at high low j within in
+    ∙ same_lanes found (eight_pairs high low) long none (2 * j) (omega (arith, within, long)) ∙ (pair_at 8 high low j within).0 in
     let second : get_or bytes (2 * from + (2 * j + 1)) 0 ≡ low =
     sym (get_or-chunk (2 * from) 16 bytes (2 * j + 1) 0 (omega (arith, within)))
-    ∙ same_lanes found (eight_pairs high low) long none (2 * j + 1) (omega (arith, within, long)) ∙ low_at high low j within in
+    ∙ same_lanes found (eight_pairs high low) long none (2 * j + 1) (omega (arith, within, long)) ∙ (pair_at 8 high low j within).1 in
     let even : 2 * from + 2 * j ≡ 2 * k = omega (arith, at) in
     let odd : 2 * from + (2 * j + 1) ≡ 2 * k + 1 = omega (arith, at) in
     get_or-colours_of_bytes bytes k (omega (arith, room, lt))

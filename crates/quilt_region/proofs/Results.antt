@@ -1,13 +1,10 @@
 -- What is answered of the records of a layer, said of a tree that has the layer.
-use Rattle.std.proofs.Common.{◌≡◌, ◌≢◌, refl, ℕ, List, Option, Result, Ok, Err, IfOk, IfErr, ap, subst, arith}
+use Rattle.std.proofs.Common.{◌≡◌, ℕ, List, Option, Result, Ok, Err, IfOk, IfErr}
 use Rattle.quilt_types.specs.declared.stop.Stop.{Stop}
-use Rattle.quilt_types.specs.declared.stop.Stop.TheVariants.{Device, Memory, Damaged}
 use Rattle.quilt_types.specs.Layers.{Grid, IsGrid}
 use Rattle.quilt_record.specs.declared.record.Record.{Record}
 use Rattle.quilt_blocks.specs.Raster.{Raster}
 use Rattle.quilt_btree.specs.declared.tree.Tree.{Tree}
-use Rattle.quilt_btree.specs.Damage.{NamesBad}
-use Rattle.quilt_btree.specs.Stops.{NamesPage}
 use Rattle.quilt_store.specs.Stops.{IsNotDamage}
 use Rattle.quilt_region.specs.Regions.{region_records, HasRegion}
 
@@ -22,29 +19,6 @@ module _ (told : Option (List (List ℕ))) (t : Tree) (layer n : ℕ) (items : L
       → IfErr r (λ e. (g : Grid) → HasRegion told t layer n g → IsNotDamage e)
   sound_whole (Ok l) f = f
   sound_whole (Err e) f = λ g h. f g (read g h)
-
--- what is no damage names no page but page 0
-pub sound_zero : (e : Stop) → IsNotDamage e → NamesPage 1 e
-sound_zero Device sound = tt
-sound_zero Memory sound = tt
-sound_zero (Damaged page) sound = absurd (sound page refl)
-
--- what says that no other page is named
-pub zero_named : (e : Stop) → ((page : ℕ) → e ≡ Damaged page → page ≡ 0) → NamesPage 1 e
-zero_named Device zero = tt
-zero_named Memory zero = tt
-zero_named (Damaged page) zero = let none : page ≡ 0 = zero page refl in omega arith
-
--- what names page 0 alone names no other page
-pub zero_bad : (e : Stop) (told : Option (List (List ℕ))) (height page : ℕ) → NamesPage 1 e → e ≢ Damaged 0 → NamesBad told height page e
-zero_bad Device told height page zero other = tt
-zero_bad Memory told height page zero other = tt
-zero_bad (Damaged q) told height page zero other = let none : q ≡ 0 = omega arith in absurd (other (ap Damaged none))
-
--- a page that was bad while the store told other pages of the same bytes
-pub bad_along : (old now : Option (List (List ℕ))) (t : Tree) (e : Stop) → now ≡ old → (e ≢ Damaged 0 → NamesBad now t.height t.root e)
-    → e ≢ Damaged 0 → NamesBad old t.height t.root e
-bad_along old now t e same bad other = subst (λ (told : Option (List (List ℕ))). NamesBad told t.height t.root e) same (bad other)
 
 -- whatever is answered
 pub if_ok : {T U : Type 0} (r : Result T U) (P : Type 0) → P → IfOk r (λ x. P)

@@ -1,5 +1,4 @@
 use Rattle.std.proofs.Common.{◌≡◌, ◌+◌, true, false, refl, sym, ◌∙◌, subst, arith}
-use Rattle.std.proofs.lemmas.Result.{err_from_is_err_and}
 use Rattle.quilt_types.specs.Quadtrees.{reach}
 use Rattle.quilt_lines.specs.Bounds.{is_met}
 use Rattle.quilt_lines.proofs.Sums.{reads_sum}
@@ -8,13 +7,13 @@ use Rattle.std.specs.Prelude.{IsSome}
 use Rattle.quilt_store.proofs.Reading.{only_reads_then, only_reads_err, only_reads_ok}
 use Rattle.quilt_lines.proofs.Lookups.{lines_along}
 use Rattle.quilt_lines.proofs.Options.{none_at, none_there}
-use Rattle.quilt_lines.proofs.Saying.{tree_along}
+use Rattle.quilt_btree.proofs.Handed.{handed_on}
+use Rattle.quilt_btree.proofs.Stops.{zero_handed}
 use Rattle.quilt_lines.proofs.addition.plan_add.Goals as goal
 
 pub returns-in_err-segment-clause-sound : goal.returns-in_err-segment-clause-sound
 returns-in_err-segment-clause-sound g c =
-    let p = err_from_is_err_and c.from_residual.result c.from_residual.ensures.1 in
-    rw (p.1, p.2) (λ segs cover h. c.in_err-segment.ensures.sound c.args.t segs cover h)
+    rw (handed_on c.from_residual.result c.from_residual.ensures.1) (λ segs cover h. c.in_err-segment.ensures.sound c.args.t segs cover h)
 
 pub returns-then-is_some-clause-none : goal.returns-then-is_some-clause-none
 returns-then-is_some-clause-none g c segs cover
@@ -25,8 +24,8 @@ returns-then-is_some-clause-none g c segs cover
 
 pub returns-in_err-edits-clause-sound : goal.returns-in_err-edits-clause-sound
 returns-in_err-edits-clause-sound g c =
-    let p = err_from_is_err_and c.from_residual-in_err-edits.result c.from_residual-in_err-edits.ensures.1 in
-    rw (p.1, p.2) (λ segs cover h. c.in_err-edits.ensures.sound segs cover (lines_along _ _ c.args.tree.now c.args.layer c.args.level c.args.t segs cover c.in_ok-segment.ensures.left.told h)
+    rw (handed_on c.from_residual-in_err-edits.result c.from_residual-in_err-edits.ensures.1)
+    (λ segs cover h. c.in_err-edits.ensures.sound segs cover (lines_along _ _ c.args.tree.now c.args.layer c.args.level c.args.t segs cover c.in_ok-segment.ensures.left.told h)
     (sym (c.in_ok-segment.ensures.segment c.args.t segs cover h) ∙ none_at c.in_ok-segment.field-0 c.if-is_some.ensures))
 
 pub returns-clause-plan : goal.returns-clause-plan
@@ -41,8 +40,8 @@ returns-clause-none g c segs cover h =
 
 pub returns-in_err-edits-clause-left : goal.returns-in_err-edits-clause-left
 returns-in_err-edits-clause-left g c =
-    let p = err_from_is_err_and c.from_residual-in_err-edits.result c.from_residual-in_err-edits.ensures.1 in
-    rw (p.1, p.2) (only_reads_err _ (only_reads_then _ g.met.S.PageStore.goes_on _ _ _ c.in_ok-segment.ensures.left c.in_err-edits.ensures.left))
+    rw (handed_on c.from_residual-in_err-edits.result c.from_residual-in_err-edits.ensures.1)
+    (only_reads_err _ (only_reads_then _ g.met.S.PageStore.goes_on _ _ _ c.in_ok-segment.ensures.left c.in_err-edits.ensures.left))
 
 pub returns-clause-left : goal.returns-clause-left
 returns-clause-left g c = only_reads_ok _ (only_reads_then _ g.met.S.PageStore.goes_on _ _ _ c.in_ok-segment.ensures.left c.in_ok-edits.ensures.left) _
@@ -55,5 +54,5 @@ returns-clause-reads g c segs cover h =
 
 pub returns-in_err-edits-clause-zero : goal.returns-in_err-edits-clause-zero
 returns-in_err-edits-clause-zero g c =
-    let p = err_from_is_err_and c.from_residual-in_err-edits.result c.from_residual-in_err-edits.ensures.1 in
-    rw (p.1, p.2) (λ rs is. c.in_err-edits.ensures.zero rs (tree_along _ _ c.args.tree.now rs c.in_ok-segment.ensures.left.told is))
+    zero_handed _ c.from_residual-in_err-edits.result c.from_residual-in_err-edits.ensures.1
+    c.args.tree.now c.in_ok-segment.ensures.left.told c.in_err-edits.ensures.zero

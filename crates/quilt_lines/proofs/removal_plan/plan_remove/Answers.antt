@@ -1,5 +1,4 @@
 use Rattle.std.proofs.Common.{◌≤◌, ◌+◌, refl, sym, ◌∙◌, subst, true≢false, arith}
-use Rattle.std.proofs.lemmas.Result.{err_from_is_err_and}
 use Rattle.std.specs.Prelude.{IsNone}
 use Rattle.std.specs.FinMap as finmap
 use Rattle.std.proofs.lemmas.Option.{same_Some}
@@ -11,13 +10,13 @@ use Rattle.quilt_lines.specs.Bounds.{is_met_above}
 use Rattle.quilt_lines.proofs.Sums.{reads_sum}
 use Rattle.quilt_lines.specs.Plans.{IsLinePlan}
 use Rattle.quilt_lines.proofs.Lookups.{lines_along}
-use Rattle.quilt_lines.proofs.Saying.{tree_along}
+use Rattle.quilt_btree.proofs.Handed.{handed_on}
+use Rattle.quilt_btree.proofs.Stops.{zero_handed}
 use Rattle.quilt_lines.proofs.removal_plan.plan_remove.Goals as goal
 
 pub returns-in_err-s-clause-sound : goal.returns-in_err-s-clause-sound
 returns-in_err-s-clause-sound g c =
-    let p = err_from_is_err_and c.from_residual.result c.from_residual.ensures.1 in
-    rw (p.1, p.2) (λ segs cover h. c.in_err-s.ensures.sound c.args.t segs cover h)
+    rw (handed_on c.from_residual.result c.from_residual.ensures.1) (λ segs cover h. c.in_err-s.ensures.sound c.args.t segs cover h)
 
 pub returns-in_default-clause-none : goal.returns-in_default-clause-none
 returns-in_default-clause-none g c segs cover h = (
@@ -28,8 +27,8 @@ returns-in_default-clause-none g c segs cover h = (
 
 pub returns-in_err-edits-clause-sound : goal.returns-in_err-edits-clause-sound
 returns-in_err-edits-clause-sound g c =
-    let p = err_from_is_err_and c.from_residual-in_err-edits.result c.from_residual-in_err-edits.ensures.1 in
-    rw (p.1, p.2) (λ segs cover h. c.in_err-edits.ensures.sound segs cover (lines_along _ _ c.args.tree.now c.args.layer c.args.level c.args.t segs cover c.in_ok-s.ensures.left.told h)
+    rw (handed_on c.from_residual-in_err-edits.result c.from_residual-in_err-edits.ensures.1)
+    (λ segs cover h. c.in_err-edits.ensures.sound segs cover (lines_along _ _ c.args.tree.now c.args.layer c.args.level c.args.t segs cover c.in_ok-s.ensures.left.told h)
     (sym (c.in_ok-s.ensures.segment c.args.t segs cover h) ∙ c.in-Some.is))
 
 pub returns-clause-plan : goal.returns-clause-plan
@@ -53,8 +52,8 @@ returns-clause-fewer g c segs cover h =
 
 pub returns-in_err-edits-clause-left : goal.returns-in_err-edits-clause-left
 returns-in_err-edits-clause-left g c =
-    let p = err_from_is_err_and c.from_residual-in_err-edits.result c.from_residual-in_err-edits.ensures.1 in
-    rw (p.1, p.2) (only_reads_err _ (only_reads_then _ g.met.S.PageStore.goes_on _ _ _ c.in_ok-s.ensures.left c.in_err-edits.ensures.left))
+    rw (handed_on c.from_residual-in_err-edits.result c.from_residual-in_err-edits.ensures.1)
+    (only_reads_err _ (only_reads_then _ g.met.S.PageStore.goes_on _ _ _ c.in_ok-s.ensures.left c.in_err-edits.ensures.left))
 
 pub returns-clause-left : goal.returns-clause-left
 returns-clause-left g c = only_reads_ok _ (only_reads_then _ g.met.S.PageStore.goes_on _ _ _ c.in_ok-s.ensures.left c.in_ok-edits.ensures.left) _
@@ -70,5 +69,5 @@ returns-clause-reads g c segs cover h s e =
 
 pub returns-in_err-edits-clause-zero : goal.returns-in_err-edits-clause-zero
 returns-in_err-edits-clause-zero g c =
-    let p = err_from_is_err_and c.from_residual-in_err-edits.result c.from_residual-in_err-edits.ensures.1 in
-    rw (p.1, p.2) (λ rs is. c.in_err-edits.ensures.zero rs (tree_along _ _ c.args.tree.now rs c.in_ok-s.ensures.left.told is))
+    zero_handed _ c.from_residual-in_err-edits.result c.from_residual-in_err-edits.ensures.1
+    c.args.tree.now c.in_ok-s.ensures.left.told c.in_err-edits.ensures.zero

@@ -1,17 +1,18 @@
 use Rattle.std.proofs.Common.{◌≡◌, ◌+◌, ◌*◌, ◌≤◌, List, All, length, sym, ◌∙◌, subst, arith, vec_len}
 use Rattle.quilt_record.specs.declared.record.Record.{Record}
 use Rattle.quilt_near.proofs.Telling.{tells_weaker}
-use Rattle.std.proofs.lemmas.Result.{IfOk-weaker, IfErr-weaker, err_from_is_err_and}
+use Rattle.std.proofs.lemmas.Result.{IfOk-weaker, IfErr-weaker}
 use Rattle.quilt_lines.proofs.Ranges.{segments_read}
-use Rattle.quilt_lines.proofs.Saying.{sound_zero, read_segments, all_of_layer}
+use Rattle.quilt_lines.proofs.Saying.{read_segments, all_of_layer}
 use Rattle.quilt_lines.specs.Said.{SaySegments}
+use Rattle.quilt_btree.proofs.Handed.{handed_on}
+use Rattle.quilt_btree.proofs.Stops.{sound_handed}
 use Rattle.quilt_btree.proofs.ways.Damage.{zero_named}
 use Rattle.quilt_lines.proofs.segments.scan.Goals as goal
 
 pub returns-in_err-records-clause-sound : goal.returns-in_err-records-clause-sound
 returns-in_err-records-clause-sound g c =
-    let p = err_from_is_err_and c.from_residual.result c.from_residual.ensures.1 in
-    rw (p.1, p.2) (λ t segs cover h. c.in_err-records.ensures.sound h.records h.is_tree)
+    rw (handed_on c.from_residual.result c.from_residual.ensures.1) (λ t segs cover h. c.in_err-records.ensures.sound h.records h.is_tree)
 
 pub returns-clause-segments : goal.returns-clause-segments
 returns-clause-segments g c =
@@ -28,9 +29,7 @@ returns-clause-sound g c =
     c.segment_key-low.ensures c.segment_key-high.ensures)) c.all_segments.ensures.sound
 
 pub returns-in_err-records-clause-zero : goal.returns-in_err-records-clause-zero
-returns-in_err-records-clause-zero g c =
-    let p = err_from_is_err_and c.from_residual.result c.from_residual.ensures.1 in
-    rw (p.1, p.2) (λ rs is. sound_zero _ (c.in_err-records.ensures.sound rs is))
+returns-in_err-records-clause-zero g c = sound_handed c.from_residual.result c.from_residual.ensures.1 c.in_err-records.ensures.sound
 
 pub returns-clause-zero : goal.returns-clause-zero
 returns-clause-zero g c = IfErr-weaker c.all_segments.result _ _ (λ e zero rs is. zero) c.all_segments.ensures.zero
@@ -54,8 +53,7 @@ returns-clause-reads g c =
 
 pub returns-in_err-records-clause-bad : goal.returns-in_err-records-clause-bad
 returns-in_err-records-clause-bad g c =
-    let p = err_from_is_err_and c.from_residual.result c.from_residual.ensures.1 in
-    rw (p.1, p.2) (λ ne. c.in_err-records.ensures.bad ne)
+    rw (handed_on c.from_residual.result c.from_residual.ensures.1) (λ ne. c.in_err-records.ensures.bad ne)
 
 pub returns-clause-bad : goal.returns-clause-bad
 returns-clause-bad g c =

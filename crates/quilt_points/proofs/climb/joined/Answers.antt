@@ -2,7 +2,6 @@ use Rattle.std.proofs.Common.{◌≡◌, ◌+◌, ◌*◌, ◌≤◌, true, [], 
 use Rattle.std.specs.FinMap as finmap
 use Rattle.std.proofs.lemmas.Bool.{cases_lt}
 use Rattle.std.proofs.lemmas.List.{get_or_default}
-use Rattle.std.proofs.lemmas.Result.{err_from_is_err_and}
 use Rattle.quilt_store.proofs.Reading.{only_reads_then, only_reads_same, read_on, only_reads_err, only_reads_ok}
 use Rattle.quilt_types.specs.declared.plane.Block.{Block}
 use Rattle.quilt_types.specs.declared.plane.Point.{Point}
@@ -13,14 +12,15 @@ use Rattle.quilt_loc.proofs.Nesting.{IsBlock-parent_of, side_pos}
 use Rattle.quilt_points.proofs.Quarters.{quarter_at}
 use Rattle.quilt_point_laws.specs.Laws.{AreIn}
 use Rattle.quilt_points.specs.Layers.{point_entries}
-use Rattle.quilt_points.proofs.Finds.{has_along, tree_along}
+use Rattle.quilt_points.proofs.Finds.{has_along}
 use Rattle.quilt_points.proofs.Singles.{spot_along}
 use Rattle.quilt_edits.proofs.Lists.{member_at}
 use Rattle.quilt_points.proofs.Unions.{AreOfAll, all_none}
 use Rattle.quilt_world.proofs.ReadCounts.{reads_none, reads_more}
 use Rattle.quilt_points.proofs.Bounds.{times_next, spared_next, spares, spared_here, spared_end}
 use Rattle.quilt_points.proofs.Ways.{way_next, way_all, way_fails, own_place}
-use Rattle.quilt_points.proofs.Damage.{bad_along}
+use Rattle.quilt_btree.proofs.Handed.{handed_on}
+use Rattle.quilt_btree.proofs.Stops.{zero_handed, bad_handed}
 use Rattle.quilt_points.proofs.climb.joined.Goals as goal
 
 pub quarters-q-items-requires-clause-valid : goal.quarters-q-items-requires-clause-valid
@@ -55,8 +55,8 @@ add_quarter-requires-clause-block g c =
 
 pub returns-in_err-add_quarter-clause-sound : goal.returns-in_err-add_quarter-clause-sound
 returns-in_err-add_quarter-clause-sound g c =
-    let p = err_from_is_err_and c.from_residual.result c.from_residual.ensures.1 in
-    rw (p.1, p.2) (λ points h. c.in_err-add_quarter.ensures.sound points (has_along _ _ c.args.tree.now c.args.layer.number c.args.layer.level c.args.layer.bucket points
+    rw (handed_on c.from_residual.result c.from_residual.ensures.1)
+    (λ points h. c.in_err-add_quarter.ensures.sound points (has_along _ _ c.args.tree.now c.args.layer.number c.args.layer.level c.args.layer.bucket points
     c.loop-q.invariant.left.told h))
 
 pub returns-then-not-branch-clause-none : goal.returns-then-not-branch-clause-none
@@ -112,8 +112,8 @@ returns-clause-all g c points p label h some way =
 
 pub returns-in_err-add_quarter-clause-left : goal.returns-in_err-add_quarter-clause-left
 returns-in_err-add_quarter-clause-left g c =
-    let p = err_from_is_err_and c.from_residual.result c.from_residual.ensures.1 in
-    rw (p.1, p.2) (only_reads_err _ (only_reads_then _ g.met.S.PageStore.goes_on _ _ _ c.loop-q.invariant.left c.in_err-add_quarter.ensures.left))
+    rw (handed_on c.from_residual.result c.from_residual.ensures.1)
+    (only_reads_err _ (only_reads_then _ g.met.S.PageStore.goes_on _ _ _ c.loop-q.invariant.left c.in_err-add_quarter.ensures.left))
 
 pub returns-then-not-branch-clause-left : goal.returns-then-not-branch-clause-left
 returns-then-not-branch-clause-left g c = only_reads_ok _ (only_reads_then _ g.met.S.PageStore.goes_on _ _ _ c.loop-q.invariant.left c.in_ok-add_quarter.ensures.left) _
@@ -145,10 +145,8 @@ returns-clause-reads g c =
 
 pub returns-in_err-add_quarter-clause-zero : goal.returns-in_err-add_quarter-clause-zero
 returns-in_err-add_quarter-clause-zero g c =
-    let p = err_from_is_err_and c.from_residual.result c.from_residual.ensures.1 in
-    rw (p.1, p.2) (λ rs is. c.in_err-add_quarter.ensures.zero rs (tree_along _ _ c.args.tree.now rs c.loop-q.invariant.left.told is))
+    zero_handed _ c.from_residual.result c.from_residual.ensures.1 c.args.tree.now c.loop-q.invariant.left.told c.in_err-add_quarter.ensures.zero
 
 pub returns-in_err-add_quarter-clause-bad : goal.returns-in_err-add_quarter-clause-bad
 returns-in_err-add_quarter-clause-bad g c =
-    let p = err_from_is_err_and c.from_residual.result c.from_residual.ensures.1 in
-    rw (p.1, p.2) (bad_along _ _ c.args.tree.now _ c.loop-q.invariant.left.told c.in_err-add_quarter.ensures.bad)
+    bad_handed _ c.from_residual.result c.from_residual.ensures.1 c.args.tree.now c.loop-q.invariant.left.told c.in_err-add_quarter.ensures.bad

@@ -1,18 +1,18 @@
 use Rattle.std.proofs.Common.{ℕ, ◌+◌, ◌*◌, ◌^◌, ◌∙◌, ap, ⊎_elim, arith}
 use Rattle.std.proofs.lemmas.Bool.{cases_lt}
-use Rattle.std.proofs.lemmas.Result.{err_from_is_err_and}
 use Rattle.quilt_store.proofs.Reading.{only_reads_then, read_on, only_reads_err, only_reads_ok}
 use Rattle.quilt_loc.proofs.Blocks.{side_most}
 use Rattle.quilt_loc.proofs.Quartered.{side_le}
-use Rattle.quilt_points.proofs.Finds.{has_along, tree_along, if_some_at}
+use Rattle.quilt_points.proofs.Finds.{has_along, if_some_at}
 use Rattle.quilt_points.proofs.Bounds.{times_up, times_most, times_here, level_up, same_level}
-use Rattle.quilt_points.proofs.Damage.{bad_along}
+use Rattle.quilt_btree.proofs.Handed.{handed_on}
+use Rattle.quilt_btree.proofs.Stops.{zero_handed, bad_handed}
 use Rattle.quilt_points.proofs.climb.topmost.Goals as goal
 
 pub returns-in_err-up-clause-sound : goal.returns-in_err-up-clause-sound
 returns-in_err-up-clause-sound g c =
-    let p = err_from_is_err_and c.from_residual.result c.from_residual.ensures.1 in
-    rw (p.1, p.2) (λ points h. c.in_err-up.ensures.sound points (has_along _ _ c.args.tree.now c.args.layer.number c.args.layer.level c.args.layer.bucket points
+    rw (handed_on c.from_residual.result c.from_residual.ensures.1)
+    (λ points h. c.in_err-up.ensures.sound points (has_along _ _ c.args.tree.now c.args.layer.number c.args.layer.level c.args.layer.bucket points
     c.loop-top.invariant.left.told h))
 
 pub loop-top-smaller : goal.loop-top-smaller
@@ -48,8 +48,8 @@ returns-clause-last g c points p label h some way =
 
 pub returns-in_err-up-clause-left : goal.returns-in_err-up-clause-left
 returns-in_err-up-clause-left g c =
-    let p = err_from_is_err_and c.from_residual.result c.from_residual.ensures.1 in
-    rw (p.1, p.2) (only_reads_err _ (only_reads_then _ g.met.S.PageStore.goes_on _ _ _ c.loop-top.invariant.left c.in_err-up.ensures.left))
+    rw (handed_on c.from_residual.result c.from_residual.ensures.1)
+    (only_reads_err _ (only_reads_then _ g.met.S.PageStore.goes_on _ _ _ c.loop-top.invariant.left c.in_err-up.ensures.left))
 
 pub returns-clause-left : goal.returns-clause-left
 returns-clause-left g c = only_reads_ok _ (only_reads_then _ g.met.S.PageStore.goes_on _ _ _ c.loop-top.invariant.left c.in_ok-up.ensures.left) _
@@ -66,10 +66,8 @@ returns-clause-reads g c =
 
 pub returns-in_err-up-clause-zero : goal.returns-in_err-up-clause-zero
 returns-in_err-up-clause-zero g c =
-    let p = err_from_is_err_and c.from_residual.result c.from_residual.ensures.1 in
-    rw (p.1, p.2) (λ rs is. c.in_err-up.ensures.zero rs (tree_along _ _ c.args.tree.now rs c.loop-top.invariant.left.told is))
+    zero_handed _ c.from_residual.result c.from_residual.ensures.1 c.args.tree.now c.loop-top.invariant.left.told c.in_err-up.ensures.zero
 
 pub returns-in_err-up-clause-bad : goal.returns-in_err-up-clause-bad
 returns-in_err-up-clause-bad g c =
-    let p = err_from_is_err_and c.from_residual.result c.from_residual.ensures.1 in
-    rw (p.1, p.2) (bad_along _ _ c.args.tree.now _ c.loop-top.invariant.left.told c.in_err-up.ensures.bad)
+    bad_handed _ c.from_residual.result c.from_residual.ensures.1 c.args.tree.now c.loop-top.invariant.left.told c.in_err-up.ensures.bad

@@ -1,14 +1,14 @@
 use Rattle.std.proofs.Common.{ℕ, ◌*◌, length, refl, ◌∙◌, arith}
 use Rattle.std.proofs.lemmas.List.{length-set}
-use Rattle.std.proofs.lemmas.Result.{err_from_is_err_and}
 use Rattle.quilt_store.proofs.Reading.{only_reads_then, only_reads_same, read_on, only_reads_err}
 use Rattle.quilt_types.specs.Quadtrees.{point_blocks}
 use Rattle.quilt_loc.proofs.Blocks.{Holds-from}
 use Rattle.quilt_loc.proofs.Intervals.{code_held}
-use Rattle.quilt_points.proofs.Finds.{has_along, tree_along}
+use Rattle.quilt_points.proofs.Finds.{has_along}
 use Rattle.quilt_points.proofs.Countings.{seen_none, seen_next, all_counted, few_seen, tells_more, tells_less, tells_none, whole_end, pixel_inside, zeros_at}
 use Rattle.quilt_points.proofs.Countings.{zeros_le, counts_most}
-use Rattle.quilt_points.proofs.Damage.{bad_along}
+use Rattle.quilt_btree.proofs.Handed.{handed_on}
+use Rattle.quilt_btree.proofs.Stops.{zero_handed, bad_handed}
 use Rattle.quilt_points.proofs.counts.block_counts.Goals as goal
 
 pub loop-code-init : goal.loop-code-init
@@ -48,8 +48,8 @@ block_around-requires-clause-in_y g c =
 
 pub returns-in_err-b-clause-sound : goal.returns-in_err-b-clause-sound
 returns-in_err-b-clause-sound g c =
-    let p = err_from_is_err_and c.from_residual.result c.from_residual.ensures.1 in
-    rw (p.1, p.2) (λ points h. c.in_err-b.ensures.sound points (has_along _ _ c.args.tree.now c.args.layer c.args.level c.args.bucket points c.loop-code.invariant.left.told h))
+    rw (handed_on c.from_residual.result c.from_residual.ensures.1)
+    (λ points h. c.in_err-b.ensures.sound points (has_along _ _ c.args.tree.now c.args.layer c.args.level c.args.bucket points c.loop-code.invariant.left.told h))
 
 pub loop-code-preserved : goal.loop-code-preserved
 loop-code-preserved g c =
@@ -95,15 +95,13 @@ returns-clause-reads g c points h =
 
 pub returns-in_err-b-clause-left : goal.returns-in_err-b-clause-left
 returns-in_err-b-clause-left g c =
-    let p = err_from_is_err_and c.from_residual.result c.from_residual.ensures.1 in
-    rw (p.1, p.2) (only_reads_err _ (only_reads_then _ g.met.S.PageStore.goes_on _ _ _ c.loop-code.invariant.left c.in_err-b.ensures.left))
+    rw (handed_on c.from_residual.result c.from_residual.ensures.1)
+    (only_reads_err _ (only_reads_then _ g.met.S.PageStore.goes_on _ _ _ c.loop-code.invariant.left c.in_err-b.ensures.left))
 
 pub returns-in_err-b-clause-zero : goal.returns-in_err-b-clause-zero
 returns-in_err-b-clause-zero g c =
-    let p = err_from_is_err_and c.from_residual.result c.from_residual.ensures.1 in
-    rw (p.1, p.2) (λ rs is. c.in_err-b.ensures.zero rs (tree_along _ _ c.args.tree.now rs c.loop-code.invariant.left.told is))
+    zero_handed _ c.from_residual.result c.from_residual.ensures.1 c.args.tree.now c.loop-code.invariant.left.told c.in_err-b.ensures.zero
 
 pub returns-in_err-b-clause-bad : goal.returns-in_err-b-clause-bad
 returns-in_err-b-clause-bad g c =
-    let p = err_from_is_err_and c.from_residual.result c.from_residual.ensures.1 in
-    rw (p.1, p.2) (bad_along _ _ c.args.tree.now _ c.loop-code.invariant.left.told c.in_err-b.ensures.bad)
+    bad_handed _ c.from_residual.result c.from_residual.ensures.1 c.args.tree.now c.loop-code.invariant.left.told c.in_err-b.ensures.bad

@@ -1,22 +1,21 @@
 use Rattle.std.proofs.Common.{◌≡◌, ◌+◌, ◌*◌, true, List, sym, subst, arith}
 use Rattle.std.specs.Prelude.{All}
 use Rattle.std.proofs.lemmas.Option.{MatchOption-at_none, MatchOption-at_some}
-use Rattle.std.proofs.lemmas.Result.{err_from_is_err_and}
 use Rattle.quilt_types.specs.declared.plane.Point.{Point}
 use Rattle.quilt_types.specs.Plane.{is_pixel}
 use Rattle.quilt_point_laws.specs.Laws.{AreIn}
 use Rattle.quilt_points.specs.Layers.{point_entries}
 use Rattle.quilt_store.proofs.Reading.{only_reads_then, only_reads_err, only_reads_ok, only_reads_free}
-use Rattle.quilt_points.proofs.Finds.{has_along, tree_along}
+use Rattle.quilt_points.proofs.Finds.{has_along}
 use Rattle.quilt_world.proofs.ReadCounts.{reads_then}
 use Rattle.quilt_points.proofs.Singles.{one_held, all_held}
-use Rattle.quilt_points.proofs.Damage.{bad_along}
+use Rattle.quilt_btree.proofs.Handed.{handed_on}
+use Rattle.quilt_btree.proofs.Stops.{zero_handed, bad_handed}
 use Rattle.quilt_points.proofs.leaf.leaf_around.Goals as goal
 
 pub returns-in_err-points_of-clause-sound : goal.returns-in_err-points_of-clause-sound
 returns-in_err-points_of-clause-sound g c =
-    let p = err_from_is_err_and c.from_residual-in_err-points_of.result c.from_residual-in_err-points_of.ensures.1 in
-    rw (p.1, p.2) (λ points h. c.in_err-points_of.ensures.sound points
+    rw (handed_on c.from_residual-in_err-points_of.result c.from_residual-in_err-points_of.ensures.1) (λ points h. c.in_err-points_of.ensures.sound points
     (has_along _ _ c.args.tree.now c.args.layer.number c.args.layer.level c.args.layer.bucket points c.in_ok-block.ensures.left.told h))
 
 pub returns-in-None-clause-sound : goal.returns-in-None-clause-sound
@@ -34,8 +33,8 @@ returns-in-Some-clause-read g c points h =
 
 pub returns-in_err-points_of-clause-left : goal.returns-in_err-points_of-clause-left
 returns-in_err-points_of-clause-left g c =
-    let p = err_from_is_err_and c.from_residual-in_err-points_of.result c.from_residual-in_err-points_of.ensures.1 in
-    rw (p.1, p.2) (only_reads_err _ (only_reads_then _ g.met.S.PageStore.goes_on _ _ _ c.in_ok-block.ensures.left c.in_err-points_of.ensures.left))
+    rw (handed_on c.from_residual-in_err-points_of.result c.from_residual-in_err-points_of.ensures.1)
+    (only_reads_err _ (only_reads_then _ g.met.S.PageStore.goes_on _ _ _ c.in_ok-block.ensures.left c.in_err-points_of.ensures.left))
 
 pub returns-in-None-clause-left : goal.returns-in-None-clause-left
 returns-in-None-clause-left g c = only_reads_free _ _ (only_reads_then _ g.met.S.PageStore.goes_on _ _ _ c.in_ok-block.ensures.left c.in_ok-points_of.ensures.left) (λ is. cc)
@@ -63,10 +62,10 @@ returns-in-Ok-clause-pixels g c =
 
 pub returns-in_err-points_of-clause-zero : goal.returns-in_err-points_of-clause-zero
 returns-in_err-points_of-clause-zero g c =
-    let p = err_from_is_err_and c.from_residual-in_err-points_of.result c.from_residual-in_err-points_of.ensures.1 in
-    rw (p.1, p.2) (λ rs is. c.in_err-points_of.ensures.zero rs (tree_along _ _ c.args.tree.now rs c.in_ok-block.ensures.left.told is))
+    zero_handed _ c.from_residual-in_err-points_of.result c.from_residual-in_err-points_of.ensures.1
+    c.args.tree.now c.in_ok-block.ensures.left.told c.in_err-points_of.ensures.zero
 
 pub returns-in_err-points_of-clause-bad : goal.returns-in_err-points_of-clause-bad
 returns-in_err-points_of-clause-bad g c =
-    let p = err_from_is_err_and c.from_residual-in_err-points_of.result c.from_residual-in_err-points_of.ensures.1 in
-    rw (p.1, p.2) (bad_along _ _ c.args.tree.now _ c.in_ok-block.ensures.left.told c.in_err-points_of.ensures.bad)
+    bad_handed _ c.from_residual-in_err-points_of.result c.from_residual-in_err-points_of.ensures.1
+    c.args.tree.now c.in_ok-block.ensures.left.told c.in_err-points_of.ensures.bad

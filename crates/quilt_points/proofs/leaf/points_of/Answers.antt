@@ -1,17 +1,18 @@
 use Rattle.std.proofs.Common.{[], List, Contains, ◌∙◌, refl, sym, ap, subst, arith}
-use Rattle.std.proofs.lemmas.Result.{IfOk-weaker, IfErr-weaker, err_from_is_err_and}
+use Rattle.std.proofs.lemmas.Result.{IfOk-weaker, IfErr-weaker}
 use Rattle.quilt_record.specs.declared.record.Record.{Record}
 use Rattle.quilt_points.specs.Reads.{AreRecordsOf}
 use Rattle.quilt_points.proofs.Bounds.{if_ok_of, reads_range}
-use Rattle.quilt_points.proofs.Finds.{if_some_weaker, zero_named}
+use Rattle.quilt_points.proofs.Finds.{if_some_weaker}
 use Rattle.quilt_points.proofs.Ranges.{rows_read, range_there}
-use Rattle.quilt_points.proofs.Damage.{zero_bad}
+use Rattle.quilt_btree.proofs.Handed.{handed_on}
+use Rattle.quilt_btree.proofs.Stops.{sound_handed}
+use Rattle.quilt_btree.proofs.ways.Damage.{zero_named}
 use Rattle.quilt_points.proofs.leaf.points_of.Goals as goal
 
 pub returns-in_err-records-clause-sound : goal.returns-in_err-records-clause-sound
 returns-in_err-records-clause-sound g c =
-    let p = err_from_is_err_and c.from_residual.result c.from_residual.ensures.1 in
-    rw (p.1, p.2) (λ points h. c.in_err-records.ensures.sound h.records h.tree)
+    rw (handed_on c.from_residual.result c.from_residual.ensures.1) (λ points h. c.in_err-records.ensures.sound h.records h.tree)
 
 pub returns-clause-read : goal.returns-clause-read
 returns-clause-read g c =
@@ -47,17 +48,14 @@ returns-clause-row g c =
     }) f) c.points_said.ensures.row
 
 pub returns-in_err-records-clause-zero : goal.returns-in_err-records-clause-zero
-returns-in_err-records-clause-zero g c =
-    let p = err_from_is_err_and c.from_residual.result c.from_residual.ensures.1 in
-    rw (p.1, p.2) (λ rs is. zero_named _ (c.in_err-records.ensures.sound rs is))
+returns-in_err-records-clause-zero g c = sound_handed c.from_residual.result c.from_residual.ensures.1 c.in_err-records.ensures.sound
 
 pub returns-clause-zero : goal.returns-clause-zero
 returns-clause-zero g c = IfErr-weaker c.points_said.result _ _ (λ e zero rs is. zero) c.points_said.ensures.zero
 
 pub returns-in_err-records-clause-bad : goal.returns-in_err-records-clause-bad
 returns-in_err-records-clause-bad g c =
-    let p = err_from_is_err_and c.from_residual.result c.from_residual.ensures.1 in
-    rw (p.1, p.2) c.in_err-records.ensures.stops.bad
+    rw (handed_on c.from_residual.result c.from_residual.ensures.1) c.in_err-records.ensures.stops.bad
 
 pub returns-clause-bad : goal.returns-clause-bad
-returns-clause-bad g c = IfErr-weaker c.points_said.result _ _ (λ e zero. zero_bad _ c.args.tree.now e zero) c.points_said.ensures.zero
+returns-clause-bad g c = zero_named c.points_said.result _ _ _ c.points_said.ensures.zero

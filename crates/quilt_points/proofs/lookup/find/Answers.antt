@@ -2,8 +2,9 @@ use Rattle.std.proofs.Common.{ℕ, List, Option, ◌∙◌, sym, subst, arith}
 use Rattle.std.proofs.lemmas.Result.{IfOk-weaker, IfErr-weaker}
 use Rattle.quilt_btree.specs.Trees.{IsTree}
 use Rattle.quilt_store.proofs.Reading.{only_reads_then}
-use Rattle.quilt_points.proofs.Finds.{one_found_at, has_along, tree_along}
-use Rattle.quilt_points.proofs.Damage.{bad_along}
+use Rattle.quilt_points.proofs.Finds.{one_found_at, has_along}
+use Rattle.quilt_btree.proofs.Stops.{zero_along}
+use Rattle.quilt_btree.proofs.ways.Damage.{named_along}
 use Rattle.quilt_points.proofs.lookup.find.Goals as goal
 
 pub returns-then-bucket-eq1-clause-label : goal.returns-then-bucket-eq1-clause-label
@@ -43,8 +44,8 @@ returns-else-bucket-eq1-clause-answered g c =
 
 pub returns-else-bucket-eq1-clause-zero : goal.returns-else-bucket-eq1-clause-zero
 returns-else-bucket-eq1-clause-zero g c =
-    IfErr-weaker c.label_in.result _ _ (λ e f rs is. f rs (tree_along _ _ c.args.tree.now rs c.in_ok-b.ensures.left.told is)) c.label_in.ensures.zero
+    zero_along c.args.tree.now c.label_in.result c.in_ok-b.ensures.left.told c.label_in.ensures.zero
 
 pub returns-else-bucket-eq1-clause-bad : goal.returns-else-bucket-eq1-clause-bad
 returns-else-bucket-eq1-clause-bad g c =
-    IfErr-weaker c.label_in.result _ _ (λ e. bad_along _ _ c.args.tree.now e c.in_ok-b.ensures.left.told) c.label_in.ensures.bad
+    named_along c.label_in.result _ _ _ _ c.in_ok-b.ensures.left.told c.label_in.ensures.bad

@@ -1,14 +1,14 @@
 use Rattle.std.proofs.Common.{[], None, refl, sym, ◌∙◌, ap}
 use Rattle.std.proofs.lemmas.Option.{none-some}
-use Rattle.std.proofs.lemmas.Result.{err_from_is_err_and}
 use Rattle.quilt_record.specs.declared.record.Record.{Record}
-use Rattle.quilt_points.proofs.Finds.{if_some_at, none_read, label_read, label_same, label_none, label_some, zero_named}
+use Rattle.quilt_points.proofs.Finds.{if_some_at, none_read, label_read, label_same, label_none, label_some}
+use Rattle.quilt_btree.proofs.Handed.{handed_on}
+use Rattle.quilt_btree.proofs.Stops.{sound_handed}
 use Rattle.quilt_points.proofs.lookup.label_in.Goals as goal
 
 pub returns-in_err-value-clause-sound : goal.returns-in_err-value-clause-sound
 returns-in_err-value-clause-sound g c =
-    let p = err_from_is_err_and c.from_residual.result c.from_residual.ensures.1 in
-    rw (p.1, p.2) (λ points h m t. c.in_err-value.ensures.sound h.records h.tree)
+    rw (handed_on c.from_residual.result c.from_residual.ensures.1) (λ points h m t. c.in_err-value.ensures.sound h.records h.tree)
 
 pub returns-in_default-clause-label : goal.returns-in_default-clause-label
 returns-in_default-clause-label g c points h m t =
@@ -45,11 +45,8 @@ returns-in-Some-point_of-clause-answered g c rs is =
     (if_some_at c.point_of.result _ c.in-Some-point_of.p c.in-Some-point_of.is c.point_of.ensures.row)
 
 pub returns-in_err-value-clause-zero : goal.returns-in_err-value-clause-zero
-returns-in_err-value-clause-zero g c =
-    let p = err_from_is_err_and c.from_residual.result c.from_residual.ensures.1 in
-    rw (p.1, p.2) (λ rs is. zero_named _ (c.in_err-value.ensures.sound rs is))
+returns-in_err-value-clause-zero g c = sound_handed c.from_residual.result c.from_residual.ensures.1 c.in_err-value.ensures.sound
 
 pub returns-in_err-value-clause-bad : goal.returns-in_err-value-clause-bad
 returns-in_err-value-clause-bad g c =
-    let p = err_from_is_err_and c.from_residual.result c.from_residual.ensures.1 in
-    rw (p.1, p.2) (λ ne. c.in_err-value.ensures.bad)
+    rw (handed_on c.from_residual.result c.from_residual.ensures.1) (λ ne. c.in_err-value.ensures.bad)

@@ -1,16 +1,16 @@
 use Rattle.std.proofs.Common.{◌+◌, ◌*◌, arith, List, refl, sym, ◌∙◌, ap, subst, Contains}
 use Rattle.std.specs.FinMap as finmap
 use Rattle.std.proofs.lemmas.Option.{none-some}
-use Rattle.std.proofs.lemmas.Result.{err_from_is_err_and}
 use Rattle.quilt_store.proofs.Reading.{only_reads_then, only_reads_err, only_reads_ok}
 use Rattle.quilt_types.specs.declared.plane.Point.{Point}
 use Rattle.quilt_types.specs.Plane.{in_block}
 use Rattle.quilt_points.specs.Plans.{IsPointPlan}
-use Rattle.quilt_points.proofs.Finds.{has_along, tree_along, false_true}
+use Rattle.quilt_points.proofs.Finds.{has_along, false_true}
 use Rattle.quilt_points.proofs.plans.Puts.{free_from, held_point}
 use Rattle.quilt_points.proofs.plans.Dels.{is_none_from, none_is}
 use Rattle.quilt_world.proofs.ReadCounts.{reads_then, reads_more}
-use Rattle.quilt_points.proofs.Damage.{bad_along}
+use Rattle.quilt_btree.proofs.Handed.{handed_on}
+use Rattle.quilt_btree.proofs.Stops.{zero_handed, bad_handed}
 use Rattle.quilt_points.proofs.plan.plan_del.Goals as goal
 
 pub returns-in_default-clause-none : goal.returns-in_default-clause-none
@@ -22,8 +22,7 @@ returns-in_default-clause-none g c points h =
 
 pub returns-in_err-edits-clause-sound : goal.returns-in_err-edits-clause-sound
 returns-in_err-edits-clause-sound g c =
-    let p = err_from_is_err_and c.from_residual-in_err-edits.result c.from_residual-in_err-edits.ensures.1 in
-    rw (p.1, p.2) (λ points h. let read = c.in_ok-leaf.ensures.read points h in
+    rw (handed_on c.from_residual-in_err-edits.result c.from_residual-in_err-edits.ensures.1) (λ points h. let read = c.in_ok-leaf.ensures.read points h in
     let found = c.in-Some.ensures.some in
     c.in_err-edits.ensures.sound points (has_along _ _ c.args.tree.now c.args.layer c.args.level c.args.bucket points c.in_ok-leaf.ensures.left.told h)
     read (ap (in_block c.in_ok-leaf.leaf.block) found.1 ∙ c.in_ok-leaf.ensures.holds)
@@ -50,8 +49,8 @@ returns-clause-none g c points h =
 
 pub returns-in_err-edits-clause-left : goal.returns-in_err-edits-clause-left
 returns-in_err-edits-clause-left g c =
-    let p = err_from_is_err_and c.from_residual-in_err-edits.result c.from_residual-in_err-edits.ensures.1 in
-    rw (p.1, p.2) (only_reads_err _ (only_reads_then _ g.met.S.PageStore.goes_on _ _ _ c.in_ok-leaf.ensures.left c.in_err-edits.ensures.left))
+    rw (handed_on c.from_residual-in_err-edits.result c.from_residual-in_err-edits.ensures.1)
+    (only_reads_err _ (only_reads_then _ g.met.S.PageStore.goes_on _ _ _ c.in_ok-leaf.ensures.left c.in_err-edits.ensures.left))
 
 pub returns-clause-left : goal.returns-clause-left
 returns-clause-left g c = only_reads_ok _ (only_reads_then _ g.met.S.PageStore.goes_on _ _ _ c.in_ok-leaf.ensures.left c.in_ok-edits.ensures.left) _
@@ -68,10 +67,10 @@ returns-clause-reads g c =
 
 pub returns-in_err-edits-clause-zero : goal.returns-in_err-edits-clause-zero
 returns-in_err-edits-clause-zero g c =
-    let p = err_from_is_err_and c.from_residual-in_err-edits.result c.from_residual-in_err-edits.ensures.1 in
-    rw (p.1, p.2) (λ rs is. c.in_err-edits.ensures.zero rs (tree_along _ _ c.args.tree.now rs c.in_ok-leaf.ensures.left.told is))
+    zero_handed _ c.from_residual-in_err-edits.result c.from_residual-in_err-edits.ensures.1
+    c.args.tree.now c.in_ok-leaf.ensures.left.told c.in_err-edits.ensures.zero
 
 pub returns-in_err-edits-clause-bad : goal.returns-in_err-edits-clause-bad
 returns-in_err-edits-clause-bad g c =
-    let p = err_from_is_err_and c.from_residual-in_err-edits.result c.from_residual-in_err-edits.ensures.1 in
-    rw (p.1, p.2) (bad_along _ _ c.args.tree.now _ c.in_ok-leaf.ensures.left.told c.in_err-edits.ensures.bad)
+    bad_handed _ c.from_residual-in_err-edits.result c.from_residual-in_err-edits.ensures.1
+    c.args.tree.now c.in_ok-leaf.ensures.left.told c.in_err-edits.ensures.bad

@@ -4,7 +4,7 @@ use Rattle.quilt_types.specs.declared.plane.Point.{Point}
 use Rattle.quilt_points.specs.Reads.{IsHeld}
 use Rattle.quilt_points.proofs.Finds.{if_some_weaker}
 use Rattle.quilt_points.proofs.Bounds.{if_ok_of}
-use Rattle.quilt_points.proofs.Damage.{zero_bad}
+use Rattle.quilt_btree.proofs.ways.Damage.{zero_named}
 use Rattle.quilt_points.proofs.plan.plan_put.Goals as goal
 
 pub returns-clause-plan : goal.returns-clause-plan
@@ -35,4 +35,4 @@ pub returns-clause-zero : goal.returns-clause-zero
 returns-clause-zero g c = IfErr-weaker c.put_into.result _ _ (λ e zero rs is. zero) c.put_into.ensures.zero
 
 pub returns-clause-bad : goal.returns-clause-bad
-returns-clause-bad g c = IfErr-weaker c.put_into.result _ _ (λ e zero. zero_bad _ c.args.tree.now e zero) c.put_into.ensures.zero
+returns-clause-bad g c = zero_named c.put_into.result _ _ _ c.put_into.ensures.zero

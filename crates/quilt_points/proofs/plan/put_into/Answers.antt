@@ -1,8 +1,9 @@
 use Rattle.std.proofs.Common.{refl, sym, ◌∙◌}
-use Rattle.std.proofs.lemmas.Result.{err_from_is_err_and}
-use Rattle.quilt_points.proofs.Finds.{false_true, zero_page}
+use Rattle.quilt_points.proofs.Finds.{false_true}
 use Rattle.quilt_points.proofs.plans.Puts.{free_from, taken_from, not_some, put_can, put_plan}
 use Rattle.quilt_points.proofs.Results.{memory_sound}
+use Rattle.quilt_btree.proofs.Handed.{handed_on}
+use Rattle.quilt_btree.proofs.Stops.{zero_page}
 use Rattle.quilt_points.proofs.plan.put_into.Goals as goal
 
 pub returns-then-has_point-clause-none : goal.returns-then-has_point-clause-none
@@ -12,8 +13,7 @@ returns-then-has_point-clause-none c points is on =
 
 pub returns-in_err-edits-clause-sound : goal.returns-in_err-edits-clause-sound
 returns-in_err-edits-clause-sound c =
-    let p = err_from_is_err_and c.from_residual.result c.from_residual.ensures.1 in
-    rw (p.1, p.2) (λ points valid is on. memory_sound c.in_err-edits.field-0.0 (c.in_err-edits.ensures.memory
+    rw (handed_on c.from_residual.result c.from_residual.ensures.1) (λ points valid is on. memory_sound c.in_err-edits.field-0.0 (c.in_err-edits.ensures.memory
     (put_can c.args.layer.level c.args.layer.bucket c.args.layer.number c.args.layer.has_level.1 c.args.layer.has_number.0 c.args.layer.has_number.1
     points valid c.args.b c.args.held.now is c.args.p on c.requires.pixel c.requires.label
     (free_from c.args.layer.level c.args.layer.bucket points c.args.b c.args.held.now c.args.p.at is.are on
@@ -37,5 +37,4 @@ returns-clause-none c points is on =
 
 pub returns-in_err-edits-clause-zero : goal.returns-in_err-edits-clause-zero
 returns-in_err-edits-clause-zero c =
-    let p = err_from_is_err_and c.from_residual.result c.from_residual.ensures.1 in
-    rw (p.1, p.2) (zero_page _ c.in_err-edits.ensures.zero)
+    rw (handed_on c.from_residual.result c.from_residual.ensures.1) (zero_page _ c.in_err-edits.ensures.zero)

@@ -1,5 +1,5 @@
 use Rattle.std.proofs.Common.{◌≡◌, true, not, List, filter, All, sym, ◌∙◌, ap, subst}
-use Rattle.std.proofs.lemmas.Result.{IfOk-weaker, IfErr-weaker, err_from_is_err_and}
+use Rattle.std.proofs.lemmas.Result.{IfOk-weaker, IfErr-weaker}
 use Rattle.std.proofs.lemmas.List.Elements.{All-filter}
 use Rattle.quilt_types.specs.declared.plane.Point.{Point}
 use Rattle.quilt_types.specs.Plane.{is_pixel}
@@ -7,7 +7,8 @@ use Rattle.quilt_types.specs.Facts.{same_pixel}
 use Rattle.quilt_points.specs.Climbing.{IsOnWay}
 use Rattle.quilt_points.proofs.plans.Dels.{way_first}
 use Rattle.quilt_points.proofs.Bounds.{if_ok_of}
-use Rattle.quilt_points.proofs.Damage.{zero_bad}
+use Rattle.quilt_btree.proofs.Handed.{handed_on}
+use Rattle.quilt_btree.proofs.ways.Damage.{zero_named}
 use Rattle.quilt_points.proofs.plan.take_from.Goals as goal
 
 pub topmost-requires-clause-pixels : goal.topmost-requires-clause-pixels
@@ -19,8 +20,7 @@ topmost-requires-clause-pixels g c =
 
 pub returns-in_err-top-clause-sound : goal.returns-in_err-top-clause-sound
 returns-in_err-top-clause-sound g c =
-    let p = err_from_is_err_and c.from_residual.result c.from_residual.ensures.1 in
-    rw (p.1, p.2) (λ points h is on some. c.in_err-top.ensures.sound points h)
+    rw (handed_on c.from_residual.result c.from_residual.ensures.1) (λ points h is on some. c.in_err-top.ensures.sound points h)
 
 pub returns-clause-plan : goal.returns-clause-plan
 returns-clause-plan g c =
@@ -55,4 +55,4 @@ pub returns-clause-zero : goal.returns-clause-zero
 returns-clause-zero g c = IfErr-weaker c.take_out.result _ _ (λ e zero rs is. zero) c.take_out.ensures.zero
 
 pub returns-clause-bad : goal.returns-clause-bad
-returns-clause-bad g c = IfErr-weaker c.take_out.result _ _ (λ e zero. zero_bad _ c.args.tree.now e zero) c.take_out.ensures.zero
+returns-clause-bad g c = zero_named c.take_out.result _ _ _ c.take_out.ensures.zero

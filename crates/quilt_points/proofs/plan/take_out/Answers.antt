@@ -1,5 +1,5 @@
 use Rattle.std.proofs.lemmas.Result.{IfErr-weaker}
-use Rattle.quilt_points.proofs.Finds.{zero_page}
+use Rattle.quilt_btree.proofs.Stops.{zero_page}
 use Rattle.quilt_points.proofs.Results.{if_ok_both, memory_sound}
 use Rattle.quilt_points.proofs.plans.Dels.{del_can, del_plan}
 use Rattle.quilt_points.proofs.plan.take_out.Goals as goal

@@ -1,13 +1,12 @@
 use Rattle.std.proofs.Common.{ℕ, ◌+◌, ◌*◌, ◌^◌, ◌≤◌, Option, [], List, length, get_or, sym, ◌∙◌, ap, subst, arith, Contains}
 use Rattle.std.proofs.lemmas.List.{append-nil}
-use Rattle.std.proofs.lemmas.Result.{err_from_is_err_and}
 use Rattle.quilt_store.proofs.Reading.{only_reads_then, read_on, only_reads_err, only_reads_ok}
 use Rattle.quilt_types.specs.declared.plane.Block.{Block}
 use Rattle.quilt_types.specs.Plane.{in_window}
 use Rattle.quilt_loc.proofs.Blocks.{IsBlock-up}
 use Rattle.quilt_points.proofs.Quarters.{quarter_at}
 use Rattle.quilt_btree.specs.Trees.{IsRooted, IsTree}
-use Rattle.quilt_points.proofs.Finds.{has_along, tree_along}
+use Rattle.quilt_points.proofs.Finds.{has_along}
 use Rattle.quilt_edits.proofs.Lists.{member_at}
 use Rattle.quilt_points.proofs.Unions.{all_none}
 use Rattle.quilt_points.proofs.Windows.{none_of, open_pixel, open_quarter, found_next, found_all, quarter_pixel, covered_next}
@@ -18,7 +17,8 @@ use Rattle.quilt_points.specs.Windows.{visited}
 use Rattle.quilt_world.specs.Tale.{Goes}
 use Rattle.quilt_loc.proofs.Nesting.{side_pos}
 use Rattle.quilt_loc.proofs.Members.{Contains-nil}
-use Rattle.quilt_points.proofs.Damage.{bad_along}
+use Rattle.quilt_btree.proofs.Handed.{handed_on}
+use Rattle.quilt_btree.proofs.Stops.{zero_handed, bad_handed}
 use Rattle.quilt_points.proofs.window.+add_within.Goals as goal
 
 pub returns-then-not-meets-clause-found : goal.returns-then-not-meets-clause-found
@@ -27,8 +27,7 @@ returns-then-not-meets-clause-found g t c points h o =
 
 pub returns-in_err-visit-clause-sound : goal.returns-in_err-visit-clause-sound
 returns-in_err-visit-clause-sound g t c =
-    let p = err_from_is_err_and c.from_residual.result c.from_residual.ensures.1 in
-    rw (p.1, p.2) (λ points h o. c.in_err-visit.ensures.sound points h)
+    rw (handed_on c.from_residual.result c.from_residual.ensures.1) (λ points h o. c.in_err-visit.ensures.sound points h)
 
 pub returns-then-b-le1-clause-sound : goal.returns-then-b-le1-clause-sound
 returns-then-b-le1-clause-sound g t c points h o page e =
@@ -60,8 +59,7 @@ add_within-requires g t c κs within =
 
 pub returns-in_err-add_within-clause-sound : goal.returns-in_err-add_within-clause-sound
 returns-in_err-add_within-clause-sound g t c =
-    let p = err_from_is_err_and c.from_residual-in_err-add_within.result c.from_residual-in_err-add_within.ensures.1 in
-    rw (p.1, p.2) (λ points h o. c.in_err-add_within.ensures.sound points
+    rw (handed_on c.from_residual-in_err-add_within.result c.from_residual-in_err-add_within.ensures.1) (λ points h o. c.in_err-add_within.ensures.sound points
     (has_along _ _ c.args.tree.now c.args.layer.number c.args.layer.level c.args.layer.bucket points c.loop-q.invariant.left.told h)
     (open_quarter c.args.layer.level c.args.layer.bucket points c.args.b o
     ((c.in_ok-visit.ensures.none c.if-branch.false).1 points h) c.if-b-le1.false
@@ -120,8 +118,8 @@ returns-clause-found g t c points h o =
 
 pub returns-in_err-add_within-clause-left : goal.returns-in_err-add_within-clause-left
 returns-in_err-add_within-clause-left g t c =
-    let p = err_from_is_err_and c.from_residual-in_err-add_within.result c.from_residual-in_err-add_within.ensures.1 in
-    rw (p.1, p.2) (only_reads_err _ (only_reads_then _ g.met.S.PageStore.goes_on _ _ _ c.loop-q.invariant.left c.in_err-add_within.ensures.left))
+    rw (handed_on c.from_residual-in_err-add_within.result c.from_residual-in_err-add_within.ensures.1)
+    (only_reads_err _ (only_reads_then _ g.met.S.PageStore.goes_on _ _ _ c.loop-q.invariant.left c.in_err-add_within.ensures.left))
 
 pub returns-then-not-meets-clause-covered : goal.returns-then-not-meets-clause-covered
 returns-then-not-meets-clause-covered g t c rs p is inside on = absurd (meets_none c.args.w c.args.b (sym c.meets.ensures ∙ c.if-not-meets.true) p on inside)
@@ -163,10 +161,10 @@ returns-clause-search g t c = c.loop-q.invariant.search
 
 pub returns-in_err-add_within-clause-zero : goal.returns-in_err-add_within-clause-zero
 returns-in_err-add_within-clause-zero g t c =
-    let p = err_from_is_err_and c.from_residual-in_err-add_within.result c.from_residual-in_err-add_within.ensures.1 in
-    rw (p.1, p.2) (λ rs is. c.in_err-add_within.ensures.zero rs (tree_along _ _ c.args.tree.now rs c.loop-q.invariant.left.told is))
+    zero_handed _ c.from_residual-in_err-add_within.result c.from_residual-in_err-add_within.ensures.1
+    c.args.tree.now c.loop-q.invariant.left.told c.in_err-add_within.ensures.zero
 
 pub returns-in_err-add_within-clause-bad : goal.returns-in_err-add_within-clause-bad
 returns-in_err-add_within-clause-bad g t c =
-    let p = err_from_is_err_and c.from_residual-in_err-add_within.result c.from_residual-in_err-add_within.ensures.1 in
-    rw (p.1, p.2) (bad_along _ _ c.args.tree.now _ c.loop-q.invariant.left.told c.in_err-add_within.ensures.bad)
+    bad_handed _ c.from_residual-in_err-add_within.result c.from_residual-in_err-add_within.ensures.1
+    c.args.tree.now c.loop-q.invariant.left.told c.in_err-add_within.ensures.bad

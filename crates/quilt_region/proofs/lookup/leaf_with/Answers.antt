@@ -1,7 +1,6 @@
 use Rattle.std.proofs.Common.{◌≡◌, true, false, Option, Some, None, sym, ◌∙◌, ap, subst, List, Contains, arith}
 use Rattle.std.specs.Prelude.{IfSome, unwrap_or}
 use Rattle.std.proofs.lemmas.Option.{none-some}
-use Rattle.std.proofs.lemmas.Result.{err_from_is_err_and}
 use Rattle.quilt_record.specs.declared.key.Key.{Key}
 use Rattle.quilt_record.specs.declared.record.Record.{Record}
 use Rattle.quilt_btree.specs.Lists.{floor_of}
@@ -14,7 +13,8 @@ use Rattle.quilt_loc.proofs.Blocks.{IsBlock-up, side_most, Holds-from}
 use Rattle.quilt_blocks.specs.Cutting.{leaf_pair}
 use Rattle.quilt_blocks.specs.declared.leaf.Leaf.{Leaf}
 use Rattle.quilt_region.proofs.Floors.{floor_found, leaf_read, read_same}
-use Rattle.quilt_region.proofs.Results.{sound_zero}
+use Rattle.quilt_btree.proofs.Handed.{handed_on}
+use Rattle.quilt_btree.proofs.Stops.{sound_handed}
 use Rattle.quilt_region.proofs.lookup.leaf_with.Goals as goal
 
 false_true : false ≡ true → ⊥
@@ -35,13 +35,10 @@ covers-requires g c = IsBlock-up c.args.level 12 c.in-Some-leaf_of.leaf.block c.
 
 pub returns-in_err-r-clause-sound : goal.returns-in_err-r-clause-sound
 returns-in_err-r-clause-sound g c =
-    let p = err_from_is_err_and c.from_residual.result c.from_residual.ensures.1 in
-    rw (p.1, p.2) (λ grid h. c.in_err-r.ensures.sound h.records h.tree)
+    rw (handed_on c.from_residual.result c.from_residual.ensures.1) (λ grid h. c.in_err-r.ensures.sound h.records h.tree)
 
 pub returns-in_err-r-clause-zero : goal.returns-in_err-r-clause-zero
-returns-in_err-r-clause-zero g c =
-    let p = err_from_is_err_and c.from_residual.result c.from_residual.ensures.1 in
-    rw (p.1, p.2) (λ rs is. sound_zero _ (c.in_err-r.ensures.sound rs is))
+returns-in_err-r-clause-zero g c = sound_handed c.from_residual.result c.from_residual.ensures.1 c.in_err-r.ensures.sound
 
 pub returns-in_default-clause-sound : goal.returns-in_default-clause-sound
 returns-in_default-clause-sound g c grid h page e =
@@ -129,5 +126,4 @@ returns-in-Some-leaf_of-clause-row g c rs is =
 
 pub returns-in_err-r-clause-bad : goal.returns-in_err-r-clause-bad
 returns-in_err-r-clause-bad g c =
-    let p = err_from_is_err_and c.from_residual.result c.from_residual.ensures.1 in
-    rw (p.1, p.2) (λ other. c.in_err-r.ensures.bad)
+    rw (handed_on c.from_residual.result c.from_residual.ensures.1) (λ other. c.in_err-r.ensures.bad)

@@ -1,25 +1,24 @@
 use Rattle.std.proofs.Common.{ℕ, ◌+◌, ◌*◌, ◌≤◌, length, ◌∙◌, ap, subst, arith}
-use Rattle.std.proofs.lemmas.Result.{err_from_is_err_and}
 use Rattle.quilt_record.specs.declared.key.Key.{Key}
 use Rattle.quilt_world.specs.Tale.{Goes}
 use Rattle.quilt_store.proofs.Reading.{only_reads_free}
 use Rattle.quilt_region.proofs.Beside.{if_err_weaker}
 use Rattle.quilt_region.proofs.Records.{range_read, region_length}
-use Rattle.quilt_region.proofs.Results.{list_whole, sound_whole, sound_zero, if_ok, zero_bad}
+use Rattle.quilt_region.proofs.Results.{list_whole, sound_whole, if_ok}
+use Rattle.quilt_btree.proofs.Handed.{handed_on}
+use Rattle.quilt_btree.proofs.Stops.{sound_handed}
+use Rattle.quilt_btree.proofs.ways.Damage.{zero_named}
 use Rattle.quilt_region.proofs.lookup.read_list.Goals as goal
 
 pub returns-in_err-records-clause-zero : goal.returns-in_err-records-clause-zero
-returns-in_err-records-clause-zero g c =
-    let p = err_from_is_err_and c.from_residual.result c.from_residual.ensures.1 in
-    rw (p.1, p.2) (λ rs is. sound_zero _ (c.in_err-records.ensures.sound rs is))
+returns-in_err-records-clause-zero g c = sound_handed c.from_residual.result c.from_residual.ensures.1 c.in_err-records.ensures.sound
 
 pub returns-clause-zero : goal.returns-clause-zero
 returns-clause-zero g c = if_err_weaker c.list_of.result (λ e zero rs is. zero) c.list_of.ensures.zero
 
 pub returns-in_err-records-clause-sound : goal.returns-in_err-records-clause-sound
 returns-in_err-records-clause-sound g c =
-    let p = err_from_is_err_and c.from_residual.result c.from_residual.ensures.1 in
-    rw (p.1, p.2) (λ grid h. c.in_err-records.ensures.sound h.records h.tree)
+    rw (handed_on c.from_residual.result c.from_residual.ensures.1) (λ grid h. c.in_err-records.ensures.sound h.records h.tree)
 
 pub returns-clause-list : goal.returns-clause-list
 returns-clause-list g c =
@@ -56,4 +55,4 @@ returns-clause-reads g c =
     (g.S.PageStore.reads c.range.new.store)) many c.in_ok-records.ensures.reads)
 
 pub returns-clause-bad : goal.returns-clause-bad
-returns-clause-bad g c = if_err_weaker c.list_of.result (λ e zero. zero_bad e _ _ _ zero) c.list_of.ensures.zero
+returns-clause-bad g c = zero_named c.list_of.result _ _ _ c.list_of.ensures.zero

@@ -3,7 +3,8 @@ use Rattle.quilt_loc.proofs.Blocks.{IsBlock-up, side_most}
 use Rattle.quilt_world.specs.Tale.{Goes}
 use Rattle.quilt_blocks.proofs.Chains.{member_pos}
 use Rattle.quilt_region.proofs.Beside.{if_err_weaker, if_ok_weaker}
-use Rattle.quilt_region.proofs.Results.{if_ok_from, sound_zero}
+use Rattle.quilt_btree.proofs.Stops.{sound_zero}
+use Rattle.quilt_region.proofs.Results.{if_ok_from}
 use Rattle.quilt_region.proofs.WithinKeys.{length_within, read_within}
 use Rattle.quilt_region.proofs.lookup.records_in.Goals as goal
 

@@ -1,5 +1,4 @@
 use Rattle.std.proofs.Common.{◌≡◌, ◌*◌, refl, sym, ◌∙◌, ap, subst, arith}
-use Rattle.std.proofs.lemmas.Result.{err_from_is_err_and}
 use Rattle.quilt_store.proofs.Reading.{only_reads_then, only_reads_same, read_on, only_reads_err, only_reads_ok}
 use Rattle.quilt_types.specs.declared.plane.Block.{Block}
 use Rattle.quilt_types.specs.Plane.{parent_of, IsBlock, Within}
@@ -12,8 +11,8 @@ use Rattle.quilt_region.specs.Windows.{HasAround}
 use Rattle.quilt_region.proofs.Beside.{true_false}
 use Rattle.quilt_region.proofs.Counting.{saved_then, saved_more, saved_none}
 use Rattle.quilt_region.proofs.Nearby.{not_whole, around_more, around_self, level_more, level_room}
-use Rattle.quilt_btree.specs.Trees.{IsTree}
-use Rattle.quilt_region.proofs.Results.{bad_along}
+use Rattle.quilt_btree.proofs.Handed.{handed_on}
+use Rattle.quilt_btree.proofs.Stops.{zero_handed, bad_handed}
 use Rattle.quilt_region.proofs.neighbours.block_up_to.Goals as goal
 
 pub loop-larger-init : goal.loop-larger-init
@@ -63,8 +62,8 @@ loop-larger-preserved g c =
 
 pub returns-in_err-has_around-clause-sound : goal.returns-in_err-has_around-clause-sound
 returns-in_err-has_around-clause-sound g c =
-    let p = err_from_is_err_and c.from_residual.result c.from_residual.ensures.1 in
-    rw (p.1, p.2) (λ grid h. c.in_err-has_around.ensures.sound grid (subst (λ told. HasRegion told c.args.tree.now c.args.layer c.args.level grid) (sym c.loop-larger.invariant.left.told) h))
+    rw (handed_on c.from_residual.result c.from_residual.ensures.1)
+    (λ grid h. c.in_err-has_around.ensures.sound grid (subst (λ told. HasRegion told c.args.tree.now c.args.layer c.args.level grid) (sym c.loop-larger.invariant.left.told) h))
 
 pub returns-in_err-has_around-clause-reads : goal.returns-in_err-has_around-clause-reads
 returns-in_err-has_around-clause-reads g c j d =
@@ -100,18 +99,16 @@ returns-clause-reads g c j d =
 
 pub returns-in_err-has_around-clause-left : goal.returns-in_err-has_around-clause-left
 returns-in_err-has_around-clause-left g c =
-    let p = err_from_is_err_and c.from_residual.result c.from_residual.ensures.1 in
-    rw (p.1, p.2) (only_reads_err _ (only_reads_then _ g.met.S.PageStore.goes_on _ _ _ c.loop-larger.invariant.left c.in_err-has_around.ensures.left))
+    rw (handed_on c.from_residual.result c.from_residual.ensures.1)
+    (only_reads_err _ (only_reads_then _ g.met.S.PageStore.goes_on _ _ _ c.loop-larger.invariant.left c.in_err-has_around.ensures.left))
 
 pub returns-then-not-branch-clause-left : goal.returns-then-not-branch-clause-left
 returns-then-not-branch-clause-left g c = only_reads_ok _ (only_reads_then _ g.met.S.PageStore.goes_on _ _ _ c.loop-larger.invariant.left c.in_ok-has_around.ensures.left) _
 
 pub returns-in_err-has_around-clause-zero : goal.returns-in_err-has_around-clause-zero
 returns-in_err-has_around-clause-zero g c =
-    let p = err_from_is_err_and c.from_residual.result c.from_residual.ensures.1 in
-    rw (p.1, p.2) (λ rs is. c.in_err-has_around.ensures.zero rs (subst (λ told. IsTree told c.args.tree.now rs) (sym c.loop-larger.invariant.left.told) is))
+    zero_handed _ c.from_residual.result c.from_residual.ensures.1 c.args.tree.now c.loop-larger.invariant.left.told c.in_err-has_around.ensures.zero
 
 pub returns-in_err-has_around-clause-bad : goal.returns-in_err-has_around-clause-bad
 returns-in_err-has_around-clause-bad g c =
-    let p = err_from_is_err_and c.from_residual.result c.from_residual.ensures.1 in
-    rw (p.1, p.2) (bad_along _ _ c.args.tree.now _ c.loop-larger.invariant.left.told c.in_err-has_around.ensures.bad)
+    bad_handed _ c.from_residual.result c.from_residual.ensures.1 c.args.tree.now c.loop-larger.invariant.left.told c.in_err-has_around.ensures.bad

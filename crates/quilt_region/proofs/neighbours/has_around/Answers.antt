@@ -1,7 +1,6 @@
 use Rattle.std.proofs.Common.{◌≡◌, ℕ, ◌+◌, ◌*◌, ◌^◌, ◌<◌, get_or, sym, ◌∙◌, ap, subst, ⊎_elim, Contains, arith}
 use Rattle.std.proofs.lemmas.Bool.{cases_lt}
 use Rattle.std.proofs.lemmas.List.{get_or_default}
-use Rattle.std.proofs.lemmas.Result.{err_from_is_err_and}
 use Rattle.quilt_store.proofs.Reading.{only_reads_then, read_on, only_reads_err, only_reads_ok}
 use Rattle.quilt_types.specs.declared.plane.Block.{Block}
 use Rattle.quilt_types.specs.Plane.{quarters_of, parent_of, IsBlock}
@@ -14,8 +13,8 @@ use Rattle.quilt_region.specs.Regions.{HasRegion}
 use Rattle.quilt_region.specs.Windows.{HasAround}
 use Rattle.quilt_world.proofs.ReadCounts.{reads_then}
 use Rattle.quilt_region.proofs.Nearby.{around_has, around_several, quarter_leaf}
-use Rattle.quilt_btree.specs.Trees.{IsTree}
-use Rattle.quilt_region.proofs.Results.{bad_along}
+use Rattle.quilt_btree.proofs.Handed.{handed_on}
+use Rattle.quilt_btree.proofs.Stops.{zero_handed, bad_handed}
 use Rattle.quilt_region.proofs.neighbours.has_around.Goals as goal
 
 larger_block : (n : ℕ) (b larger : Block) → IsBlock n b → b.side < 2 ^ n → larger ≡ parent_of b → IsBlock n larger
@@ -39,8 +38,8 @@ has_quarter-requires-clause-block g c =
 
 pub returns-in_err-has_quarter-clause-sound : goal.returns-in_err-has_quarter-clause-sound
 returns-in_err-has_quarter-clause-sound g c =
-    let p = err_from_is_err_and c.from_residual.result c.from_residual.ensures.1 in
-    rw (p.1, p.2) (λ grid h. c.in_err-has_quarter.ensures.sound grid (subst (λ told. HasRegion told c.args.tree.now c.args.layer c.args.level grid) (sym c.loop-q.invariant.left.told) h))
+    rw (handed_on c.from_residual.result c.from_residual.ensures.1)
+    (λ grid h. c.in_err-has_quarter.ensures.sound grid (subst (λ told. HasRegion told c.args.tree.now c.args.layer c.args.level grid) (sym c.loop-q.invariant.left.told) h))
 
 pub loop-q-preserved : goal.loop-q-preserved
 loop-q-preserved g c =
@@ -110,18 +109,16 @@ returns-clause-cut_out g c t grid h =
 
 pub returns-in_err-has_quarter-clause-left : goal.returns-in_err-has_quarter-clause-left
 returns-in_err-has_quarter-clause-left g c =
-    let p = err_from_is_err_and c.from_residual.result c.from_residual.ensures.1 in
-    rw (p.1, p.2) (only_reads_err _ (only_reads_then _ g.met.S.PageStore.goes_on _ _ _ c.loop-q.invariant.left c.in_err-has_quarter.ensures.left))
+    rw (handed_on c.from_residual.result c.from_residual.ensures.1)
+    (only_reads_err _ (only_reads_then _ g.met.S.PageStore.goes_on _ _ _ c.loop-q.invariant.left c.in_err-has_quarter.ensures.left))
 
 pub returns-then-not-branch-clause-left : goal.returns-then-not-branch-clause-left
 returns-then-not-branch-clause-left g c = only_reads_ok _ (only_reads_then _ g.met.S.PageStore.goes_on _ _ _ c.loop-q.invariant.left c.in_ok-has_quarter.ensures.left) _
 
 pub returns-in_err-has_quarter-clause-zero : goal.returns-in_err-has_quarter-clause-zero
 returns-in_err-has_quarter-clause-zero g c =
-    let p = err_from_is_err_and c.from_residual.result c.from_residual.ensures.1 in
-    rw (p.1, p.2) (λ rs is. c.in_err-has_quarter.ensures.zero rs (subst (λ told. IsTree told c.args.tree.now rs) (sym c.loop-q.invariant.left.told) is))
+    zero_handed _ c.from_residual.result c.from_residual.ensures.1 c.args.tree.now c.loop-q.invariant.left.told c.in_err-has_quarter.ensures.zero
 
 pub returns-in_err-has_quarter-clause-bad : goal.returns-in_err-has_quarter-clause-bad
 returns-in_err-has_quarter-clause-bad g c =
-    let p = err_from_is_err_and c.from_residual.result c.from_residual.ensures.1 in
-    rw (p.1, p.2) (bad_along _ _ c.args.tree.now _ c.loop-q.invariant.left.told c.in_err-has_quarter.ensures.bad)
+    bad_handed _ c.from_residual.result c.from_residual.ensures.1 c.args.tree.now c.loop-q.invariant.left.told c.in_err-has_quarter.ensures.bad

@@ -1,5 +1,4 @@
 use Rattle.std.proofs.Common.{sym, ◌∙◌, subst}
-use Rattle.std.proofs.lemmas.Result.{err_from_is_err_and}
 use Rattle.quilt_types.specs.declared.plane.Block.{Block}
 use Rattle.quilt_store.proofs.Reading.{only_reads_then, only_reads_err, only_reads_ok}
 use Rattle.quilt_blocks.proofs.Maximal.{Within-self}
@@ -7,8 +6,8 @@ use Rattle.quilt_region.specs.Regions.{HasRegion}
 use Rattle.quilt_region.specs.Windows.{HasAround}
 use Rattle.quilt_region.proofs.Beside.{true_false}
 use Rattle.quilt_region.proofs.Nearby.{not_whole, around_self}
-use Rattle.quilt_btree.specs.Trees.{IsTree}
-use Rattle.quilt_region.proofs.Results.{bad_along}
+use Rattle.quilt_btree.proofs.Handed.{handed_on}
+use Rattle.quilt_btree.proofs.Stops.{zero_handed, bad_handed}
 use Rattle.quilt_region.proofs.neighbours.known_beside.Goals as goal
 
 pub has_around-requires-clause-small : goal.has_around-requires-clause-small
@@ -16,8 +15,8 @@ has_around-requires-clause-small g c = not_whole c.args.level c.in_ok-b.b c.in_o
 
 pub returns-in_err-has_around-clause-sound : goal.returns-in_err-has_around-clause-sound
 returns-in_err-has_around-clause-sound g c =
-    let p = err_from_is_err_and c.from_residual-in_err-has_around.result c.from_residual-in_err-has_around.ensures.1 in
-    rw (p.1, p.2) (λ grid h. c.in_err-has_around.ensures.sound grid (subst (λ told. HasRegion told c.args.tree.now c.args.layer c.args.level grid) (sym c.in_ok-b.ensures.left.told) h))
+    rw (handed_on c.from_residual-in_err-has_around.result c.from_residual-in_err-has_around.ensures.1)
+    (λ grid h. c.in_err-has_around.ensures.sound grid (subst (λ told. HasRegion told c.args.tree.now c.args.layer c.args.level grid) (sym c.in_ok-b.ensures.left.told) h))
 
 pub returns-clause-knows : goal.returns-clause-knows
 returns-clause-knows g c grid h =
@@ -39,8 +38,8 @@ returns-clause-knows g c grid h =
 
 pub returns-in_err-has_around-clause-left : goal.returns-in_err-has_around-clause-left
 returns-in_err-has_around-clause-left g c =
-    let p = err_from_is_err_and c.from_residual-in_err-has_around.result c.from_residual-in_err-has_around.ensures.1 in
-    rw (p.1, p.2) (only_reads_err _ (only_reads_then _ g.met.S.PageStore.goes_on _ _ _ c.in_ok-b.ensures.left c.in_err-has_around.ensures.left))
+    rw (handed_on c.from_residual-in_err-has_around.result c.from_residual-in_err-has_around.ensures.1)
+    (only_reads_err _ (only_reads_then _ g.met.S.PageStore.goes_on _ _ _ c.in_ok-b.ensures.left c.in_err-has_around.ensures.left))
 
 pub returns-then-branch-clause-left : goal.returns-then-branch-clause-left
 returns-then-branch-clause-left g c = only_reads_ok _ (only_reads_then _ g.met.S.PageStore.goes_on _ _ _ c.in_ok-b.ensures.left c.in_ok-has_around.ensures.left) _
@@ -50,10 +49,10 @@ returns-clause-left g c = only_reads_ok _ (only_reads_then _ g.met.S.PageStore.g
 
 pub returns-in_err-has_around-clause-zero : goal.returns-in_err-has_around-clause-zero
 returns-in_err-has_around-clause-zero g c =
-    let p = err_from_is_err_and c.from_residual-in_err-has_around.result c.from_residual-in_err-has_around.ensures.1 in
-    rw (p.1, p.2) (λ rs is. c.in_err-has_around.ensures.zero rs (subst (λ told. IsTree told c.args.tree.now rs) (sym c.in_ok-b.ensures.left.told) is))
+    zero_handed _ c.from_residual-in_err-has_around.result c.from_residual-in_err-has_around.ensures.1
+    c.args.tree.now c.in_ok-b.ensures.left.told c.in_err-has_around.ensures.zero
 
 pub returns-in_err-has_around-clause-bad : goal.returns-in_err-has_around-clause-bad
 returns-in_err-has_around-clause-bad g c =
-    let p = err_from_is_err_and c.from_residual-in_err-has_around.result c.from_residual-in_err-has_around.ensures.1 in
-    rw (p.1, p.2) (bad_along _ _ c.args.tree.now _ c.in_ok-b.ensures.left.told c.in_err-has_around.ensures.bad)
+    bad_handed _ c.from_residual-in_err-has_around.result c.from_residual-in_err-has_around.ensures.1
+    c.args.tree.now c.in_ok-b.ensures.left.told c.in_err-has_around.ensures.bad

@@ -1,5 +1,4 @@
 use Rattle.std.proofs.Common.{◌+◌, ◌*◌, [], ◌∷◌, sym, ◌∙◌, ap, subst, arith}
-use Rattle.std.proofs.lemmas.Result.{err_from_is_err_and}
 use Rattle.quilt_store.proofs.Reading.{only_reads_then, only_reads_err, only_reads_free}
 use Rattle.quilt_blocks.specs.Cutting.{leaf_pair}
 use Rattle.quilt_blocks.proofs.Cuts.{leaf_is}
@@ -9,8 +8,10 @@ use Rattle.quilt_region.proofs.Beside.{if_err_weaker, if_ok_weaker}
 use Rattle.quilt_region.proofs.Counting.{then_saved, saved_less}
 use Rattle.quilt_region.proofs.Nearby.{window_in, leaf_cut}
 use Rattle.quilt_region.proofs.Pixels.{leaf_rows, pixel_in_block}
-use Rattle.quilt_region.proofs.Results.{if_ok, bad_along, zero_bad}
-use Rattle.quilt_btree.specs.Trees.{IsTree}
+use Rattle.quilt_region.proofs.Results.{if_ok}
+use Rattle.quilt_btree.proofs.Handed.{handed_on}
+use Rattle.quilt_btree.proofs.Stops.{zero_handed, bad_handed}
+use Rattle.quilt_btree.proofs.ways.Damage.{zero_named}
 use Rattle.quilt_region.proofs.plan.plan_pixel.Goals as goal
 
 pub leaf_with-requires-clause-in_x : goal.leaf_with-requires-clause-in_x
@@ -21,8 +22,7 @@ leaf_with-requires-clause-in_y g c = let i = window_in c.args.level c.args.w c.r
 
 pub returns-in_err-top-clause-sound : goal.returns-in_err-top-clause-sound
 returns-in_err-top-clause-sound g c =
-    let p = err_from_is_err_and c.from_residual-in_err-top.result c.from_residual-in_err-top.ensures.1 in
-    rw (p.1, p.2) (λ grid h. c.in_err-top.ensures.sound grid
+    rw (handed_on c.from_residual-in_err-top.result c.from_residual-in_err-top.ensures.1) (λ grid h. c.in_err-top.ensures.sound grid
     (subst (λ told. HasRegion told c.args.tree.now c.args.layer c.args.level grid) (sym c.in_ok-leaf.ensures.left.told) h))
 
 pub plan_known-requires-clause-blocks : goal.plan_known-requires-clause-blocks
@@ -85,8 +85,8 @@ returns-clause-reads g c =
 
 pub returns-in_err-top-clause-left : goal.returns-in_err-top-clause-left
 returns-in_err-top-clause-left g c =
-    let p = err_from_is_err_and c.from_residual-in_err-top.result c.from_residual-in_err-top.ensures.1 in
-    rw (p.1, p.2) (only_reads_err _ (only_reads_then _ g.met.S.PageStore.goes_on _ _ _ c.in_ok-leaf.ensures.left c.in_err-top.ensures.left))
+    rw (handed_on c.from_residual-in_err-top.result c.from_residual-in_err-top.ensures.1)
+    (only_reads_err _ (only_reads_then _ g.met.S.PageStore.goes_on _ _ _ c.in_ok-leaf.ensures.left c.in_err-top.ensures.left))
 
 pub returns-clause-left : goal.returns-clause-left
 returns-clause-left g c =
@@ -95,16 +95,15 @@ returns-clause-left g c =
 
 pub returns-in_err-top-clause-zero : goal.returns-in_err-top-clause-zero
 returns-in_err-top-clause-zero g c =
-    let p = err_from_is_err_and c.from_residual-in_err-top.result c.from_residual-in_err-top.ensures.1 in
-    rw (p.1, p.2) (λ rs is. c.in_err-top.ensures.zero rs (subst (λ told. IsTree told c.args.tree.now rs) (sym c.in_ok-leaf.ensures.left.told) is))
+    zero_handed _ c.from_residual-in_err-top.result c.from_residual-in_err-top.ensures.1
+    c.args.tree.now c.in_ok-leaf.ensures.left.told c.in_err-top.ensures.zero
 
 pub returns-clause-zero : goal.returns-clause-zero
 returns-clause-zero g c = if_err_weaker c.plan_known.result (λ e zero rs is. zero) c.plan_known.ensures.zero
 
 pub returns-in_err-top-clause-bad : goal.returns-in_err-top-clause-bad
 returns-in_err-top-clause-bad g c =
-    let p = err_from_is_err_and c.from_residual-in_err-top.result c.from_residual-in_err-top.ensures.1 in
-    rw (p.1, p.2) (bad_along _ _ c.args.tree.now _ c.in_ok-leaf.ensures.left.told c.in_err-top.ensures.bad)
+    bad_handed _ c.from_residual-in_err-top.result c.from_residual-in_err-top.ensures.1 c.args.tree.now c.in_ok-leaf.ensures.left.told c.in_err-top.ensures.bad
 
 pub returns-clause-bad : goal.returns-clause-bad
-returns-clause-bad g c = if_err_weaker c.plan_known.result (λ e zero. zero_bad e _ _ _ zero) c.plan_known.ensures.zero
+returns-clause-bad g c = zero_named c.plan_known.result _ _ _ c.plan_known.ensures.zero

@@ -13,8 +13,8 @@ use Rattle.quilt_world.proofs.ReadCounts.{reads_more}
 use Rattle.quilt_region.proofs.Counting.{then_saved, saved_less}
 use Rattle.quilt_region.proofs.Nearby.{power_le}
 use Rattle.quilt_region.proofs.plans.QuarterPlans.{some_at}
-use Rattle.quilt_btree.specs.Trees.{IsTree}
-use Rattle.quilt_region.proofs.Results.{bad_along}
+use Rattle.quilt_btree.proofs.Stops.{zero_along}
+use Rattle.quilt_btree.proofs.ways.Damage.{named_along}
 use Rattle.quilt_region.proofs.plan.plan_rect.Goals as goal
 
 pub returns-in-Some-clause-reads : goal.returns-in-Some-clause-reads
@@ -83,10 +83,8 @@ returns-in-None-clause-left g c = only_reads_then _ g.met.S.PageStore.goes_on _ 
 
 pub returns-in-None-clause-zero : goal.returns-in-None-clause-zero
 returns-in-None-clause-zero g c =
-    if_err_weaker c.plan_together.result
-    (λ e zero rs is. zero rs (subst (λ told. IsTree told c.args.tree.now rs) (sym c.in_ok-edits.ensures.left.told) is))
-    c.plan_together.ensures.zero
+    zero_along c.args.tree.now c.plan_together.result c.in_ok-edits.ensures.left.told c.plan_together.ensures.zero
 
 pub returns-in-None-clause-bad : goal.returns-in-None-clause-bad
 returns-in-None-clause-bad g c =
-    if_err_weaker c.plan_together.result (λ e bad. bad_along _ _ c.args.tree.now e c.in_ok-edits.ensures.left.told bad) c.plan_together.ensures.bad
+    named_along c.plan_together.result _ _ _ _ c.in_ok-edits.ensures.left.told c.plan_together.ensures.bad

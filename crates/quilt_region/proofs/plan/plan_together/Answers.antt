@@ -1,5 +1,4 @@
 use Rattle.std.proofs.Common.{◌+◌, ◌*◌, length, sym, ◌∙◌, subst, arith}
-use Rattle.std.proofs.lemmas.Result.{err_from_is_err_and}
 use Rattle.quilt_types.specs.declared.plane.Colour.{Colour}
 use Rattle.quilt_types.specs.Algebra.{painted}
 use Rattle.quilt_store.proofs.Reading.{only_reads_then, only_reads_err, only_reads_free}
@@ -9,14 +8,16 @@ use Rattle.quilt_region.specs.Windows.{leaves_within}
 use Rattle.quilt_region.proofs.Beside.{if_err_weaker, if_ok_weaker}
 use Rattle.quilt_region.proofs.Counting.{reads_plain, saved_then, saved_more}
 use Rattle.quilt_region.proofs.Nearby.{power_le}
-use Rattle.quilt_region.proofs.Results.{if_ok, bad_along, zero_bad}
-use Rattle.quilt_btree.specs.Trees.{IsTree}
+use Rattle.quilt_region.proofs.Results.{if_ok}
+use Rattle.quilt_btree.proofs.Handed.{handed_on}
+use Rattle.quilt_btree.proofs.Stops.{zero_handed, bad_handed}
+use Rattle.quilt_btree.proofs.ways.Damage.{zero_named}
 use Rattle.quilt_region.proofs.plan.plan_together.Goals as goal
 
 pub returns-in_err-records-clause-sound : goal.returns-in_err-records-clause-sound
 returns-in_err-records-clause-sound g c =
-    let p = err_from_is_err_and c.from_residual-in_err-records.result c.from_residual-in_err-records.ensures.1 in
-    rw (p.1, p.2) (λ grid h. c.in_err-records.ensures.sound grid (subst (λ told. HasRegion told c.args.tree.now c.args.layer c.args.level grid) (sym c.in_ok-known.ensures.left.told) h))
+    rw (handed_on c.from_residual-in_err-records.result c.from_residual-in_err-records.ensures.1)
+    (λ grid h. c.in_err-records.ensures.sound grid (subst (λ told. HasRegion told c.args.tree.now c.args.layer c.args.level grid) (sym c.in_ok-known.ensures.left.told) h))
 
 pub returns-clause-plan : goal.returns-clause-plan
 returns-clause-plan g c =
@@ -53,8 +54,8 @@ returns-clause-reads g c =
 
 pub returns-in_err-records-clause-left : goal.returns-in_err-records-clause-left
 returns-in_err-records-clause-left g c =
-    let p = err_from_is_err_and c.from_residual-in_err-records.result c.from_residual-in_err-records.ensures.1 in
-    rw (p.1, p.2) (only_reads_err _ (only_reads_then _ g.met.S.PageStore.goes_on _ _ _ c.in_ok-known.ensures.left c.in_err-records.ensures.left))
+    rw (handed_on c.from_residual-in_err-records.result c.from_residual-in_err-records.ensures.1)
+    (only_reads_err _ (only_reads_then _ g.met.S.PageStore.goes_on _ _ _ c.in_ok-known.ensures.left c.in_err-records.ensures.left))
 
 pub returns-clause-left : goal.returns-clause-left
 returns-clause-left g c = only_reads_free _ c.plan_known.result (only_reads_then _ g.met.S.PageStore.goes_on _ _ _ c.in_ok-known.ensures.left c.in_ok-records.ensures.left)
@@ -62,16 +63,16 @@ returns-clause-left g c = only_reads_free _ c.plan_known.result (only_reads_then
 
 pub returns-in_err-records-clause-zero : goal.returns-in_err-records-clause-zero
 returns-in_err-records-clause-zero g c =
-    let p = err_from_is_err_and c.from_residual-in_err-records.result c.from_residual-in_err-records.ensures.1 in
-    rw (p.1, p.2) (λ rs is. c.in_err-records.ensures.zero rs (subst (λ told. IsTree told c.args.tree.now rs) (sym c.in_ok-known.ensures.left.told) is))
+    zero_handed _ c.from_residual-in_err-records.result c.from_residual-in_err-records.ensures.1
+    c.args.tree.now c.in_ok-known.ensures.left.told c.in_err-records.ensures.zero
 
 pub returns-clause-zero : goal.returns-clause-zero
 returns-clause-zero g c = if_err_weaker c.plan_known.result (λ e zero rs is. zero) c.plan_known.ensures.zero
 
 pub returns-in_err-records-clause-bad : goal.returns-in_err-records-clause-bad
 returns-in_err-records-clause-bad g c =
-    let p = err_from_is_err_and c.from_residual-in_err-records.result c.from_residual-in_err-records.ensures.1 in
-    rw (p.1, p.2) (bad_along _ _ c.args.tree.now _ c.in_ok-known.ensures.left.told c.in_err-records.ensures.bad)
+    bad_handed _ c.from_residual-in_err-records.result c.from_residual-in_err-records.ensures.1
+    c.args.tree.now c.in_ok-known.ensures.left.told c.in_err-records.ensures.bad
 
 pub returns-clause-bad : goal.returns-clause-bad
-returns-clause-bad g c = if_err_weaker c.plan_known.result (λ e zero. zero_bad e _ _ _ zero) c.plan_known.ensures.zero
+returns-clause-bad g c = zero_named c.plan_known.result _ _ _ c.plan_known.ensures.zero

@@ -1,10 +1,9 @@
 use Rattle.std.proofs.Common.{◌+◌, ◌*◌, sym, ◌∙◌, subst, arith}
-use Rattle.std.proofs.lemmas.Result.{err_from_is_err_and}
 use Rattle.quilt_store.proofs.Reading.{only_reads_then, only_reads_err, only_reads_ok}
 use Rattle.quilt_region.specs.Regions.{HasRegion}
 use Rattle.quilt_region.proofs.Counting.{then_saved}
-use Rattle.quilt_btree.specs.Trees.{IsTree}
-use Rattle.quilt_region.proofs.Results.{bad_along}
+use Rattle.quilt_btree.proofs.Handed.{handed_on}
+use Rattle.quilt_btree.proofs.Stops.{zero_handed, bad_handed}
 use Rattle.quilt_region.proofs.plan.what_is_around.Goals as goal
 
 pub returns-clause-knows : goal.returns-clause-knows
@@ -25,8 +24,8 @@ returns-clause-knows g c grid h =
 
 pub returns-in_err-top-clause-sound : goal.returns-in_err-top-clause-sound
 returns-in_err-top-clause-sound g c =
-    let p = err_from_is_err_and c.from_residual-in_err-top.result c.from_residual-in_err-top.ensures.1 in
-    rw (p.1, p.2) (λ grid h. c.in_err-top.ensures.sound grid (subst (λ told. HasRegion told c.args.tree.now c.args.layer c.args.level grid) (sym c.in_ok-read.ensures.left.told) h))
+    rw (handed_on c.from_residual-in_err-top.result c.from_residual-in_err-top.ensures.1)
+    (λ grid h. c.in_err-top.ensures.sound grid (subst (λ told. HasRegion told c.args.tree.now c.args.layer c.args.level grid) (sym c.in_ok-read.ensures.left.told) h))
 
 pub returns-clause-reads : goal.returns-clause-reads
 returns-clause-reads g c j e =
@@ -34,18 +33,17 @@ returns-clause-reads g c j e =
 
 pub returns-in_err-top-clause-left : goal.returns-in_err-top-clause-left
 returns-in_err-top-clause-left g c =
-    let p = err_from_is_err_and c.from_residual-in_err-top.result c.from_residual-in_err-top.ensures.1 in
-    rw (p.1, p.2) (only_reads_err _ (only_reads_then _ g.met.S.PageStore.goes_on _ _ _ c.in_ok-read.ensures.left c.in_err-top.ensures.left))
+    rw (handed_on c.from_residual-in_err-top.result c.from_residual-in_err-top.ensures.1)
+    (only_reads_err _ (only_reads_then _ g.met.S.PageStore.goes_on _ _ _ c.in_ok-read.ensures.left c.in_err-top.ensures.left))
 
 pub returns-clause-left : goal.returns-clause-left
 returns-clause-left g c = only_reads_ok _ (only_reads_then _ g.met.S.PageStore.goes_on _ _ _ c.in_ok-read.ensures.left c.in_ok-top.ensures.left) _
 
 pub returns-in_err-top-clause-zero : goal.returns-in_err-top-clause-zero
 returns-in_err-top-clause-zero g c =
-    let p = err_from_is_err_and c.from_residual-in_err-top.result c.from_residual-in_err-top.ensures.1 in
-    rw (p.1, p.2) (λ rs is. c.in_err-top.ensures.zero rs (subst (λ told. IsTree told c.args.tree.now rs) (sym c.in_ok-read.ensures.left.told) is))
+    zero_handed _ c.from_residual-in_err-top.result c.from_residual-in_err-top.ensures.1
+    c.args.tree.now c.in_ok-read.ensures.left.told c.in_err-top.ensures.zero
 
 pub returns-in_err-top-clause-bad : goal.returns-in_err-top-clause-bad
 returns-in_err-top-clause-bad g c =
-    let p = err_from_is_err_and c.from_residual-in_err-top.result c.from_residual-in_err-top.ensures.1 in
-    rw (p.1, p.2) (bad_along _ _ c.args.tree.now _ c.in_ok-read.ensures.left.told c.in_err-top.ensures.bad)
+    bad_handed _ c.from_residual-in_err-top.result c.from_residual-in_err-top.ensures.1 c.args.tree.now c.in_ok-read.ensures.left.told c.in_err-top.ensures.bad

@@ -1,6 +1,5 @@
 use Rattle.std.proofs.Common.{◌≡◌, ℕ, ◌+◌, ◌-◌, ◌*◌, ◌<◌, ◌≤◌, Bool, length, take, get_or, refl, sym, ◌∙◌, ap, subst, ⊎_elim, arith}
 use Rattle.std.specs.List.{sum_by}
-use Rattle.std.proofs.lemmas.Result.{err_from_is_err_and}
 use Rattle.quilt_store.proofs.Reading.{only_reads_then, only_reads_err, only_reads_ok}
 use Rattle.quilt_types.specs.declared.plane.Block.{Block}
 use Rattle.quilt_types.specs.declared.plane.Colour.{Colour}
@@ -20,8 +19,8 @@ use Rattle.quilt_region.proofs.Parts.{block_room, window_room}
 use Rattle.quilt_region.proofs.plans.QuarterPlans.{without_part, part_several, with_part, top_inside}
 use Rattle.quilt_region.proofs.plans.QuarterPlans.{quarter_is, list_step, same_step, sum_step, last_or_before}
 use Rattle.quilt_region.proofs.plans.QuarterPlans.{some_at}
-use Rattle.quilt_btree.specs.Trees.{IsTree}
-use Rattle.quilt_region.proofs.Results.{bad_along}
+use Rattle.quilt_btree.proofs.Handed.{handed_on}
+use Rattle.quilt_btree.proofs.Stops.{zero_handed, bad_handed}
 use Rattle.quilt_region.proofs.quarters.+plan_quarters.Goals as goal
 
 abbrev zero_block : Block
@@ -102,14 +101,14 @@ returns-in_default-clause-reads g t c =
 
 pub returns-in_err-plan_quarters-clause-sound : goal.returns-in_err-plan_quarters-clause-sound
 returns-in_err-plan_quarters-clause-sound g t c =
-    let p = err_from_is_err_and c.from_residual-in_err-plan_quarters.result c.from_residual-in_err-plan_quarters.ensures.1 in
-    rw (p.1, p.2) (λ grid h. c.in_err-plan_quarters.ensures.sound grid (subst (λ told. HasRegion told c.args.tree.now c.args.layer c.args.level grid)
+    rw (handed_on c.from_residual-in_err-plan_quarters.result c.from_residual-in_err-plan_quarters.ensures.1)
+    (λ grid h. c.in_err-plan_quarters.ensures.sound grid (subst (λ told. HasRegion told c.args.tree.now c.args.layer c.args.level grid)
     (sym c.in_ok-known.ensures.left.told) h))
 
 pub returns-in_err-plan_part-clause-sound : goal.returns-in_err-plan_part-clause-sound
 returns-in_err-plan_part-clause-sound g t c =
-    let p = err_from_is_err_and c.from_residual-in_err-plan_part.result c.from_residual-in_err-plan_part.ensures.1 in
-    rw (p.1, p.2) (λ grid h. let after = subst (λ told. HasRegion told c.args.tree.now c.args.layer c.args.level grid)
+    rw (handed_on c.from_residual-in_err-plan_part.result c.from_residual-in_err-plan_part.ensures.1)
+    (λ grid h. let after = subst (λ told. HasRegion told c.args.tree.now c.args.layer c.args.level grid)
     (sym (c.in_ok-plan_quarters.ensures.left.told ∙ c.in_ok-known.ensures.left.told)) h in
     let law : (grid : Grid) → HasRegion (g.S.PageStore.told c.args.store.now) c.args.tree.now c.args.layer c.args.level grid
     → KnowsAround c.args.level grid c.in-Some.v c.in-Some-2.known =
@@ -216,36 +215,36 @@ returns-clause-reads g t c test grid h =
 
 pub returns-in_err-plan_quarters-clause-left : goal.returns-in_err-plan_quarters-clause-left
 returns-in_err-plan_quarters-clause-left g t c =
-    let p = err_from_is_err_and c.from_residual-in_err-plan_quarters.result c.from_residual-in_err-plan_quarters.ensures.1 in
-    rw (p.1, p.2) (only_reads_err _ (only_reads_then _ g.met.S.PageStore.goes_on _ _ _ c.in_ok-known.ensures.left c.in_err-plan_quarters.ensures.left))
+    rw (handed_on c.from_residual-in_err-plan_quarters.result c.from_residual-in_err-plan_quarters.ensures.1)
+    (only_reads_err _ (only_reads_then _ g.met.S.PageStore.goes_on _ _ _ c.in_ok-known.ensures.left c.in_err-plan_quarters.ensures.left))
 
 pub returns-then-not-branch-clause-left : goal.returns-then-not-branch-clause-left
 returns-then-not-branch-clause-left g t c = only_reads_ok _ (only_reads_then _ g.met.S.PageStore.goes_on _ _ _ c.in_ok-known.ensures.left c.in_ok-plan_quarters.ensures.left) _
 
 pub returns-in_err-plan_part-clause-left : goal.returns-in_err-plan_part-clause-left
 returns-in_err-plan_part-clause-left g t c =
-    let p = err_from_is_err_and c.from_residual-in_err-plan_part.result c.from_residual-in_err-plan_part.ensures.1 in
-    rw (p.1, p.2) (only_reads_err _ (only_reads_then _ g.met.S.PageStore.goes_on _ _ _ c.in_ok-known.ensures.left (only_reads_then _ g.met.S.PageStore.goes_on _ _ _ c.in_ok-plan_quarters.ensures.left c.in_err-plan_part.ensures.left)))
+    rw (handed_on c.from_residual-in_err-plan_part.result c.from_residual-in_err-plan_part.ensures.1)
+    (only_reads_err _ (only_reads_then _ g.met.S.PageStore.goes_on _ _ _ c.in_ok-known.ensures.left (only_reads_then _ g.met.S.PageStore.goes_on _ _ _ c.in_ok-plan_quarters.ensures.left c.in_err-plan_part.ensures.left)))
 
 pub returns-clause-left : goal.returns-clause-left
 returns-clause-left g t c = only_reads_ok _ (only_reads_then _ g.met.S.PageStore.goes_on _ _ _ c.in_ok-known.ensures.left (only_reads_then _ g.met.S.PageStore.goes_on _ _ _ c.in_ok-plan_quarters.ensures.left c.in_ok-plan_part.ensures.left)) _
 
 pub returns-in_err-plan_quarters-clause-zero : goal.returns-in_err-plan_quarters-clause-zero
 returns-in_err-plan_quarters-clause-zero g t c =
-    let p = err_from_is_err_and c.from_residual-in_err-plan_quarters.result c.from_residual-in_err-plan_quarters.ensures.1 in
-    rw (p.1, p.2) (λ rs is. c.in_err-plan_quarters.ensures.zero rs (subst (λ told. IsTree told c.args.tree.now rs) (sym c.in_ok-known.ensures.left.told) is))
+    zero_handed _ c.from_residual-in_err-plan_quarters.result c.from_residual-in_err-plan_quarters.ensures.1
+    c.args.tree.now c.in_ok-known.ensures.left.told c.in_err-plan_quarters.ensures.zero
 
 pub returns-in_err-plan_part-clause-zero : goal.returns-in_err-plan_part-clause-zero
 returns-in_err-plan_part-clause-zero g t c =
-    let p = err_from_is_err_and c.from_residual-in_err-plan_part.result c.from_residual-in_err-plan_part.ensures.1 in
-    rw (p.1, p.2) (λ rs is. c.in_err-plan_part.ensures.zero rs (subst (λ told. IsTree told c.args.tree.now rs) (sym (c.in_ok-plan_quarters.ensures.left.told ∙ c.in_ok-known.ensures.left.told)) is))
+    zero_handed _ c.from_residual-in_err-plan_part.result c.from_residual-in_err-plan_part.ensures.1
+    c.args.tree.now (c.in_ok-plan_quarters.ensures.left.told ∙ c.in_ok-known.ensures.left.told) c.in_err-plan_part.ensures.zero
 
 pub returns-in_err-plan_quarters-clause-bad : goal.returns-in_err-plan_quarters-clause-bad
 returns-in_err-plan_quarters-clause-bad g t c =
-    let p = err_from_is_err_and c.from_residual-in_err-plan_quarters.result c.from_residual-in_err-plan_quarters.ensures.1 in
-    rw (p.1, p.2) (bad_along _ _ c.args.tree.now _ c.in_ok-known.ensures.left.told c.in_err-plan_quarters.ensures.bad)
+    bad_handed _ c.from_residual-in_err-plan_quarters.result c.from_residual-in_err-plan_quarters.ensures.1
+    c.args.tree.now c.in_ok-known.ensures.left.told c.in_err-plan_quarters.ensures.bad
 
 pub returns-in_err-plan_part-clause-bad : goal.returns-in_err-plan_part-clause-bad
 returns-in_err-plan_part-clause-bad g t c =
-    let p = err_from_is_err_and c.from_residual-in_err-plan_part.result c.from_residual-in_err-plan_part.ensures.1 in
-    rw (p.1, p.2) (bad_along _ _ c.args.tree.now _ (c.in_ok-plan_quarters.ensures.left.told ∙ c.in_ok-known.ensures.left.told) c.in_err-plan_part.ensures.bad)
+    bad_handed _ c.from_residual-in_err-plan_part.result c.from_residual-in_err-plan_part.ensures.1
+    c.args.tree.now (c.in_ok-plan_quarters.ensures.left.told ∙ c.in_ok-known.ensures.left.told) c.in_err-plan_part.ensures.bad

@@ -1,5 +1,4 @@
 use Rattle.std.proofs.Common.{◌≡◌, ◌+◌, ◌*◌, length, sym, ◌∙◌, arith}
-use Rattle.std.proofs.lemmas.Result.{err_from_is_err_and}
 use Rattle.quilt_types.specs.declared.plane.Pixel.{Pixel}
 use Rattle.quilt_types.specs.declared.stop.Stop.TheVariants.{Memory, Damaged}
 use Rattle.quilt_types.specs.Algebra.{painted}
@@ -9,7 +8,9 @@ use Rattle.quilt_region.proofs.plans.KnownPlans.{corner_in}
 use Rattle.quilt_region.proofs.Nearby.{window_corner}
 use Rattle.quilt_region.proofs.plans.Quarters.{quarter_with, few_in_quarters}
 use Rattle.quilt_region.proofs.plans.QuarterPlans.{inside_from, quarters_whole, can_be, sorted_is, from_none}
-use Rattle.quilt_region.proofs.Results.{zero_named, zero_bad}
+use Rattle.quilt_btree.proofs.Handed.{handed_on}
+use Rattle.quilt_btree.proofs.Stops.{zero_page}
+use Rattle.quilt_btree.proofs.ways.Damage.{zero_names}
 use Rattle.quilt_region.proofs.quarters.plan_in_block.Goals as goal
 
 memory_sound : (page : _) → Memory ≡ Damaged page → ⊥
@@ -17,8 +18,7 @@ memory_sound page e = cc
 
 pub returns-in_err-edits-clause-sound : goal.returns-in_err-edits-clause-sound
 returns-in_err-edits-clause-sound g c =
-    let p = err_from_is_err_and c.from_residual-in_err-edits.result c.from_residual-in_err-edits.ensures.1 in
-    rw (p.1, p.2) (λ grid h page e. let n = c.args.level in
+    rw (handed_on c.from_residual-in_err-edits.result c.from_residual-in_err-edits.ensures.1) (λ grid h page e. let n = c.args.level in
     let le = c.requires.level.1 in
     let w = c.args.w in
     let p : Pixel = record { x = w.x; y = w.y } in
@@ -57,10 +57,8 @@ returns-clause-reads g c grid h =
 
 pub returns-in_err-edits-clause-zero : goal.returns-in_err-edits-clause-zero
 returns-in_err-edits-clause-zero g c =
-    let p = err_from_is_err_and c.from_residual-in_err-edits.result c.from_residual-in_err-edits.ensures.1 in
-    rw (p.1, p.2) (λ rs is. zero_named _ c.in_err-edits.ensures.zero)
+    rw (handed_on c.from_residual-in_err-edits.result c.from_residual-in_err-edits.ensures.1) (λ rs is. zero_page _ c.in_err-edits.ensures.zero)
 
 pub returns-in_err-edits-clause-bad : goal.returns-in_err-edits-clause-bad
 returns-in_err-edits-clause-bad g c =
-    let p = err_from_is_err_and c.from_residual-in_err-edits.result c.from_residual-in_err-edits.ensures.1 in
-    rw (p.1, p.2) (zero_bad _ _ _ _ (zero_named _ c.in_err-edits.ensures.zero))
+    rw (handed_on c.from_residual-in_err-edits.result c.from_residual-in_err-edits.ensures.1) (zero_names _ _ _ _ (zero_page _ c.in_err-edits.ensures.zero))

@@ -1,29 +1,26 @@
 use Rattle.std.proofs.Common.{◌*◌, length, ◌∙◌}
-use Rattle.std.proofs.lemmas.Result.{err_from_is_err_and}
 use Rattle.quilt_region.specs.Windows.{leaves_within}
 use Rattle.quilt_region.proofs.Counting.{reads_plain}
-use Rattle.quilt_region.proofs.Results.{zero_bad}
+use Rattle.quilt_btree.proofs.Handed.{handed_on}
+use Rattle.quilt_btree.proofs.ways.Damage.{zero_names}
 use Rattle.quilt_region.proofs.quarters.plan_part.Goals as goal
 
 pub returns-in_err-records-clause-sound : goal.returns-in_err-records-clause-sound
 returns-in_err-records-clause-sound g c =
-    let p = err_from_is_err_and c.from_residual.result c.from_residual.ensures.1 in
-    rw (p.1, p.2) (λ grid h knows. c.in_err-records.ensures.sound grid h)
+    rw (handed_on c.from_residual.result c.from_residual.ensures.1) (λ grid h knows. c.in_err-records.ensures.sound grid h)
 
 pub returns-in_err-edits-clause-sound : goal.returns-in_err-edits-clause-sound
 returns-in_err-edits-clause-sound g c =
-    let p = err_from_is_err_and c.from_residual-in_err-edits.result c.from_residual-in_err-edits.ensures.1 in
-    rw (p.1, p.2) (λ grid h knows. c.in_err-edits.ensures.sound grid (c.deref.ensures.value ∙ c.in_ok-records.ensures.records grid h) knows)
+    rw (handed_on c.from_residual-in_err-edits.result c.from_residual-in_err-edits.ensures.1)
+    (λ grid h knows. c.in_err-edits.ensures.sound grid (c.deref.ensures.value ∙ c.in_ok-records.ensures.records grid h) knows)
 
 pub returns-clause-reads : goal.returns-clause-reads
 returns-clause-reads g c grid h = reads_plain 6 (3 * length (leaves_within c.args.level grid c.args.known.now.read)) _ _ (c.in_ok-records.ensures.reads grid h)
 
 pub returns-in_err-edits-clause-zero : goal.returns-in_err-edits-clause-zero
 returns-in_err-edits-clause-zero g c =
-    let p = err_from_is_err_and c.from_residual-in_err-edits.result c.from_residual-in_err-edits.ensures.1 in
-    rw (p.1, p.2) (λ rs is. c.in_err-edits.ensures.zero)
+    rw (handed_on c.from_residual-in_err-edits.result c.from_residual-in_err-edits.ensures.1) (λ rs is. c.in_err-edits.ensures.zero)
 
 pub returns-in_err-edits-clause-bad : goal.returns-in_err-edits-clause-bad
 returns-in_err-edits-clause-bad g c =
-    let p = err_from_is_err_and c.from_residual-in_err-edits.result c.from_residual-in_err-edits.ensures.1 in
-    rw (p.1, p.2) (zero_bad _ _ _ _ c.in_err-edits.ensures.zero)
+    rw (handed_on c.from_residual-in_err-edits.result c.from_residual-in_err-edits.ensures.1) (zero_names _ _ _ _ c.in_err-edits.ensures.zero)

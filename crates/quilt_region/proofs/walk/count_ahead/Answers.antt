@@ -1,13 +1,13 @@
 use Rattle.std.proofs.Common.{◌≡◌, ℕ, replicate, get_or, ◌+◌, ◌*◌, [], ◌∷◌, length, sym, ◌∙◌, arith}
 use Rattle.std.proofs.lemmas.List.{length-set, length-replicate, get_or-replicate}
-use Rattle.std.proofs.lemmas.Result.{err_from_is_err_and}
 use Rattle.quilt_store.proofs.Reading.{only_reads_then, only_reads_same, read_on, only_reads_err, only_reads_ok}
 use Rattle.quilt_blocks.specs.Cutting.{leaves_by_code}
 use Rattle.quilt_loc.proofs.Blocks.{IsBlock-up}
 use Rattle.quilt_blocks.proofs.Chains.{member_pos}
 use Rattle.quilt_world.proofs.ReadCounts.{reads_then}
 use Rattle.quilt_region.proofs.Walking.{ahead_along, square_end, none_counted, leaf_ahead, count_next, all_counted, counts_most, stands_along}
-use Rattle.quilt_region.proofs.Results.{bad_along}
+use Rattle.quilt_btree.proofs.Handed.{handed_on}
+use Rattle.quilt_btree.proofs.Stops.{bad_handed}
 use Rattle.quilt_region.proofs.walk.count_ahead.Goals as goal
 
 pub loop-code-init : goal.loop-code-init
@@ -22,8 +22,7 @@ loop-code-init g c = record {
 
 pub returns-in_err-leaf-clause-sound : goal.returns-in_err-leaf-clause-sound
 returns-in_err-leaf-clause-sound g c =
-    let p = err_from_is_err_and c.from_residual.result c.from_residual.ensures.1 in
-    rw (p.1, p.2) (λ grid ahead. let inv = c.loop-code.invariant in
+    rw (handed_on c.from_residual.result c.from_residual.ensures.1) (λ grid ahead. let inv = c.loop-code.invariant in
     let e = square_end c.args.level c.whole_square.result c.end_of-end.result c.requires.level.1 c.whole_square.ensures c.end_of-end.ensures.value in
     let lt = c.loop-code-test.true in
     let is = e.0 in
@@ -32,8 +31,8 @@ returns-in_err-leaf-clause-sound g c =
 
 pub returns-in_err-leaf-clause-left : goal.returns-in_err-leaf-clause-left
 returns-in_err-leaf-clause-left g c =
-    let p = err_from_is_err_and c.from_residual.result c.from_residual.ensures.1 in
-    rw (p.1, p.2) (only_reads_err _ (only_reads_then _ g.met.S.PageStore.goes_on _ _ _ c.loop-code.invariant.left c.in_err-leaf.ensures.left))
+    rw (handed_on c.from_residual.result c.from_residual.ensures.1)
+    (only_reads_err _ (only_reads_then _ g.met.S.PageStore.goes_on _ _ _ c.loop-code.invariant.left c.in_err-leaf.ensures.left))
 
 pub overflow_add-counts : goal.overflow_add-counts
 overflow_add-counts g c =
@@ -72,8 +71,7 @@ loop-code-preserved g c =
 
 pub returns-in_err-end_layer-clause-sound : goal.returns-in_err-end_layer-clause-sound
 returns-in_err-end_layer-clause-sound g c =
-    let p = err_from_is_err_and c.from_residual-in_err-end_layer.result c.from_residual-in_err-end_layer.ensures.1 in
-    rw (p.1, p.2) (λ grid ahead. let inv = c.loop-code.invariant in
+    rw (handed_on c.from_residual-in_err-end_layer.result c.from_residual-in_err-end_layer.ensures.1) (λ grid ahead. let inv = c.loop-code.invariant in
     let e = square_end c.args.level c.whole_square.result c.end_of-end.result c.requires.level.1 c.whole_square.ensures c.end_of-end.ensures.value in
     let past = c.loop-code-test.false in
     let is = e.0 in
@@ -82,8 +80,8 @@ returns-in_err-end_layer-clause-sound g c =
 
 pub returns-in_err-end_layer-clause-left : goal.returns-in_err-end_layer-clause-left
 returns-in_err-end_layer-clause-left g c =
-    let p = err_from_is_err_and c.from_residual-in_err-end_layer.result c.from_residual-in_err-end_layer.ensures.1 in
-    rw (p.1, p.2) (only_reads_err _ (only_reads_then _ g.met.S.PageStore.goes_on _ _ _ c.loop-code.invariant.left c.in_err-end_layer.ensures.left))
+    rw (handed_on c.from_residual-in_err-end_layer.result c.from_residual-in_err-end_layer.ensures.1)
+    (only_reads_err _ (only_reads_then _ g.met.S.PageStore.goes_on _ _ _ c.loop-code.invariant.left c.in_err-end_layer.ensures.left))
 
 pub returns-clause-counts : goal.returns-clause-counts
 returns-clause-counts g c grid ahead k le =
@@ -110,22 +108,20 @@ end_of-code-requires g c = IsBlock-up c.args.level 12 c.in_ok-leaf.leaf.block c.
 
 pub returns-in_err-leaf-clause-zero : goal.returns-in_err-leaf-clause-zero
 returns-in_err-leaf-clause-zero g c =
-    let p = err_from_is_err_and c.from_residual.result c.from_residual.ensures.1 in
     let inv = c.loop-code.invariant in
-    rw (p.1, p.2) (λ h. c.in_err-leaf.ensures.zero (stands_along _ _ _ _ inv.left.told (inv.stands h)))
+    rw (handed_on c.from_residual.result c.from_residual.ensures.1) (λ h. c.in_err-leaf.ensures.zero (stands_along _ _ _ _ inv.left.told (inv.stands h)))
 
 pub returns-in_err-end_layer-clause-zero : goal.returns-in_err-end_layer-clause-zero
 returns-in_err-end_layer-clause-zero g c =
-    let p = err_from_is_err_and c.from_residual-in_err-end_layer.result c.from_residual-in_err-end_layer.ensures.1 in
     let inv = c.loop-code.invariant in
-    rw (p.1, p.2) (λ h. c.in_err-end_layer.ensures.zero (stands_along _ _ _ _ inv.left.told (inv.stands h)))
+    rw (handed_on c.from_residual-in_err-end_layer.result c.from_residual-in_err-end_layer.ensures.1)
+    (λ h. c.in_err-end_layer.ensures.zero (stands_along _ _ _ _ inv.left.told (inv.stands h)))
 
 pub returns-in_err-leaf-clause-bad : goal.returns-in_err-leaf-clause-bad
 returns-in_err-leaf-clause-bad g c =
-    let p = err_from_is_err_and c.from_residual.result c.from_residual.ensures.1 in
-    rw (p.1, p.2) (bad_along _ _ c.args.tree.now _ c.loop-code.invariant.left.told c.in_err-leaf.ensures.bad)
+    bad_handed _ c.from_residual.result c.from_residual.ensures.1 c.args.tree.now c.loop-code.invariant.left.told c.in_err-leaf.ensures.bad
 
 pub returns-in_err-end_layer-clause-bad : goal.returns-in_err-end_layer-clause-bad
 returns-in_err-end_layer-clause-bad g c =
-    let p = err_from_is_err_and c.from_residual-in_err-end_layer.result c.from_residual-in_err-end_layer.ensures.1 in
-    rw (p.1, p.2) (bad_along _ _ c.args.tree.now _ c.loop-code.invariant.left.told c.in_err-end_layer.ensures.bad)
+    bad_handed _ c.from_residual-in_err-end_layer.result c.from_residual-in_err-end_layer.ensures.1
+    c.args.tree.now c.loop-code.invariant.left.told c.in_err-end_layer.ensures.bad

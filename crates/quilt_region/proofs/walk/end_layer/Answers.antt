@@ -1,13 +1,12 @@
 use Rattle.std.proofs.Common.{◌∙◌}
-use Rattle.std.proofs.lemmas.Result.{err_from_is_err_and}
 use Rattle.quilt_region.proofs.Walking.{goes_out}
-use Rattle.quilt_region.proofs.Results.{sound_zero}
+use Rattle.quilt_btree.proofs.Handed.{handed_on}
+use Rattle.quilt_btree.proofs.Stops.{sound_zero}
 use Rattle.quilt_region.proofs.walk.end_layer.Goals as goal
 
 pub returns-in_err-r-clause-sound : goal.returns-in_err-r-clause-sound
 returns-in_err-r-clause-sound g c =
-    let p = err_from_is_err_and c.from_residual.result c.from_residual.ensures.1 in
-    rw (p.1, p.2) (λ n h. c.in_err-r.ensures.sound h.before h.after h.tree h.stands)
+    rw (handed_on c.from_residual.result c.from_residual.ensures.1) (λ n h. c.in_err-r.ensures.sound h.before h.after h.tree h.stands)
 
 pub returns-in-Some-clause-sound : goal.returns-in-Some-clause-sound
 returns-in-Some-clause-sound g c n h page e =
@@ -17,5 +16,4 @@ returns-in-Some-clause-sound g c n h page e =
 
 pub returns-in_err-r-clause-zero : goal.returns-in_err-r-clause-zero
 returns-in_err-r-clause-zero g c =
-    let p = err_from_is_err_and c.from_residual.result c.from_residual.ensures.1 in
-    rw (p.1, p.2) (λ h. sound_zero _ (c.in_err-r.ensures.sound h.before h.after h.tree h.stands))
+    rw (handed_on c.from_residual.result c.from_residual.ensures.1) (λ h. sound_zero _ (c.in_err-r.ensures.sound h.before h.after h.tree h.stands))

@@ -1,16 +1,17 @@
 use Rattle.std.proofs.Common.{◌+◌, ◌*◌, cond, length, ◌∙◌, arith}
-use Rattle.std.proofs.lemmas.Result.{IfOk-weaker, IfErr-weaker, err_from_is_err_and}
+use Rattle.std.proofs.lemmas.Result.{IfOk-weaker, IfErr-weaker}
 use Rattle.quilt_blocks.specs.Cutting.{leaves_by_code}
 use Rattle.quilt_measure.proofs.Parts.{same_leaves}
 use Rattle.quilt_world.proofs.ReadCounts.{reads_then}
 use Rattle.quilt_region.proofs.Walking.{ahead_along, has_side, some_records, walk_begins, stands_along, stands_sought}
-use Rattle.quilt_region.proofs.Results.{sound_zero, bad_along}
+use Rattle.quilt_btree.proofs.Handed.{handed_on}
+use Rattle.quilt_btree.proofs.Stops.{sound_handed}
+use Rattle.quilt_btree.proofs.ways.Damage.{named_along}
 use Rattle.quilt_region.proofs.walk.leaf_counts.Goals as goal
 
 pub returns-in_err-cursor-clause-sound : goal.returns-in_err-cursor-clause-sound
 returns-in_err-cursor-clause-sound g c =
-    let p = err_from_is_err_and c.from_residual.result c.from_residual.ensures.1 in
-    rw (p.1, p.2) (λ grid h. c.in_err-cursor.ensures.sound h.records h.tree)
+    rw (handed_on c.from_residual.result c.from_residual.ensures.1) (λ grid h. c.in_err-cursor.ensures.sound h.records h.tree)
 
 pub returns-then-tree-eq0-clause-sound : goal.returns-then-tree-eq0-clause-sound
 returns-then-tree-eq0-clause-sound g c grid h page e =
@@ -46,9 +47,7 @@ returns-clause-reads g c =
     c.count_ahead.ensures.reads
 
 pub returns-in_err-cursor-clause-zero : goal.returns-in_err-cursor-clause-zero
-returns-in_err-cursor-clause-zero g c =
-    let p = err_from_is_err_and c.from_residual.result c.from_residual.ensures.1 in
-    rw (p.1, p.2) (λ rs is. sound_zero _ (c.in_err-cursor.ensures.sound rs is))
+returns-in_err-cursor-clause-zero g c = sound_handed c.from_residual.result c.from_residual.ensures.1 c.in_err-cursor.ensures.sound
 
 pub returns-clause-zero : goal.returns-clause-zero
 returns-clause-zero g c =
@@ -59,9 +58,8 @@ returns-clause-zero g c =
 
 pub returns-in_err-cursor-clause-bad : goal.returns-in_err-cursor-clause-bad
 returns-in_err-cursor-clause-bad g c =
-    let p = err_from_is_err_and c.from_residual.result c.from_residual.ensures.1 in
-    rw (p.1, p.2) (λ other. c.in_err-cursor.ensures.bad)
+    rw (handed_on c.from_residual.result c.from_residual.ensures.1) (λ other. c.in_err-cursor.ensures.bad)
 
 pub returns-clause-bad : goal.returns-clause-bad
 returns-clause-bad g c =
-    IfErr-weaker c.count_ahead.result _ _ (λ e bad. bad_along _ _ c.args.tree.now e c.in_ok-cursor.ensures.left.told bad) c.count_ahead.ensures.bad
+    named_along c.count_ahead.result _ _ _ _ c.in_ok-cursor.ensures.left.told c.count_ahead.ensures.bad

@@ -1,15 +1,14 @@
 use Rattle.std.proofs.Common.{sym, ◌∙◌, ap}
 use Rattle.std.proofs.lemmas.Option.{same_Some, none-some}
-use Rattle.std.proofs.lemmas.Result.{err_from_is_err_and}
 use Rattle.quilt_blocks.specs.declared.leaf.Leaf.{Leaf}
 use Rattle.quilt_region.proofs.Walking.{goes_over, read_over, stands_over}
-use Rattle.quilt_region.proofs.Results.{sound_zero}
+use Rattle.quilt_btree.proofs.Handed.{handed_on}
+use Rattle.quilt_btree.proofs.Stops.{sound_zero}
 use Rattle.quilt_region.proofs.walk.next_leaf.Goals as goal
 
 pub returns-in_err-r-clause-sound : goal.returns-in_err-r-clause-sound
 returns-in_err-r-clause-sound g c =
-    let p = err_from_is_err_and c.from_residual.result c.from_residual.ensures.1 in
-    rw (p.1, p.2) (λ e rest block from h. c.in_err-r.ensures.sound h.before h.after h.tree h.stands)
+    rw (handed_on c.from_residual.result c.from_residual.ensures.1) (λ e rest block from h. c.in_err-r.ensures.sound h.before h.after h.tree h.stands)
 
 pub returns-in_default-clause-sound : goal.returns-in_default-clause-sound
 returns-in_default-clause-sound g c e rest block from h page is =
@@ -35,8 +34,7 @@ returns-in_default-leaf_of-2-clause-sound g c e rest block from h page is =
 
 pub returns-in_err-r-clause-zero : goal.returns-in_err-r-clause-zero
 returns-in_err-r-clause-zero g c =
-    let p = err_from_is_err_and c.from_residual.result c.from_residual.ensures.1 in
-    rw (p.1, p.2) (λ h. sound_zero _ (c.in_err-r.ensures.sound h.before h.after h.tree h.stands))
+    rw (handed_on c.from_residual.result c.from_residual.ensures.1) (λ h. sound_zero _ (c.in_err-r.ensures.sound h.before h.after h.tree h.stands))
 
 pub returns-in-Some-leaf_of-clause-stays : goal.returns-in-Some-leaf_of-clause-stays
 returns-in-Some-leaf_of-clause-stays g c h =

@@ -1,6 +1,6 @@
 use Rattle.std.proofs.Common.{◌≡◌, ℕ, ◌+◌, ◌*◌, ◌/◌, take, get_or, length, sym, ◌∙◌, ap, subst, arith}
 use Rattle.std.specs.List.{sum_by}
-use Rattle.std.proofs.lemmas.Result.{on_ok_weaker, err_from_is_err_and}
+use Rattle.std.proofs.lemmas.Result.{on_ok_weaker}
 use Rattle.std.proofs.lemmas.List.Sums.{sum_by-take-le}
 use Rattle.quilt_store.proofs.Reading.{read_on}
 use Rattle.quilt_types.specs.declared.plane.Block.{Block}
@@ -10,14 +10,15 @@ use Rattle.quilt_loc.proofs.Blocks.{IsBlock-up}
 use Rattle.quilt_loc.proofs.Intervals.{half_codes}
 use Rattle.quilt_blocks.specs.Painting.{Painted}
 use Rattle.quilt_blocks.proofs.Adding.{part_at}
-use Rattle.quilt_btree.specs.Trees.{IsRooted, IsTree}
+use Rattle.quilt_btree.specs.Trees.{IsRooted}
 use Rattle.quilt_region.specs.Regions.{HasRegion}
 use Rattle.quilt_region.specs.Windows.{leaves_within}
 use Rattle.quilt_region.specs.Covers.{cover_of, cover_colour, cost_in}
 use Rattle.quilt_world.proofs.ReadCounts.{reads_then, reads_more}
 use Rattle.quilt_region.proofs.Covers.{beside_cover, met_cover, in_cover, wide_over, half_over, cost_here, cost_quarters, quarter_sum}
 use Rattle.quilt_region.proofs.Parts.{block_room, window_room, HasColours-push}
-use Rattle.quilt_region.proofs.Results.{bad_along}
+use Rattle.quilt_btree.proofs.Handed.{handed_on}
+use Rattle.quilt_btree.proofs.Stops.{zero_handed, bad_handed}
 use Rattle.quilt_region.proofs.window.+put_window.Goals as goal
 
 abbrev zero_block : Block
@@ -102,8 +103,8 @@ put_window-requires g t c κs within =
 
 pub returns-in_err-put_window-clause-sound : goal.returns-in_err-put_window-clause-sound
 returns-in_err-put_window-clause-sound g t c =
-    let p = err_from_is_err_and c.from_residual.result c.from_residual.ensures.1 in
-    rw (p.1, p.2) (λ grid h. c.in_err-put_window.ensures.sound grid (subst (λ told. HasRegion told c.args.tree.now c.args.layer c.args.level grid)
+    rw (handed_on c.from_residual.result c.from_residual.ensures.1)
+    (λ grid h. c.in_err-put_window.ensures.sound grid (subst (λ told. HasRegion told c.args.tree.now c.args.layer c.args.level grid)
     (sym c.loop-q.invariant.left.told) h))
 
 pub loop-q-preserved : goal.loop-q-preserved
@@ -152,10 +153,8 @@ returns-clause-reads g t c grid h =
 
 pub returns-in_err-put_window-clause-zero : goal.returns-in_err-put_window-clause-zero
 returns-in_err-put_window-clause-zero g t c =
-    let p = err_from_is_err_and c.from_residual.result c.from_residual.ensures.1 in
-    rw (p.1, p.2) (λ rs is. c.in_err-put_window.ensures.zero rs (subst (λ told. IsTree told c.args.tree.now rs) (sym c.loop-q.invariant.left.told) is))
+    zero_handed _ c.from_residual.result c.from_residual.ensures.1 c.args.tree.now c.loop-q.invariant.left.told c.in_err-put_window.ensures.zero
 
 pub returns-in_err-put_window-clause-bad : goal.returns-in_err-put_window-clause-bad
 returns-in_err-put_window-clause-bad g t c =
-    let p = err_from_is_err_and c.from_residual.result c.from_residual.ensures.1 in
-    rw (p.1, p.2) (bad_along _ _ c.args.tree.now _ c.loop-q.invariant.left.told c.in_err-put_window.ensures.bad)
+    bad_handed _ c.from_residual.result c.from_residual.ensures.1 c.args.tree.now c.loop-q.invariant.left.told c.in_err-put_window.ensures.bad

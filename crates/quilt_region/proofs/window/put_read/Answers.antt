@@ -1,5 +1,5 @@
 use Rattle.std.proofs.Common.{◌+◌, ◌*◌, length, sym, ◌∙◌, ap, subst, arith}
-use Rattle.std.proofs.lemmas.Result.{on_ok_weaker, err_from_is_err_and}
+use Rattle.std.proofs.lemmas.Result.{on_ok_weaker}
 use Rattle.quilt_blocks.specs.Cutting.{leaf_pair}
 use Rattle.quilt_blocks.specs.Painting.{Painted}
 use Rattle.quilt_region.specs.Regions.{HasRegion}
@@ -9,8 +9,9 @@ use Rattle.quilt_world.proofs.ReadCounts.{reads_then}
 use Rattle.quilt_region.proofs.Counting.{reads_plain}
 use Rattle.quilt_region.proofs.Covers.{smaller_cut, larger_colour}
 use Rattle.quilt_region.proofs.Parts.{HasColours-push}
-use Rattle.quilt_btree.specs.Trees.{IsTree}
-use Rattle.quilt_region.proofs.Results.{bad_along, zero_bad}
+use Rattle.quilt_btree.proofs.Handed.{handed_on}
+use Rattle.quilt_btree.proofs.Stops.{zero_handed, bad_handed}
+use Rattle.quilt_btree.proofs.ways.Damage.{zero_named}
 use Rattle.quilt_region.proofs.window.put_read.Goals as goal
 
 pub returns-in-Ok-clause-colours : goal.returns-in-Ok-clause-colours
@@ -24,8 +25,8 @@ returns-in-Ok-clause-colours g c grid f h same has =
 
 pub returns-in_err-records-clause-sound : goal.returns-in_err-records-clause-sound
 returns-in_err-records-clause-sound g c =
-    let p = err_from_is_err_and c.from_residual-in_err-records.result c.from_residual-in_err-records.ensures.1 in
-    rw (p.1, p.2) (λ grid h. c.in_err-records.ensures.sound grid (subst (λ told. HasRegion told c.args.tree.now c.args.layer c.args.level grid) (sym c.in_ok-leaf.ensures.left.told) h))
+    rw (handed_on c.from_residual-in_err-records.result c.from_residual-in_err-records.ensures.1)
+    (λ grid h. c.in_err-records.ensures.sound grid (subst (λ told. HasRegion told c.args.tree.now c.args.layer c.args.level grid) (sym c.in_ok-leaf.ensures.left.told) h))
 
 pub returns-clause-colours : goal.returns-clause-colours
 returns-clause-colours g c =
@@ -57,16 +58,16 @@ returns-clause-reads g c =
 
 pub returns-in_err-records-clause-zero : goal.returns-in_err-records-clause-zero
 returns-in_err-records-clause-zero g c =
-    let p = err_from_is_err_and c.from_residual-in_err-records.result c.from_residual-in_err-records.ensures.1 in
-    rw (p.1, p.2) (λ rs is. c.in_err-records.ensures.zero rs (subst (λ told. IsTree told c.args.tree.now rs) (sym c.in_ok-leaf.ensures.left.told) is))
+    zero_handed _ c.from_residual-in_err-records.result c.from_residual-in_err-records.ensures.1
+    c.args.tree.now c.in_ok-leaf.ensures.left.told c.in_err-records.ensures.zero
 
 pub returns-clause-zero : goal.returns-clause-zero
 returns-clause-zero g c = if_err_weaker c.put_records.result (λ e zero rs is. zero) c.put_records.ensures.zero
 
 pub returns-in_err-records-clause-bad : goal.returns-in_err-records-clause-bad
 returns-in_err-records-clause-bad g c =
-    let p = err_from_is_err_and c.from_residual-in_err-records.result c.from_residual-in_err-records.ensures.1 in
-    rw (p.1, p.2) (bad_along _ _ c.args.tree.now _ c.in_ok-leaf.ensures.left.told c.in_err-records.ensures.bad)
+    bad_handed _ c.from_residual-in_err-records.result c.from_residual-in_err-records.ensures.1
+    c.args.tree.now c.in_ok-leaf.ensures.left.told c.in_err-records.ensures.bad
 
 pub returns-clause-bad : goal.returns-clause-bad
-returns-clause-bad g c = if_err_weaker c.put_records.result (λ e zero. zero_bad e _ _ _ zero) c.put_records.ensures.zero
+returns-clause-bad g c = zero_named c.put_records.result _ _ _ c.put_records.ensures.zero

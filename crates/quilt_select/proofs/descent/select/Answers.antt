@@ -101,8 +101,7 @@ returns-in-Err-clause-named g c = g.met.B.SegBlocks.named_memory c.args.blocks.n
 pub returns-in_err-open-clause-named : goal.returns-in_err-open-clause-named
 returns-in_err-open-clause-named g c =
     let p = err_from_is_err_and c.from_residual.result c.from_residual.ensures.1 in
-    rw (p.1, p.2) (g.met.B.SegBlocks.same_named c.args.blocks.now c.loop-block.store c.args.store.now _ (sym c.loop-block.invariant.left.told)
-    c.in_err-open.ensures.named)
+    rw (p.1, p.2) (g.met.B.SegBlocks.same_named _ _ _ _ (sym c.loop-block.invariant.left.told) c.in_err-open.ensures.named)
 
 pub returns-in-Err-listed-clause-named : goal.returns-in-Err-listed-clause-named
 returns-in-Err-listed-clause-named g c = g.met.B.SegBlocks.named_memory c.args.blocks.now c.args.store.now

@@ -1,5 +1,5 @@
 use Rattle.std.proofs.Common.{ℕ, ◌+◌, ◌*◌, List, flat_map, length, take, get_or, sum_by, sym, ◌∙◌, ap, subst, arith, vec_len}
-use Rattle.std.proofs.lemmas.Result.{on_ok_weaker, IfErr-weaker, err_from_is_err_and}
+use Rattle.std.proofs.lemmas.Result.{on_ok_weaker, IfErr-weaker}
 use Rattle.std.proofs.lemmas.Option.{MatchOption-at_none, MatchOption-at_some}
 use Rattle.quilt_store.proofs.Reading.{only_reads_then, read_on, only_reads_err, only_reads_ok}
 use Rattle.quilt_types.specs.declared.plane.Block.{Block}
@@ -17,7 +17,8 @@ use Rattle.quilt_lines.proofs.Listed.{one_pixel}
 use Rattle.quilt_lines.proofs.Lookups.{lines_along}
 use Rattle.quilt_lines.proofs.Around.{search_along}
 use Rattle.quilt_lines.proofs.Quarters.{quarter_at, quarter_side, quarter_in}
-use Rattle.quilt_lines.proofs.Saying.{tree_along}
+use Rattle.quilt_btree.proofs.Handed.{handed_on}
+use Rattle.quilt_btree.proofs.Stops.{zero_along, zero_handed}
 use Rattle.quilt_lines.proofs.addition.Arrival.+add_in.Goals as goal
 
 pub returns-then-not-meets-clause-added : goal.returns-then-not-meets-clause-added
@@ -30,8 +31,7 @@ returns-then-not-meets-clause-added g t c segs cover h new k e =
 
 pub returns-in_err-ids-clause-sound : goal.returns-in_err-ids-clause-sound
 returns-in_err-ids-clause-sound g t c =
-    let p = err_from_is_err_and c.from_residual.result c.from_residual.ensures.1 in
-    rw (p.1, p.2) (λ segs cover h reached. c.in_err-ids.ensures.sound c.args.self.now.t segs cover h)
+    rw (handed_on c.from_residual.result c.from_residual.ensures.1) (λ segs cover h reached. c.in_err-ids.ensures.sound c.args.self.now.t segs cover h)
 
 pub returns-in-Some-clause-added : goal.returns-in-Some-clause-added
 returns-in-Some-clause-added g t c =
@@ -73,8 +73,7 @@ add_in-requires g t c κs within =
 
 pub returns-in_err-add_in-clause-sound : goal.returns-in_err-add_in-clause-sound
 returns-in_err-add_in-clause-sound g t c =
-    let p = err_from_is_err_and c.from_residual-in_err-add_in.result c.from_residual-in_err-add_in.ensures.1 in
-    rw (p.1, p.2) (λ segs cover h reached. let self = c.args.self.now in
+    rw (handed_on c.from_residual-in_err-add_in.result c.from_residual-in_err-add_in.ensures.1) (λ segs cover h reached. let self = c.args.self.now in
     let valid = h.spelled.valid in
     let q = get_or c.quarters-q-items.result c.loop-q.q-index (record { y = 0; x = 0; side = 0 }) in
     c.in_err-add_in.ensures.sound segs cover (lines_along _ _ self.view.tree self.view.layer self.view.level self.t segs cover c.loop-q.invariant.left.told h)
@@ -146,8 +145,8 @@ returns-in-Some-clause-left g t c = only_reads_then _ g.met.S.PageStore.goes_on 
 
 pub returns-in_err-add_in-clause-left : goal.returns-in_err-add_in-clause-left
 returns-in_err-add_in-clause-left g t c =
-    let p = err_from_is_err_and c.from_residual-in_err-add_in.result c.from_residual-in_err-add_in.ensures.1 in
-    rw (p.1, p.2) (only_reads_err _ (only_reads_then _ g.met.S.PageStore.goes_on _ _ _ c.loop-q.invariant.left c.in_err-add_in.ensures.left))
+    rw (handed_on c.from_residual-in_err-add_in.result c.from_residual-in_err-add_in.ensures.1)
+    (only_reads_err _ (only_reads_then _ g.met.S.PageStore.goes_on _ _ _ c.loop-q.invariant.left c.in_err-add_in.ensures.left))
 
 pub returns-then-not-meets-clause-reads : goal.returns-then-not-meets-clause-reads
 returns-then-not-meets-clause-reads g t c segs cover h reached = reads_none (g.S.PageStore.reads c.args.store.now) _
@@ -182,10 +181,9 @@ returns-clause-search g t c = c.loop-q.invariant.search
 
 pub returns-in-Some-clause-zero : goal.returns-in-Some-clause-zero
 returns-in-Some-clause-zero g t c =
-    IfErr-weaker c.add_block.result _ _ (λ e f rs is. f rs (tree_along _ _ c.args.self.now.view.tree rs c.in_ok-ids.ensures.left.told is))
-    c.add_block.ensures.zero
+    zero_along c.args.self.now.view.tree c.add_block.result c.in_ok-ids.ensures.left.told c.add_block.ensures.zero
 
 pub returns-in_err-add_in-clause-zero : goal.returns-in_err-add_in-clause-zero
 returns-in_err-add_in-clause-zero g t c =
-    let p = err_from_is_err_and c.from_residual-in_err-add_in.result c.from_residual-in_err-add_in.ensures.1 in
-    rw (p.1, p.2) (λ rs is. c.in_err-add_in.ensures.zero rs (tree_along _ _ c.args.self.now.view.tree rs c.loop-q.invariant.left.told is))
+    zero_handed _ c.from_residual-in_err-add_in.result c.from_residual-in_err-add_in.ensures.1
+    c.args.self.now.view.tree c.loop-q.invariant.left.told c.in_err-add_in.ensures.zero

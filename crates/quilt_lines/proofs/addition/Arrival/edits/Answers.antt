@@ -1,5 +1,5 @@
 use Rattle.std.proofs.Common.{◌≡◌, ◌+◌, ◌≤◌, true, [], ◌++◌, ◌∷◌, List, sym, ◌∙◌, ap, subst}
-use Rattle.std.proofs.lemmas.Result.{IfErr-weaker, err_from_is_err_and}
+use Rattle.std.proofs.lemmas.Result.{IfErr-weaker}
 use Rattle.quilt_record.specs.declared.record.Record.{Record}
 use Rattle.quilt_types.specs.declared.plane.Block.{Block}
 use Rattle.quilt_types.specs.Plane.{whole}
@@ -9,15 +9,15 @@ use Rattle.quilt_near.proofs.Reached.{reached_whole}
 use Rattle.quilt_lines.proofs.plans.Additions.{added_whole, add_can, add_plan}
 use Rattle.quilt_lines.specs.Bounds.{is_met, due}
 use Rattle.quilt_lines.proofs.Costs.{due_whole}
-use Rattle.quilt_lines.proofs.Saying.{zero_page}
 use Rattle.quilt_lines.proofs.Sums.{reads_more}
 use Rattle.quilt_lines.proofs.Results.{if_ok_both, memory_sound, if_ok_any}
+use Rattle.quilt_btree.proofs.Handed.{handed_on}
+use Rattle.quilt_btree.proofs.Stops.{zero_page}
 use Rattle.quilt_lines.proofs.addition.Arrival.edits.Goals as goal
 
 pub returns-in_err-add_in-clause-sound : goal.returns-in_err-add_in-clause-sound
 returns-in_err-add_in-clause-sound g c =
-    let p = err_from_is_err_and c.from_residual.result c.from_residual.ensures.1 in
-    rw (p.1, p.2) (λ segs cover h new. let self = c.args.self.now in
+    rw (handed_on c.from_residual.result c.from_residual.ensures.1) (λ segs cover h new. let self = c.args.self.now in
     let valid = h.spelled.valid in
     c.in_err-add_in.ensures.sound segs cover h
     (subst (λ (b : Block). is_reached cover b ≡ true) (sym c.whole_square-all.ensures)

@@ -1,5 +1,5 @@
 use Rattle.std.proofs.Common.{◌≡◌, ℕ, zero, suc, ◌+◌, ◌*◌, List, take, length, sum_by, get_or, sym, ◌∙◌, ap, subst, arith, Contains, pow-suc, vec_len}
-use Rattle.std.proofs.lemmas.Result.{IfOk-weaker, IfErr-weaker, err_from_is_err_and}
+use Rattle.std.proofs.lemmas.Result.{IfOk-weaker, IfErr-weaker}
 use Rattle.std.proofs.lemmas.List.{take_all}
 use Rattle.std.proofs.lemmas.Option.{MatchOption-at_none, MatchOption-at_some}
 use Rattle.quilt_store.proofs.Reading.{read_on}
@@ -20,13 +20,13 @@ use Rattle.quilt_lines.specs.Bounds.{is_met_above, due}
 use Rattle.quilt_lines.proofs.Costs.{due_leaf, due_cut, due_split, quarter_above, reads_next, reads_all}
 use Rattle.quilt_lines.proofs.Sums.{reads_sum, reads_more}
 use Rattle.quilt_lines.proofs.Quarters.{quarter_in, quarter_at}
-use Rattle.quilt_lines.proofs.Saying.{tree_along}
+use Rattle.quilt_btree.proofs.Handed.{handed_on}
+use Rattle.quilt_btree.proofs.Stops.{zero_along, zero_handed}
 use Rattle.quilt_lines.proofs.removal.Removal.+settle.Goals as goal
 
 pub settle-returns-in_err-ids-clause-sound : goal.settle-returns-in_err-ids-clause-sound
 settle-returns-in_err-ids-clause-sound g t c =
-    let p = err_from_is_err_and c.from_residual.result c.from_residual.ensures.1 in
-    rw (p.1, p.2) (λ segs cover h. c.in_err-ids.ensures.sound c.args.self.now.threshold segs cover h)
+    rw (handed_on c.from_residual.result c.from_residual.ensures.1) (λ segs cover h. c.in_err-ids.ensures.sound c.args.self.now.threshold segs cover h)
 
 pub settle-returns-in-Some-clause-settled : goal.settle-returns-in-Some-clause-settled
 settle-returns-in-Some-clause-settled g t c k segs cover e h =
@@ -76,8 +76,7 @@ settle_quarters-settle-requires g t c κs within =
 
 pub settle_quarters-returns-in_err-x-clause-sound : goal.settle_quarters-returns-in_err-x-clause-sound
 settle_quarters-returns-in_err-x-clause-sound g t c =
-    let p = err_from_is_err_and c.from_residual.result c.from_residual.ensures.1 in
-    rw (p.1, p.2) (λ segs cover h. c.in_err-x.ensures.sound segs cover
+    rw (handed_on c.from_residual.result c.from_residual.ensures.1) (λ segs cover h. c.in_err-x.ensures.sound segs cover
     (lines_along _ _ c.args.tree.now c.args.self.now.layer c.args.self.now.level c.args.self.now.threshold segs cover c.loop-q.invariant.left.told h))
 
 pub settle_quarters-loop-q-preserved : goal.settle_quarters-loop-q-preserved
@@ -179,10 +178,8 @@ settle_quarters-returns-in-Ok-joined-clause-reads g t c segs cover h reached awa
 
 pub settle-returns-clause-zero : goal.settle-returns-clause-zero
 settle-returns-clause-zero g t c =
-    IfErr-weaker c.settle_quarters.result _ _ (λ x f rs is. f rs (tree_along _ _ c.args.tree.now rs c.in_ok-ids.ensures.left.told is))
-    c.settle_quarters.ensures.zero
+    zero_along c.args.tree.now c.settle_quarters.result c.in_ok-ids.ensures.left.told c.settle_quarters.ensures.zero
 
 pub settle_quarters-returns-in_err-x-clause-zero : goal.settle_quarters-returns-in_err-x-clause-zero
 settle_quarters-returns-in_err-x-clause-zero g t c =
-    let p = err_from_is_err_and c.from_residual.result c.from_residual.ensures.1 in
-    rw (p.1, p.2) (λ rs is. c.in_err-x.ensures.zero rs (tree_along _ _ c.args.tree.now rs c.loop-q.invariant.left.told is))
+    zero_handed _ c.from_residual.result c.from_residual.ensures.1 c.args.tree.now c.loop-q.invariant.left.told c.in_err-x.ensures.zero

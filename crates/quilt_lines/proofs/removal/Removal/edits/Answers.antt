@@ -1,7 +1,7 @@
 use Rattle.std.proofs.lemmas.Result.{IfErr-weaker}
 use Rattle.quilt_lines.proofs.plans.Removals as removals
 use Rattle.quilt_lines.proofs.Results.{if_ok_both, memory_sound}
-use Rattle.quilt_lines.proofs.Saying.{zero_page}
+use Rattle.quilt_btree.proofs.Stops.{zero_page}
 use Rattle.quilt_lines.proofs.removal.Removal.edits.Goals as goal
 
 pub returns-clause-plan : goal.returns-clause-plan

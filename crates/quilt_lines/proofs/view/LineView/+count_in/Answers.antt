@@ -1,5 +1,4 @@
 use Rattle.std.proofs.Common.{◌+◌, ◌-◌, ◌^◌, ◌<◌, ℕ, List, flat_map, length, get_or, count_by, sym, ◌∙◌, ap, subst, arith}
-use Rattle.std.proofs.lemmas.Result.{err_from_is_err_and}
 use Rattle.std.specs.Prelude.{◌==◌}
 use Rattle.std.proofs.lemmas.List.{take_all}
 use Rattle.quilt_store.proofs.Reading.{only_reads_then, read_on, only_reads_err}
@@ -16,13 +15,13 @@ use Rattle.quilt_lines.proofs.Sums.{reads_more}
 use Rattle.quilt_lines.proofs.Listed.{one_pixel}
 use Rattle.quilt_lines.proofs.Lookups.{lines_along}
 use Rattle.quilt_lines.proofs.Quarters.{quarter_at, quarter_side, quarter_in}
-use Rattle.quilt_lines.proofs.Saying.{tree_along}
+use Rattle.quilt_btree.proofs.Handed.{handed_on}
+use Rattle.quilt_btree.proofs.Stops.{zero_handed}
 use Rattle.quilt_lines.proofs.view.LineView.+count_in.Goals as goal
 
 pub returns-in_err-has_block-clause-sound : goal.returns-in_err-has_block-clause-sound
 returns-in_err-has_block-clause-sound g t c =
-    let p = err_from_is_err_and c.from_residual.result c.from_residual.ensures.1 in
-    rw (p.1, p.2) (λ t' segs cover h reached. c.in_err-has_block.ensures.sound t' segs cover h)
+    rw (handed_on c.from_residual.result c.from_residual.ensures.1) (λ t' segs cover h reached. c.in_err-has_block.ensures.sound t' segs cover h)
 
 pub count_one-requires-clause-room : goal.count_one-requires-clause-room
 count_one-requires-clause-room g t c =
@@ -87,8 +86,7 @@ count_in-requires g t c κs within =
 
 pub returns-in_err-count_in-clause-sound : goal.returns-in_err-count_in-clause-sound
 returns-in_err-count_in-clause-sound g t c =
-    let p = err_from_is_err_and c.from_residual-in_err-count_in.result c.from_residual-in_err-count_in.ensures.1 in
-    rw (p.1, p.2) (λ t' segs cover h reached. let self = c.args.self.now in
+    rw (handed_on c.from_residual-in_err-count_in.result c.from_residual-in_err-count_in.ensures.1) (λ t' segs cover h reached. let self = c.args.self.now in
     let valid = h.spelled.valid in
     let some : 0 < c.args.k = let no = c.if-k-eq0.false in omega arith in
     let q = get_or c.quarters-q-items.result c.loop-q.q-index (record { y = 0; x = 0; side = 0 }) in
@@ -138,8 +136,8 @@ returns-clause-most g t c j =
 
 pub returns-in_err-count_in-clause-left : goal.returns-in_err-count_in-clause-left
 returns-in_err-count_in-clause-left g t c =
-    let p = err_from_is_err_and c.from_residual-in_err-count_in.result c.from_residual-in_err-count_in.ensures.1 in
-    rw (p.1, p.2) (only_reads_err _ (only_reads_then _ g.met.S.PageStore.goes_on _ _ _ c.loop-q.invariant.left c.in_err-count_in.ensures.left))
+    rw (handed_on c.from_residual-in_err-count_in.result c.from_residual-in_err-count_in.ensures.1)
+    (only_reads_err _ (only_reads_then _ g.met.S.PageStore.goes_on _ _ _ c.loop-q.invariant.left c.in_err-count_in.ensures.left))
 
 pub returns-then-branch-clause-reads : goal.returns-then-branch-clause-reads
 returns-then-branch-clause-reads g t c t' segs cover h = reads_more _ _ 6 _ (pages_some cover c.args.k c.args.b) c.in_ok-has_block.ensures.reads
@@ -156,5 +154,5 @@ returns-clause-reads g t c t' segs cover h =
 
 pub returns-in_err-count_in-clause-zero : goal.returns-in_err-count_in-clause-zero
 returns-in_err-count_in-clause-zero g t c =
-    let p = err_from_is_err_and c.from_residual-in_err-count_in.result c.from_residual-in_err-count_in.ensures.1 in
-    rw (p.1, p.2) (λ rs is. c.in_err-count_in.ensures.zero rs (tree_along _ _ c.args.self.now.tree rs c.loop-q.invariant.left.told is))
+    zero_handed _ c.from_residual-in_err-count_in.result c.from_residual-in_err-count_in.ensures.1
+    c.args.self.now.tree c.loop-q.invariant.left.told c.in_err-count_in.ensures.zero

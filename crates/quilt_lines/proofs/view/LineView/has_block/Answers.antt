@@ -1,14 +1,13 @@
 use Rattle.std.proofs.Common.{[], refl, ◌∙◌, ap}
-use Rattle.std.proofs.lemmas.Result.{err_from_is_err_and}
 use Rattle.quilt_record.specs.declared.record.Record.{Record}
 use Rattle.quilt_lines.proofs.Floors.{read_none, read_some}
-use Rattle.quilt_lines.proofs.Saying.{sound_zero}
+use Rattle.quilt_btree.proofs.Handed.{handed_on}
+use Rattle.quilt_btree.proofs.Stops.{sound_handed}
 use Rattle.quilt_lines.proofs.view.LineView.has_block.Goals as goal
 
 pub returns-in_err-floor-clause-sound : goal.returns-in_err-floor-clause-sound
 returns-in_err-floor-clause-sound g c =
-    let p = err_from_is_err_and c.from_residual.result c.from_residual.ensures.1 in
-    rw (p.1, p.2) (λ t segs cover h. c.in_err-floor.ensures.sound h.records h.is_tree)
+    rw (handed_on c.from_residual.result c.from_residual.ensures.1) (λ t segs cover h. c.in_err-floor.ensures.sound h.records h.is_tree)
 
 pub returns-in-None-clause-there : goal.returns-in-None-clause-there
 returns-in-None-clause-there g c t segs cover h =
@@ -24,6 +23,4 @@ returns-in-Some-clause-there g c t segs cover h =
     (ap (λ (r : Record). r.key) (c.pair_record.ensures.written [])) refl c.in-Some.r c.in-Some.is
 
 pub returns-in_err-floor-clause-zero : goal.returns-in_err-floor-clause-zero
-returns-in_err-floor-clause-zero g c =
-    let p = err_from_is_err_and c.from_residual.result c.from_residual.ensures.1 in
-    rw (p.1, p.2) (λ rs is. sound_zero _ (c.in_err-floor.ensures.sound rs is))
+returns-in_err-floor-clause-zero g c = sound_handed c.from_residual.result c.from_residual.ensures.1 c.in_err-floor.ensures.sound

@@ -1,20 +1,21 @@
 use Rattle.std.proofs.Common.{[], ◌≡◌, ◌+◌, ◌*◌, ◌≤◌, List, length, refl, ◌∙◌, ap, subst, arith}
 use Rattle.std.specs.Prelude.{MatchOption, vec_len}
-use Rattle.std.proofs.lemmas.Result.{IfOk-weaker, IfErr-weaker, err_from_is_err_and}
+use Rattle.std.proofs.lemmas.Result.{IfOk-weaker, IfErr-weaker}
 use Rattle.quilt_record.specs.declared.record.Record.{Record}
 use Rattle.quilt_near.proofs.Telling.{tells_weaker}
 use Rattle.quilt_lines.specs.Said.{SayIds}
 use Rattle.quilt_lines.proofs.Ranges.{block_read}
 use Rattle.quilt_lines.proofs.Results.{if_ok_both}
-use Rattle.quilt_lines.proofs.Saying.{sound_zero, read_at}
+use Rattle.quilt_lines.proofs.Saying.{read_at}
 use Rattle.quilt_lines.proofs.Sums.{reads_ids}
+use Rattle.quilt_btree.proofs.Handed.{handed_on}
+use Rattle.quilt_btree.proofs.Stops.{sound_handed}
 use Rattle.quilt_btree.proofs.ways.Damage.{zero_named}
 use Rattle.quilt_lines.proofs.view.LineView.ids_from.Goals as goal
 
 pub returns-in_err-records-clause-sound : goal.returns-in_err-records-clause-sound
 returns-in_err-records-clause-sound g c =
-    let p = err_from_is_err_and c.from_residual.result c.from_residual.ensures.1 in
-    rw (p.1, p.2) (λ t segs cover h. c.in_err-records.ensures.sound h.records h.is_tree)
+    rw (handed_on c.from_residual.result c.from_residual.ensures.1) (λ t segs cover h. c.in_err-records.ensures.sound h.records h.is_tree)
 
 pub returns-clause-ids : goal.returns-clause-ids
 returns-clause-ids g c =
@@ -31,9 +32,7 @@ returns-clause-sound g c =
     c.args.self.now.has_level.1 c.args.b c.requires.block (ap (λ (r : Record). r.key) (c.pair_record.ensures.written [])) refl)) c.ids_said.ensures.sound
 
 pub returns-in_err-records-clause-zero : goal.returns-in_err-records-clause-zero
-returns-in_err-records-clause-zero g c =
-    let p = err_from_is_err_and c.from_residual.result c.from_residual.ensures.1 in
-    rw (p.1, p.2) (λ rs is. sound_zero _ (c.in_err-records.ensures.sound rs is))
+returns-in_err-records-clause-zero g c = sound_handed c.from_residual.result c.from_residual.ensures.1 c.in_err-records.ensures.sound
 
 pub returns-clause-zero : goal.returns-clause-zero
 returns-clause-zero g c = IfErr-weaker c.ids_said.result _ _ (λ e zero rs is. zero) c.ids_said.ensures.zero
@@ -57,8 +56,7 @@ returns-clause-reads g c =
 
 pub returns-in_err-records-clause-bad : goal.returns-in_err-records-clause-bad
 returns-in_err-records-clause-bad g c =
-    let p = err_from_is_err_and c.from_residual.result c.from_residual.ensures.1 in
-    rw (p.1, p.2) (λ ne. c.in_err-records.ensures.stops.bad ne)
+    rw (handed_on c.from_residual.result c.from_residual.ensures.1) (λ ne. c.in_err-records.ensures.stops.bad ne)
 
 pub returns-clause-bad : goal.returns-clause-bad
 returns-clause-bad g c =

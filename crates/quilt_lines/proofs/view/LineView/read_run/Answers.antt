@@ -1,5 +1,4 @@
 use Rattle.std.proofs.Common.{◌≡◌, ℕ, ◌+◌, ◌-◌, ◌≤◌, ◌<◌, Some, None, ⊎_elim, sym, ◌∙◌, ap, arith}
-use Rattle.std.proofs.lemmas.Result.{err_from_is_err_and}
 use Rattle.std.proofs.lemmas.Bool.{cases_eq, cases_lt}
 use Rattle.std.specs.FinMap as finmap
 use Rattle.std.proofs.lemmas.Option.{none-some, some_pair_parts}
@@ -7,7 +6,8 @@ use Rattle.quilt_near.specs.Knowing.{known_seg}
 use Rattle.quilt_near.proofs.Knowing.{knows_more, stays_more}
 use Rattle.quilt_lines.specs.Reads.{segment_key}
 use Rattle.quilt_lines.proofs.Followers.{said_is, run_whole, run_next}
-use Rattle.quilt_lines.proofs.Saying.{sound_zero}
+use Rattle.quilt_btree.proofs.Handed.{handed_on}
+use Rattle.quilt_btree.proofs.Stops.{sound_handed}
 use Rattle.quilt_lines.proofs.view.LineView.read_run.Goals as goal
 use Rattle.quilt_lines.proofs.view.LineView.read_run.Goals.{in_default-via-in-Some+else-from-next, in_default-via-in_default}
 
@@ -18,14 +18,11 @@ below : (a b q : ℕ) → a ≤ b → q < a + (b - a + 1) → q ≤ b
 below a b q le lt = omega arith
 
 pub returns-in_err-records-clause-zero : goal.returns-in_err-records-clause-zero
-returns-in_err-records-clause-zero g c =
-    let p = err_from_is_err_and c.from_residual.result c.from_residual.ensures.1 in
-    rw (p.1, p.2) (λ rs is. sound_zero _ (c.in_err-records.ensures.sound rs is))
+returns-in_err-records-clause-zero g c = sound_handed c.from_residual.result c.from_residual.ensures.1 c.in_err-records.ensures.sound
 
 pub returns-in_err-records-clause-sound : goal.returns-in_err-records-clause-sound
 returns-in_err-records-clause-sound g c =
-    let p = err_from_is_err_and c.from_residual.result c.from_residual.ensures.1 in
-    rw (p.1, p.2) (λ l h all. c.in_err-records.ensures.sound h.has.records h.has.is_tree)
+    rw (handed_on c.from_residual.result c.from_residual.ensures.1) (λ l h all. c.in_err-records.ensures.sound h.has.records h.has.is_tree)
 
 pub returns-in_default-clause-sound : goal.returns-in_default-clause-sound
 returns-in_default-clause-sound g c l h all page e =
@@ -99,5 +96,4 @@ returns-then-len-count-clause-sound g c l h all page e =
 
 pub returns-in_err-records-clause-bad : goal.returns-in_err-records-clause-bad
 returns-in_err-records-clause-bad g c =
-    let p = err_from_is_err_and c.from_residual.result c.from_residual.ensures.1 in
-    rw (p.1, p.2) (λ ne. c.in_err-records.ensures.stops.bad ne)
+    rw (handed_on c.from_residual.result c.from_residual.ensures.1) (λ ne. c.in_err-records.ensures.stops.bad ne)

@@ -3,7 +3,8 @@ use Rattle.std.proofs.lemmas.Result.{IfOk-weaker, IfErr-weaker}
 use Rattle.quilt_record.specs.declared.record.Record.{Record}
 use Rattle.quilt_lines.specs.Reads.{none_of}
 use Rattle.quilt_lines.proofs.Around.{near_read, near_none, reads_one}
-use Rattle.quilt_lines.proofs.Saying.{tree_along, bad_along}
+use Rattle.quilt_btree.proofs.Stops.{tree_along}
+use Rattle.quilt_btree.proofs.ways.Damage.{named_along}
 use Rattle.quilt_lines.proofs.view.LineView.records_near.Goals as goal
 
 pub returns-in-None-clause-records : goal.returns-in-None-clause-records
@@ -35,4 +36,4 @@ returns-in-Some-clause-none g c =
 
 pub returns-in-Some-clause-bad : goal.returns-in-Some-clause-bad
 returns-in-Some-clause-bad g c =
-    IfErr-weaker c.records_to.result _ _ (λ e bad. bad_along _ _ c.args.self.now.tree e c.in_ok-found.ensures.left.told bad) c.records_to.ensures.bad
+    named_along c.records_to.result _ _ _ _ c.in_ok-found.ensures.left.told c.records_to.ensures.bad

@@ -1,14 +1,14 @@
 use Rattle.std.proofs.Common.{Some, sym, ◌∙◌, ap}
-use Rattle.std.proofs.lemmas.Result.{err_from_is_err_and}
 use Rattle.std.proofs.lemmas.Option.{none-some, some_pair_parts}
 use Rattle.quilt_lines.proofs.Lookups.{none_found, found}
-use Rattle.quilt_lines.proofs.Saying.{sound_zero, segment_at, none_at}
+use Rattle.quilt_lines.proofs.Saying.{segment_at, none_at}
+use Rattle.quilt_btree.proofs.Handed.{handed_on}
+use Rattle.quilt_btree.proofs.Stops.{sound_handed}
 use Rattle.quilt_lines.proofs.view.LineView.segment_from.Goals as goal
 
 pub returns-in_err-value-clause-sound : goal.returns-in_err-value-clause-sound
 returns-in_err-value-clause-sound g c =
-    let p = err_from_is_err_and c.from_residual.result c.from_residual.ensures.1 in
-    rw (p.1, p.2) (λ t segs cover h. c.in_err-value.ensures.sound h.records h.is_tree)
+    rw (handed_on c.from_residual.result c.from_residual.ensures.1) (λ t segs cover h. c.in_err-value.ensures.sound h.records h.is_tree)
 
 pub returns-in_default-clause-segment : goal.returns-in_default-clause-segment
 returns-in_default-clause-segment g c t segs cover h =
@@ -30,9 +30,7 @@ returns-in-None-clause-sound g c t segs cover h page e =
     none-some (c.args.id, f.seg) (sym c.in-None.is ∙ f.is_said)
 
 pub returns-in_err-value-clause-zero : goal.returns-in_err-value-clause-zero
-returns-in_err-value-clause-zero g c =
-    let p = err_from_is_err_and c.from_residual.result c.from_residual.ensures.1 in
-    rw (p.1, p.2) (λ rs is. sound_zero _ (c.in_err-value.ensures.sound rs is))
+returns-in_err-value-clause-zero g c = sound_handed c.from_residual.result c.from_residual.ensures.1 c.in_err-value.ensures.sound
 
 pub returns-in_default-clause-said : goal.returns-in_default-clause-said
 returns-in_default-clause-said g c rs is =
@@ -45,5 +43,4 @@ returns-in-Some-segment_said-clause-said g c rs is =
 
 pub returns-in_err-value-clause-bad : goal.returns-in_err-value-clause-bad
 returns-in_err-value-clause-bad g c =
-    let p = err_from_is_err_and c.from_residual.result c.from_residual.ensures.1 in
-    rw (p.1, p.2) (λ ne. c.in_err-value.ensures.bad)
+    rw (handed_on c.from_residual.result c.from_residual.ensures.1) (λ ne. c.in_err-value.ensures.bad)

@@ -1,5 +1,4 @@
 use Rattle.std.proofs.Common.{ℕ, ◌*◌, [], ◌∷◌, List, All, length, get_or, sym, ◌∙◌, ap, subst, arith, length-append}
-use Rattle.std.proofs.lemmas.Result.{err_from_is_err_and}
 use Rattle.std.proofs.lemmas.List.Elements.{All-append}
 use Rattle.quilt_store.proofs.Reading.{only_reads_then, read_on, only_reads_err}
 use Rattle.quilt_types.specs.declared.plane.Seg.{Seg}
@@ -7,16 +6,17 @@ use Rattle.quilt_edits.proofs.Lists.{member_at}
 use Rattle.quilt_lines.specs.Said.{SaySegment}
 use Rattle.quilt_lines.proofs.Listed.{all_one}
 use Rattle.quilt_lines.proofs.Lookups.{lines_along}
-use Rattle.quilt_lines.proofs.Saying.{tree_along, bad_along}
 use Rattle.quilt_lines.proofs.Spots.{spot_along}
 use Rattle.quilt_lines.proofs.Sums.{reads_sum}
 use Rattle.quilt_lines.proofs.Taken.{taken_more}
+use Rattle.quilt_btree.proofs.Handed.{handed_on}
+use Rattle.quilt_btree.proofs.Stops.{tree_along, zero_handed, bad_handed}
 use Rattle.quilt_lines.proofs.view.LineView.segments.Goals as goal
 
 pub returns-in_err-add_segment-clause-sound : goal.returns-in_err-add_segment-clause-sound
 returns-in_err-add_segment-clause-sound g c =
-    let p = err_from_is_err_and c.from_residual.result c.from_residual.ensures.1 in
-    rw (p.1, p.2) (λ t segs cover h all. let w = all _ (member_at c.args.ids.now c.loop-id.id-index _ c.loop-id-test.true) in
+    rw (handed_on c.from_residual.result c.from_residual.ensures.1)
+    (λ t segs cover h all. let w = all _ (member_at c.args.ids.now c.loop-id.id-index _ c.loop-id-test.true) in
     c.in_err-add_segment.ensures.sound t segs cover
     (lines_along _ _ c.args.self.now.tree c.args.self.now.layer c.args.self.now.level t segs cover c.loop-id.invariant.left.told h) w.0 w.1)
 
@@ -41,18 +41,16 @@ loop-id-preserved g c =
 
 pub returns-in_err-add_segment-clause-left : goal.returns-in_err-add_segment-clause-left
 returns-in_err-add_segment-clause-left g c =
-    let p = err_from_is_err_and c.from_residual.result c.from_residual.ensures.1 in
-    rw (p.1, p.2) (only_reads_err _ (only_reads_then _ g.met.S.PageStore.goes_on _ _ _ c.loop-id.invariant.left c.in_err-add_segment.ensures.left))
+    rw (handed_on c.from_residual.result c.from_residual.ensures.1)
+    (only_reads_err _ (only_reads_then _ g.met.S.PageStore.goes_on _ _ _ c.loop-id.invariant.left c.in_err-add_segment.ensures.left))
 
 pub returns-in_err-add_segment-clause-zero : goal.returns-in_err-add_segment-clause-zero
 returns-in_err-add_segment-clause-zero g c =
-    let p = err_from_is_err_and c.from_residual.result c.from_residual.ensures.1 in
-    rw (p.1, p.2) (λ rs is. c.in_err-add_segment.ensures.zero rs (tree_along _ _ c.args.self.now.tree rs c.loop-id.invariant.left.told is))
+    zero_handed _ c.from_residual.result c.from_residual.ensures.1 c.args.self.now.tree c.loop-id.invariant.left.told c.in_err-add_segment.ensures.zero
 
 pub returns-clause-found : goal.returns-clause-found
 returns-clause-found g c t segs cover h = c.loop-id.invariant.taken.found (t, segs, cover) h
 
 pub returns-in_err-add_segment-clause-bad : goal.returns-in_err-add_segment-clause-bad
 returns-in_err-add_segment-clause-bad g c =
-    let p = err_from_is_err_and c.from_residual.result c.from_residual.ensures.1 in
-    rw (p.1, p.2) (bad_along _ _ c.args.self.now.tree _ c.loop-id.invariant.left.told c.in_err-add_segment.ensures.bad)
+    bad_handed _ c.from_residual.result c.from_residual.ensures.1 c.args.self.now.tree c.loop-id.invariant.left.told c.in_err-add_segment.ensures.bad

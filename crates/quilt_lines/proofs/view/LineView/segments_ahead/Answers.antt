@@ -1,22 +1,23 @@
 use Rattle.std.proofs.Common.{◌+◌, ◌-◌, ◌*◌, count_by, length, arith}
 use Rattle.std.specs.Option.{is_none}
-use Rattle.std.proofs.lemmas.Result.{IfErr-weaker, on_ok_weaker, err_from_is_err_and}
+use Rattle.std.proofs.lemmas.Result.{IfErr-weaker, on_ok_weaker}
 use Rattle.quilt_near.specs.Knowing.{known_seg}
 use Rattle.quilt_lines.proofs.Followers.{run_known}
 use Rattle.quilt_lines.proofs.Lookups.{shows_along}
-use Rattle.quilt_lines.proofs.Saying.{tree_along, bad_along}
 use Rattle.quilt_lines.proofs.Sums.{reads_sum}
+use Rattle.quilt_btree.proofs.Handed.{handed_on}
+use Rattle.quilt_btree.proofs.Stops.{zero_along}
+use Rattle.quilt_btree.proofs.ways.Damage.{named_along}
 use Rattle.quilt_lines.proofs.view.LineView.segments_ahead.Goals as goal
 
 pub returns-in_err-read_run-clause-sound : goal.returns-in_err-read_run-clause-sound
 returns-in_err-read_run-clause-sound g c =
-    let p = err_from_is_err_and c.from_residual.result c.from_residual.ensures.1 in
-    rw (p.1, p.2) (λ l h all. c.in_err-read_run.ensures.sound l h (λ q from upto. all q (c.in-Some.ensures.each q from upto).0))
+    rw (handed_on c.from_residual.result c.from_residual.ensures.1)
+    (λ l h all. c.in_err-read_run.ensures.sound l h (λ q from upto. all q (c.in-Some.ensures.each q from upto).0))
 
 pub returns-clause-zero : goal.returns-clause-zero
 returns-clause-zero g c =
-    IfErr-weaker c.segments_known-2.result _ _ (λ e zero rs is. zero rs (tree_along _ _ c.args.self.now.tree rs c.in_ok-read_run.ensures.left.told is))
-    c.segments_known-2.ensures.zero
+    zero_along c.args.self.now.tree c.segments_known-2.result c.in_ok-read_run.ensures.left.told c.segments_known-2.ensures.zero
 
 pub returns-clause-sound : goal.returns-clause-sound
 returns-clause-sound g c =
@@ -37,5 +38,4 @@ returns-clause-reads g c =
 
 pub returns-clause-bad : goal.returns-clause-bad
 returns-clause-bad g c =
-    IfErr-weaker c.segments_known-2.result _ _ (λ e bad. bad_along _ _ c.args.self.now.tree e c.in_ok-read_run.ensures.left.told bad)
-    c.segments_known-2.ensures.bad
+    named_along c.segments_known-2.result _ _ _ _ c.in_ok-read_run.ensures.left.told c.segments_known-2.ensures.bad

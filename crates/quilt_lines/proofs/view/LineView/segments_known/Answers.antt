@@ -1,5 +1,4 @@
 use Rattle.std.proofs.Common.{◌+◌, ◌*◌, ◌≤◌, get_or, subst, arith}
-use Rattle.std.proofs.lemmas.Result.{err_from_is_err_and}
 use Rattle.quilt_store.proofs.Reading.{read_on}
 use Rattle.quilt_near.specs.Knowing.{known_seg, many_known}
 use Rattle.quilt_near.proofs.Knowing.{knows_where}
@@ -7,20 +6,20 @@ use Rattle.quilt_near.proofs.Telling.{tells_then}
 use Rattle.quilt_edits.proofs.Lists.{member_at}
 use Rattle.quilt_lines.specs.Marks.{IsMark}
 use Rattle.quilt_lines.proofs.Lookups.{shows_along}
-use Rattle.quilt_lines.proofs.Saying.{tree_along, bad_along}
 use Rattle.quilt_lines.proofs.Followers.{unknown_more}
 use Rattle.quilt_lines.proofs.Taken.{taken_more}
+use Rattle.quilt_btree.proofs.Handed.{handed_on}
+use Rattle.quilt_btree.proofs.Stops.{zero_handed, bad_handed}
 use Rattle.quilt_lines.proofs.view.LineView.segments_known.Goals as goal
 
 pub returns-in_err-s-clause-zero : goal.returns-in_err-s-clause-zero
 returns-in_err-s-clause-zero g c =
-    let p = err_from_is_err_and c.from_residual.result c.from_residual.ensures.1 in
-    rw (p.1, p.2) (λ rs is. c.in_err-s.ensures.zero rs (tree_along _ _ c.args.self.now.tree rs c.loop-id.invariant.left.told is))
+    zero_handed _ c.from_residual.result c.from_residual.ensures.1 c.args.self.now.tree c.loop-id.invariant.left.told c.in_err-s.ensures.zero
 
 pub returns-in_err-s-clause-sound : goal.returns-in_err-s-clause-sound
 returns-in_err-s-clause-sound g c =
-    let p = err_from_is_err_and c.from_residual.result c.from_residual.ensures.1 in
-    rw (p.1, p.2) (λ l h all. let w = all _ (member_at c.args.ids.now c.loop-id.id-index _ c.loop-id-test.true) in
+    rw (handed_on c.from_residual.result c.from_residual.ensures.1)
+    (λ l h all. let w = all _ (member_at c.args.ids.now c.loop-id.id-index _ c.loop-id-test.true) in
     c.in_err-s.ensures.sound l
     (shows_along _ _ c.args.self.now.tree c.args.self.now.layer c.args.self.now.level l c.loop-id.invariant.left.told h) w.0 w.1)
 
@@ -47,5 +46,4 @@ loop-id-preserved g c =
 
 pub returns-in_err-s-clause-bad : goal.returns-in_err-s-clause-bad
 returns-in_err-s-clause-bad g c =
-    let p = err_from_is_err_and c.from_residual.result c.from_residual.ensures.1 in
-    rw (p.1, p.2) (bad_along _ _ c.args.self.now.tree _ c.loop-id.invariant.left.told c.in_err-s.ensures.bad)
+    bad_handed _ c.from_residual.result c.from_residual.ensures.1 c.args.self.now.tree c.loop-id.invariant.left.told c.in_err-s.ensures.bad

@@ -1,5 +1,4 @@
 use Rattle.std.proofs.Common.{ℕ, ◌+◌, ◌*◌, List, Contains, length, sym, ◌∙◌, ap, subst, arith, vec_len}
-use Rattle.std.proofs.lemmas.Result.{err_from_is_err_and}
 use Rattle.std.proofs.lemmas.List.{length-map}
 use Rattle.std.proofs.lemmas.Option.{MatchOption-at_none, MatchOption-at_some}
 use Rattle.quilt_types.specs.declared.plane.Seg.{Seg}
@@ -7,14 +6,14 @@ use Rattle.quilt_store.proofs.Reading.{only_reads_then, only_reads_err}
 use Rattle.quilt_lines.proofs.Listed.{same_segments, all_there, each_there, one_pixel}
 use Rattle.quilt_lines.specs.Said.{SayIds, records_at}
 use Rattle.quilt_lines.proofs.Lookups.{lines_along}
-use Rattle.quilt_lines.proofs.Saying.{tree_along, bad_along}
 use Rattle.quilt_lines.proofs.Sums.{reads_sum, reads_more}
+use Rattle.quilt_btree.proofs.Handed.{handed_on}
+use Rattle.quilt_btree.proofs.Stops.{tree_along, zero_handed, bad_handed}
 use Rattle.quilt_lines.proofs.view.LineViewSegBlocks.part.Goals as goal
 
 pub returns-in_err-ids-clause-sound : goal.returns-in_err-ids-clause-sound
 returns-in_err-ids-clause-sound g c =
-    let p = err_from_is_err_and c.from_residual.result c.from_residual.ensures.1 in
-    rw (p.1, p.2) (λ l h. c.in_err-ids.ensures.sound h.threshold l.segs l.cover h.has)
+    rw (handed_on c.from_residual.result c.from_residual.ensures.1) (λ l h. c.in_err-ids.ensures.sound h.threshold l.segs l.cover h.has)
 
 pub returns-then-b-le1-clause-sound : goal.returns-then-b-le1-clause-sound
 returns-then-b-le1-clause-sound g c l h page e =
@@ -27,8 +26,8 @@ returns-in_default-clause-part g c l h = MatchOption-at_none _ _ c.in_default.is
 
 pub returns-in_err-list-clause-sound : goal.returns-in_err-list-clause-sound
 returns-in_err-list-clause-sound g c =
-    let p = err_from_is_err_and c.from_residual-in_err-list.result c.from_residual-in_err-list.ensures.1 in
-    rw (p.1, p.2) (λ l h. let at = MatchOption-at_some _ _ c.in-Some.ids c.in-Some.is (c.in_ok-ids.ensures.ids h.threshold l.segs l.cover h.has) in
+    rw (handed_on c.from_residual-in_err-list.result c.from_residual-in_err-list.ensures.1)
+    (λ l h. let at = MatchOption-at_some _ _ c.in-Some.ids c.in-Some.is (c.in_ok-ids.ensures.ids h.threshold l.segs l.cover h.has) in
     c.in_err-list.ensures.sound h.threshold l.segs l.cover
     (lines_along _ _ c.args.self.now.tree c.args.self.now.layer c.args.self.now.level h.threshold l.segs l.cover c.in_ok-ids.ensures.left.told h.has)
     (λ id m. each_there l.segs c.args.b id (subst (λ (ids : List ℕ). Contains ids id) (c.deref.ensures.value ∙ at.are) m)))
@@ -45,8 +44,8 @@ returns-clause-part g c l h =
 
 pub returns-in_err-list-clause-left : goal.returns-in_err-list-clause-left
 returns-in_err-list-clause-left g c =
-    let p = err_from_is_err_and c.from_residual-in_err-list.result c.from_residual-in_err-list.ensures.1 in
-    rw (p.1, p.2) (only_reads_err _ (only_reads_then _ g.met.S.PageStore.goes_on _ _ _ c.in_ok-ids.ensures.left c.in_err-list.ensures.left))
+    rw (handed_on c.from_residual-in_err-list.result c.from_residual-in_err-list.ensures.1)
+    (only_reads_err _ (only_reads_then _ g.met.S.PageStore.goes_on _ _ _ c.in_ok-ids.ensures.left c.in_err-list.ensures.left))
 
 pub returns-in_default-clause-said : goal.returns-in_default-clause-said
 returns-in_default-clause-said g c rs is =
@@ -58,8 +57,8 @@ returns-in_default-clause-reads g c =
 
 pub returns-in_err-list-clause-zero : goal.returns-in_err-list-clause-zero
 returns-in_err-list-clause-zero g c =
-    let p = err_from_is_err_and c.from_residual-in_err-list.result c.from_residual-in_err-list.ensures.1 in
-    rw (p.1, p.2) (λ rs is. c.in_err-list.ensures.zero rs (tree_along _ _ c.args.self.now.tree rs c.in_ok-ids.ensures.left.told is))
+    zero_handed _ c.from_residual-in_err-list.result c.from_residual-in_err-list.ensures.1
+    c.args.self.now.tree c.in_ok-ids.ensures.left.told c.in_err-list.ensures.zero
 
 pub returns-clause-said : goal.returns-clause-said
 returns-clause-said g c rs is =
@@ -80,5 +79,5 @@ returns-clause-reads g c =
 
 pub returns-in_err-list-clause-bad : goal.returns-in_err-list-clause-bad
 returns-in_err-list-clause-bad g c =
-    let p = err_from_is_err_and c.from_residual-in_err-list.result c.from_residual-in_err-list.ensures.1 in
-    rw (p.1, p.2) (bad_along _ _ c.args.self.now.tree _ c.in_ok-ids.ensures.left.told c.in_err-list.ensures.bad)
+    bad_handed _ c.from_residual-in_err-list.result c.from_residual-in_err-list.ensures.1
+    c.args.self.now.tree c.in_ok-ids.ensures.left.told c.in_err-list.ensures.bad

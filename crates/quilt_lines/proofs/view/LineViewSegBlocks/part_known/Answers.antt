@@ -1,16 +1,15 @@
 use Rattle.std.proofs.Common.{ℕ, List, Contains, ◌∙◌, subst, arith, refl}
-use Rattle.std.proofs.lemmas.Result.{err_from_is_err_and}
 use Rattle.std.proofs.lemmas.Option.{MatchOption-at_none, MatchOption-at_some}
 use Rattle.quilt_near.proofs.Knowing.{knows_block}
 use Rattle.quilt_lines.proofs.Listed.{same_segments, all_there, each_there, one_pixel}
 use Rattle.quilt_lines.proofs.Lookups.{shows_along}
-use Rattle.quilt_lines.proofs.Saying.{tree_along, bad_along}
+use Rattle.quilt_btree.proofs.Handed.{handed_on}
+use Rattle.quilt_btree.proofs.Stops.{zero_handed, bad_handed}
 use Rattle.quilt_lines.proofs.view.LineViewSegBlocks.part_known.Goals as goal
 
 pub returns-in_err-ids-clause-sound : goal.returns-in_err-ids-clause-sound
 returns-in_err-ids-clause-sound g c =
-    let p = err_from_is_err_and c.from_residual.result c.from_residual.ensures.1 in
-    rw (p.1, p.2) (λ l h. c.in_err-ids.ensures.sound h.threshold l.segs l.cover h.has)
+    rw (handed_on c.from_residual.result c.from_residual.ensures.1) (λ l h. c.in_err-ids.ensures.sound h.threshold l.segs l.cover h.has)
 
 pub returns-then-b-lt2-clause-sound : goal.returns-then-b-lt2-clause-sound
 returns-then-b-lt2-clause-sound g c l h page e =
@@ -31,8 +30,8 @@ returns-in_default-clause-known g c =
 
 pub returns-in_err-list-2-clause-sound : goal.returns-in_err-list-2-clause-sound
 returns-in_err-list-2-clause-sound g c =
-    let p = err_from_is_err_and c.from_residual-in_err-list-2.result c.from_residual-in_err-list-2.ensures.1 in
-    rw (p.1, p.2) (λ l h. let at = MatchOption-at_some _ _ c.in-Some.ids c.in-Some.is
+    rw (handed_on c.from_residual-in_err-list-2.result c.from_residual-in_err-list-2.ensures.1)
+    (λ l h. let at = MatchOption-at_some _ _ c.in-Some.ids c.in-Some.is
     (c.in_ok-ids.ensures.ids h.threshold l.segs l.cover h.has (c.requires.known.block l h)) in
     c.in_err-list-2.ensures.sound l
     (shows_along _ _ c.args.self.now.tree c.args.self.now.layer c.args.self.now.level l c.in_ok-ids.ensures.left.told h)
@@ -40,8 +39,8 @@ returns-in_err-list-2-clause-sound g c =
 
 pub returns-in_err-list-2-clause-zero : goal.returns-in_err-list-2-clause-zero
 returns-in_err-list-2-clause-zero g c =
-    let p = err_from_is_err_and c.from_residual-in_err-list-2.result c.from_residual-in_err-list-2.ensures.1 in
-    rw (p.1, p.2) (λ rs is. c.in_err-list-2.ensures.zero rs (tree_along _ _ c.args.self.now.tree rs c.in_ok-ids.ensures.left.told is))
+    zero_handed _ c.from_residual-in_err-list-2.result c.from_residual-in_err-list-2.ensures.1
+    c.args.self.now.tree c.in_ok-ids.ensures.left.told c.in_err-list-2.ensures.zero
 
 pub returns-clause-part : goal.returns-clause-part
 returns-clause-part g c l h =
@@ -68,8 +67,7 @@ returns-then-is_none-clause-part g c l h =
 
 pub returns-in_err-list-clause-sound : goal.returns-in_err-list-clause-sound
 returns-in_err-list-clause-sound g c =
-    let p = err_from_is_err_and c.from_residual-in_err-list.result c.from_residual-in_err-list.ensures.1 in
-    rw (p.1, p.2) (λ l h.
+    rw (handed_on c.from_residual-in_err-list.result c.from_residual-in_err-list.ensures.1) (λ l h.
     let at = MatchOption-at_some _ _ c.in-Some.ids c.in-Some.is
     (c.in_ok-ids.ensures.ids h.threshold l.segs l.cover h.has (c.requires.known.block l h)) in
     c.in_err-list.ensures.sound l
@@ -78,16 +76,15 @@ returns-in_err-list-clause-sound g c =
 
 pub returns-in_err-list-clause-zero : goal.returns-in_err-list-clause-zero
 returns-in_err-list-clause-zero g c =
-    let p = err_from_is_err_and c.from_residual-in_err-list.result c.from_residual-in_err-list.ensures.1 in
-    rw (p.1, p.2) (λ rs is.
-    c.in_err-list.ensures.zero rs (tree_along _ _ c.args.self.now.tree rs c.in_ok-ids.ensures.left.told is))
+    zero_handed _ c.from_residual-in_err-list.result c.from_residual-in_err-list.ensures.1
+    c.args.self.now.tree c.in_ok-ids.ensures.left.told c.in_err-list.ensures.zero
 
 pub returns-in_err-list-clause-bad : goal.returns-in_err-list-clause-bad
 returns-in_err-list-clause-bad g c =
-    let p = err_from_is_err_and c.from_residual-in_err-list.result c.from_residual-in_err-list.ensures.1 in
-    rw (p.1, p.2) (bad_along _ _ c.args.self.now.tree _ c.in_ok-ids.ensures.left.told c.in_err-list.ensures.bad)
+    bad_handed _ c.from_residual-in_err-list.result c.from_residual-in_err-list.ensures.1
+    c.args.self.now.tree c.in_ok-ids.ensures.left.told c.in_err-list.ensures.bad
 
 pub returns-in_err-list-2-clause-bad : goal.returns-in_err-list-2-clause-bad
 returns-in_err-list-2-clause-bad g c =
-    let p = err_from_is_err_and c.from_residual-in_err-list-2.result c.from_residual-in_err-list-2.ensures.1 in
-    rw (p.1, p.2) (bad_along _ _ c.args.self.now.tree _ c.in_ok-ids.ensures.left.told c.in_err-list-2.ensures.bad)
+    bad_handed _ c.from_residual-in_err-list-2.result c.from_residual-in_err-list-2.ensures.1
+    c.args.self.now.tree c.in_ok-ids.ensures.left.told c.in_err-list-2.ensures.bad
