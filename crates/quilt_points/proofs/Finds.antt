@@ -27,7 +27,6 @@ use Rattle.quilt_btree.specs.Lists.{value_in, value_at_key}
 use Rattle.quilt_btree.specs.declared.tree.Tree.{Tree}
 use Rattle.quilt_btree.specs.Lists.{floor_of}
 use Rattle.quilt_btree.specs.Trees.{IsTree}
-pub use Rattle.quilt_btree.proofs.Stops.{zero_page, tree_along}
 use Rattle.quilt_spell.specs.Written.{by_key}
 use Rattle.quilt_points.proofs.Trees.{tree_rises}
 use Rattle.quilt_edits.proofs.Lookups.{find_away, find_at}

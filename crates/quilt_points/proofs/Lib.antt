@@ -10,7 +10,6 @@ pub mod Unions
 pub mod Ways
 pub mod Bounds
 pub mod Results
-pub mod Damage
 pub mod Spelled
 pub mod Windows
 pub mod Singles

@@ -7,12 +7,12 @@ use Rattle.quilt_record.specs.declared.record.Record.{Record}
 use Rattle.quilt_loc.specs.Codes.{Rises}
 use Rattle.quilt_points.specs.Coding.{by_code}
 use Rattle.quilt_points.specs.Scattering.{IsTaken, IsGrown}
-use Rattle.quilt_points.proofs.Finds.{has_along, tree_along, if_some_at}
+use Rattle.quilt_points.proofs.Finds.{has_along, if_some_at}
 use Rattle.quilt_points.proofs.Codings.{rest_is, Rises-drop, Rises-take, dropped_there, take_further, drop_further, pixels_apart}
 use Rattle.quilt_points.proofs.plans.Scatters.{grown_none, grown_next, entries_apart}
 use Rattle.quilt_world.proofs.ReadCounts.{reads_none}
 use Rattle.quilt_points.proofs.Bounds.{times_most, blocks_next, blocks_all}
-use Rattle.quilt_points.proofs.Damage.{bad_along}
+use Rattle.quilt_btree.proofs.Stops.{zero_handed, bad_handed}
 use Rattle.quilt_points.proofs.scatter.grown.Goals as goal
 
 pub loop-done-init : goal.loop-done-init
@@ -106,10 +106,8 @@ returns-clause-reads g c =
 
 pub returns-in_err-count-clause-zero : goal.returns-in_err-count-clause-zero
 returns-in_err-count-clause-zero g c =
-    let p = err_from_is_err_and c.from_residual.result c.from_residual.ensures.1 in
-    rw (p.1, p.2) (λ rs is. c.in_err-count.ensures.zero rs (tree_along _ _ c.args.tree.now rs c.loop-done.invariant.left.told is))
+    zero_handed _ c.from_residual.result c.from_residual.ensures.1 c.args.tree.now c.loop-done.invariant.left.told c.in_err-count.ensures.zero
 
 pub returns-in_err-count-clause-bad : goal.returns-in_err-count-clause-bad
 returns-in_err-count-clause-bad g c =
-    let p = err_from_is_err_and c.from_residual.result c.from_residual.ensures.1 in
-    rw (p.1, p.2) (bad_along _ _ c.args.tree.now _ c.loop-done.invariant.left.told c.in_err-count.ensures.bad)
+    bad_handed _ c.from_residual.result c.from_residual.ensures.1 c.args.tree.now c.loop-done.invariant.left.told c.in_err-count.ensures.bad

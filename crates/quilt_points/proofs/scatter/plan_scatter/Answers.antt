@@ -9,11 +9,12 @@ use Rattle.quilt_types.specs.declared.plane.Point.{Point}
 use Rattle.quilt_types.specs.Plane.{is_pixel}
 use Rattle.quilt_edits.proofs.Ascents.{permuted}
 use Rattle.quilt_points.specs.Scattering.{IsGrown}
-use Rattle.quilt_points.proofs.Finds.{false_true, if_some_at, zero_page}
+use Rattle.quilt_points.proofs.Finds.{false_true, if_some_at}
 use Rattle.quilt_points.proofs.plans.Puts.{not_some}
 use Rattle.quilt_points.proofs.Results.{memory_sound}
 use Rattle.quilt_points.proofs.plans.Scatters.{pixels_up, all_new, scatter_can, scatter_plan}
-use Rattle.quilt_points.proofs.Damage.{zero_bad}
+use Rattle.quilt_btree.proofs.Stops.{zero_page}
+use Rattle.quilt_btree.proofs.ways.Damage.{zero_names}
 use Rattle.quilt_points.proofs.scatter.plan_scatter.Goals as goal
 
 pub in_order-requires : goal.in_order-requires
@@ -114,4 +115,4 @@ returns-in_err-edits-clause-zero g c =
 pub returns-in_err-edits-clause-bad : goal.returns-in_err-edits-clause-bad
 returns-in_err-edits-clause-bad g c =
     let p = err_from_is_err_and c.from_residual-in_err-edits.result c.from_residual-in_err-edits.ensures.1 in
-    rw (p.1, p.2) (zero_bad _ c.args.tree.now _ (zero_page _ c.in_err-edits.ensures.zero))
+    rw (p.1, p.2) (zero_names _ _ _ _ (zero_page _ c.in_err-edits.ensures.zero))
