@@ -2,6 +2,7 @@
 pub mod Adds
 pub mod Dels
 pub mod Deltas
+pub mod Parts
 pub mod Plans
 pub mod Puts
 pub mod Scatters

@@ -1,8 +1,11 @@
-ghost use Rattle.std.specs.Prelude.{◌≡◌, ◌++◌, ◌<◌, ◌^◌, ℕ, true, All, map, filter, IfOk, OnOk};
+ghost use Rattle.std.specs.Prelude.{◌≡◌, ◌+◌, ◌++◌, ◌<◌, ◌≤◌, ◌^◌, ℕ, true, false, All, length, map, filter, take, slice_index_or, IfOk, OnOk};
+ghost use Rattle.quilt_types.specs.declared.plane.Point.{Point as AnyPoint};
 ghost use Rattle.quilt_types.specs.Plane.{is_pixel, in_block, IsBlock};
 ghost use Rattle.quilt_types.specs.Facts.{HoldsPoint};
+ghost use Rattle.quilt_loc.specs.Codes.{Rises, code_at, code_from};
 ghost use Rattle.quilt_point_laws.specs.Spreading.{held_facts, spread as spread_facts};
 ghost use Rattle.quilt_points.specs.Layers.{point_entries, block_record};
+ghost use Rattle.quilt_points.specs.Coding.{by_code};
 ghost use Rattle.quilt_point_laws.specs.Growing.{gone_of, come_of};
 
 use crate::layer::PointLayer;
@@ -18,7 +21,8 @@ pub(crate) struct Delta {
     pub with: Vec<Record>,
 }
 
-/// Adds the records of a block that change when points come into it: `held` are the points that it has without them.
+/// Adds the records of a block that change when points come into it: `held` are the points that it has without them. Where
+/// more come than a block holds, they are in the order of their codes, and none of these is before the block's.
 pub(crate) fn add_delta(
     alloc: Global,
     delta: &mut Delta,
@@ -30,6 +34,8 @@ pub(crate) fn add_delta(
     requires block { IsBlock layer.level b }
     requires held { All (λ p. is_pixel layer.level p.at ≡ true) held.now }
     requires news { All (λ p. is_pixel layer.level p.at ≡ true) news.now }
+    requires order { layer.bucket < length news.now → Rises by_code news.now }
+    requires least { layer.bucket < length news.now → All (λ p. code_from b ≤ code_at p.at) news.now }
     ensures without { OnOk result (delta.new.without.items ≡ delta.old.without.items
         ++ map (block_record layer.level layer.bucket layer.number) (gone_of layer.bucket b (point_entries held.now) (point_entries news.now))) }
     ensures with { OnOk result ((k : ℕ) → b.side ≡ 2 ^ k → delta.new.with.items ≡ delta.old.with.items
@@ -43,9 +49,79 @@ pub(crate) fn add_delta(
         return add_points(&mut delta.with, layer, b, news);
     }
     add_held(&mut delta.without, layer, b, held)?;
+    spread_all(alloc, &mut delta.with, layer, b, held, news)
+}
+
+/// Adds the records of the blocks into which the points of a block are spread with those that come into it. They are too many
+/// for one block. Where none was there, those that come are in the order of their codes, and none of these is before the block's.
+fn spread_all(
+    alloc: Global,
+    records: &mut Vec<Record>,
+    layer: PointLayer,
+    b: Block,
+    held: &[Point],
+    news: &[Point],
+) -> Result<(), AllocError>
+    requires block { IsBlock layer.level b }
+    requires held { All (λ p. is_pixel layer.level p.at ≡ true) held.now }
+    requires news { All (λ p. is_pixel layer.level p.at ≡ true) news.now }
+    requires many { layer.bucket < length held.now + length news.now }
+    requires order { layer.bucket < length news.now → Rises by_code news.now }
+    requires least { layer.bucket < length news.now → All (λ p. code_from b ≤ code_at p.at) news.now }
+    ensures { OnOk result ((k : ℕ) → b.side ≡ 2 ^ k → records.new.items ≡ records.old.items
+        ++ map (block_record layer.level layer.bucket layer.number) (spread_facts layer.bucket k b (point_entries news.now ++ point_entries held.now))) }
+{
+    if held.is_empty() {
+        return spread_in_order(records, layer, b, news);
+    }
     let mut all = Vec::from_slice(alloc, news)?;
     all.extend_from_slice(held)?;
-    spread(alloc, &mut delta.with, layer, b, &all)
+    spread(alloc, records, layer, b, &all)
+}
+
+/// Adds the records of a block with these points, or of the blocks into which they are spread where they are too many. The
+/// points are in the order of their codes, and none of these is before the block's, so those of a quarter are a part of the list.
+fn spread_in_order(
+    records: &mut Vec<Record>,
+    layer: PointLayer,
+    b: Block,
+    points: &[Point],
+) -> Result<(), AllocError>
+    requires block { IsBlock layer.level b }
+    requires points { All (λ p. is_pixel layer.level p.at ≡ true) points.now }
+    requires order { Rises by_code points.now }
+    requires least { All (λ p. code_from b ≤ code_at p.at) points.now }
+    ensures { OnOk result ((k : ℕ) → b.side ≡ 2 ^ k → records.new.items ≡ records.old.items
+        ++ map (block_record layer.level layer.bucket layer.number) (spread_facts layer.bucket k b (point_entries points.now))) }
+{
+    if points.len() <= usize::from(layer.bucket) || b.side <= 1 {
+        return add_held(records, layer, b, points);
+    }
+    let mut done = 0;
+    for q in quarters(b) {
+        let rest = &points[done..];
+        let count = count_in(rest, q);
+        spread_in_order(records, layer, q, &rest[..count])?;
+        done += count;
+    }
+    Ok(())
+}
+
+/// How many of the points, the first of them on, are in the block.
+pub(crate) fn count_in(points: &[Point], b: Block) -> usize
+    requires { IsBlock 12 b }
+    ensures most { result ≤ length points.now }
+    ensures inside { All (λ p. in_block b p.at ≡ true) (take result points.now) }
+    ensures behind { result < length points.now → (d : AnyPoint) → in_block b (slice_index_or points.now result d).at ≡ false }
+{
+    let mut count = 0;
+    for p in points {
+        if !covers(b, p.at) {
+            return count;
+        }
+        count += 1;
+    }
+    count
 }
 
 /// Adds the records of a block with these points, or of the blocks into which they are spread where they are too many.

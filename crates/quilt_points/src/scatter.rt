@@ -1,11 +1,11 @@
-ghost use Rattle.std.specs.Prelude.{◌≡◌, ◌≢◌, ◌+◌, ◌*◌, ◌<◌, ◌≤◌, ◌^◌, ◌↔◌, ℕ, true, false, [], All, Contains, Some, None, take, drop, length, map, slice_index_or, IfOk};
+ghost use Rattle.std.specs.Prelude.{◌≡◌, ◌≢◌, ◌+◌, ◌*◌, ◌<◌, ◌≤◌, ◌^◌, ◌↔◌, ℕ, true, false, [], All, Contains, Some, None, length, IfOk};
 ghost use Rattle.std.specs.Prelude.{List, IfErr, IfSome, IsNone, IsSome, IsErrOf};
 ghost use Rattle.std.specs.FinMap as finmap;
 ghost use Rattle.quilt_types.specs.declared.plane.Point.{Point as AnyPoint};
 ghost use Rattle.quilt_types.specs.declared.stop.Stop.TheVariants.{Device, Damaged};
-ghost use Rattle.quilt_types.specs.Plane.{is_pixel, in_block, IsBlock};
+ghost use Rattle.quilt_types.specs.Plane.{is_pixel};
 ghost use Rattle.quilt_types.specs.Layers.{PointMap};
-ghost use Rattle.quilt_loc.specs.Codes.{code_at, Rises};
+ghost use Rattle.quilt_loc.specs.Codes.{Rises};
 ghost use Rattle.quilt_record.specs.declared.record.Record.{Record as AnyRecord};
 ghost use Rattle.quilt_store.specs.Calls.{OnlyReads};
 ghost use Rattle.quilt_world.specs.Tale.{Goes};
@@ -20,13 +20,12 @@ ghost use Rattle.quilt_points.specs.Plans.{IsPointPlan, AreNew, points_with};
 ghost use Rattle.quilt_points.specs.Scattering.{IsTaken, IsGrown};
 
 use crate::coded::in_order;
-use crate::delta::{Delta, add_delta};
+use crate::delta::{Delta, add_delta, count_in};
 use crate::layer::PointLayer;
 use crate::leaf::leaf_around;
 use crate::plan::has_point;
 use quilt_btree::Tree;
 use quilt_edits::edits_of;
-use quilt_loc::{code_of, end_of};
 use quilt_record::Edits;
 use quilt_store::PageStore;
 use quilt_types::{Point, PointList, Stop};
@@ -141,7 +140,7 @@ fn add_block<S: PageStore>(
     ensures reads { IfOk result (λ _. Goes (λ old new. new ≤ old + (12 + 3 * layer.bucket)) (S.reads store.old) (S.reads store.new)) }
 {
     let leaf = leaf_around(alloc, store, tree, layer, news[0].at)?;
-    let count = count_before(news, end_of(leaf.block));
+    let count = count_in(news, leaf.block);
     let here = &news[..count];
     if has_common(&leaf.points, here) {
         return Ok(None);
@@ -150,23 +149,6 @@ fn add_block<S: PageStore>(
         Err(_) => Err(Stop::Memory),
         Ok(()) => Ok(Some(count)),
     }
-}
-
-/// How many of the points, the first of them on, have codes below the end.
-fn count_before(points: &[Point], end: u32) -> usize
-    requires { All (λ p. is_pixel 12 p.at ≡ true) points.now }
-    ensures most { result ≤ length points.now }
-    ensures before { All (λ p. code_at p.at < end) (take result points.now) }
-    ensures behind { result < length points.now → (d : AnyPoint) → end ≤ code_at (slice_index_or points.now result d).at }
-{
-    let mut count = 0;
-    for p in points {
-        if code_of(p.at) >= end {
-            return count;
-        }
-        count += 1;
-    }
-    count
 }
 
 /// Whether one of the points is at a pixel of one of the others.

@@ -1,12 +1,12 @@
 -- Points that come at once into a point layer, block by block, and what they make of the layer.
-use Rattle.std.proofs.Common.{◌≡◌, ◌↔◌, ◌⊎◌, ℕ, zero, suc, ◌+◌, ◌<◌, ◌≤◌, ◌^◌, true, List, [], ◌∷◌, ◌++◌, map, take, drop, length, get_or, flat_map, None, refl}
+use Rattle.std.proofs.Common.{◌≡◌, ◌↔◌, ◌⊎◌, ℕ, zero, suc, ◌+◌, ◌<◌, ◌≤◌, ◌^◌, true, false, List, [], ◌∷◌, ◌++◌, map, take, drop, length, get_or, flat_map, None, refl}
 use Rattle.std.proofs.Common.{sym, ◌∙◌, ap, subst, ⊎_elim, inl, inr, arith, Contains, All}
 use Rattle.std.specs.FinMap as finmap
 use Rattle.std.specs.List.Sorted.{IsPermutation}
-use Rattle.std.proofs.lemmas.Bool.{cases_lt}
-use Rattle.std.proofs.lemmas.List.{map-append, append-nil, drop_more}
+use Rattle.std.proofs.lemmas.Bool.{cases_lt, both_ways}
+use Rattle.std.proofs.lemmas.List.{map-append, append-nil}
 use Rattle.std.proofs.lemmas.Grind.{flat_map-append}
-use Rattle.std.proofs.lemmas.List.Elements.{Contains-append_left, Contains-append_right, Contains-append_cases, All-contains, All-weaker}
+use Rattle.std.proofs.lemmas.List.Elements.{Contains-append_left, Contains-append_right, Contains-append_cases, All-weaker}
 use Rattle.std.proofs.lemmas.List.Sorted.{IsPermutation-map, IsPermutation-sym}
 use Rattle.quilt_types.specs.declared.plane.Pixel.{Pixel}
 use Rattle.quilt_types.specs.declared.plane.Block.{Block}
@@ -15,10 +15,10 @@ use Rattle.quilt_types.specs.Plane.{in_block, is_pixel, pixel_cmp, IsBlock}
 use Rattle.quilt_types.specs.Layers.{Points, PointMap, IsPointMap}
 use Rattle.quilt_types.specs.Quadtrees.{holds_few}
 use Rattle.quilt_types.specs.Facts.{Fact, facts}
-use Rattle.quilt_loc.specs.Codes.{Rises, code_at, code_from, code_to}
+use Rattle.quilt_loc.specs.Codes.{Rises, code_at, code_from}
 use Rattle.quilt_loc.proofs.Members.{Contains-nil, Contains-here, Contains-there, Contains-cons_cases, Contains-map, Contains-map_from}
-use Rattle.quilt_loc.proofs.Blocks.{Holds-from, in_block-true, side_most}
-use Rattle.quilt_loc.proofs.Intervals.{code_held, held_code}
+use Rattle.quilt_loc.proofs.Blocks.{Holds-from, side_most}
+use Rattle.quilt_loc.proofs.Intervals.{code_held}
 use Rattle.quilt_loc.proofs.PlaneOrders.{pixel_total}
 use Rattle.quilt_record.specs.declared.record.Record.{Record}
 use Rattle.quilt_record.specs.declared.edits.Edits.{Edits}
@@ -27,7 +27,7 @@ use Rattle.quilt_spell.proofs.Lists.{Apart-append}
 use Rattle.quilt_spell.proofs.Maps.{get_others}
 use Rattle.quilt_spell.proofs.facts.FactKeys.{pixel_same}
 use Rattle.quilt_edits.specs.Edits.{CanBeEdits}
-use Rattle.quilt_edits.proofs.Lists.{take_next, taken_there}
+use Rattle.quilt_edits.proofs.Lists.{member_at, take_next, taken_there}
 use Rattle.quilt_edits.proofs.Ascents.{permuted, Apart-permuted}
 use Rattle.quilt_point_laws.specs.Growing.{Gain, gone_in, come_in, IsGain}
 use Rattle.quilt_point_laws.proofs.Narrowing.{one_maximal}
@@ -41,59 +41,30 @@ use Rattle.quilt_points.specs.Coding.{by_code}
 use Rattle.quilt_points.specs.Scattering.{IsTaken, IsGrown}
 use Rattle.quilt_points.proofs.Finds.{pixel_in, pixel_from}
 use Rattle.quilt_points.proofs.Shapes.{block_is}
-use Rattle.quilt_points.proofs.Codings.{Rises-drop, dropped_there, first_least, pixels_apart}
+use Rattle.quilt_points.proofs.Codings.{dropped_there, first_least, pixels_apart}
+use Rattle.quilt_points.proofs.plans.Parts.{outside}
 use Rattle.quilt_points.proofs.plans.Plans as plans
 
 -- ---- the points of one block
--- those whose codes are below the end of the block around the first
+-- those of them that are in the block around the first
 module _ (n : ℕ) (le : n ≤ 12) (points : List Point) (up : Rises by_code points) (pixels : All (λ p. is_pixel n p.at ≡ true) points) (b : Block)
-    (hb : IsBlock n b) (d : Point) (on : in_block b (get_or points 0 d).at ≡ true) (end : ℕ) (is : end ≡ code_to b)
-    (count : ℕ) (most : count ≤ length points) (before : All (λ p. code_at p.at < end) (take count points)) (behind : count < length points
-    → (e : Point) → end ≤ code_at (get_or points count e).at) where
-  first_held : (code_from b ≤ code_at (get_or points 0 d).at) × (code_at (get_or points 0 d).at < code_to b)
-  first_held = code_held n b (get_or points 0 d).at hb le (Holds-from b (get_or points 0 d).at on)
+    (hb : IsBlock n b) (d : Point) (on : in_block b (get_or points 0 d).at ≡ true) where
+  -- none is before the block
+  pub from_block : All (λ p. code_from b ≤ code_at p.at) points
+  from_block = λ k e lt.
+      let held = (code_held n b (get_or points 0 d).at hb le (Holds-from b (get_or points 0 d).at on)).0 in
+      let least = first_least points d (get_or points k e) up (member_at points k e lt) in
+      omega arith
 
-  pub some_taken : 0 < length points → 0 < count
-  some_taken some =
-      let h = first_held in
-      let under = h.1 in
-      ⊎_elim (λ lt. lt) (λ none. let zero_is : count ≡ 0 = omega arith in let e = behind (omega arith) d in
-      let at : code_at (get_or points count d).at ≡ code_at (get_or points 0 d).at = ap (λ k. code_at (get_or points k d).at) zero_is in
-      absurd (omega arith)) (cases_lt 0 count)
+  module _ (count : ℕ) (behind : count < length points → (e : Point) → in_block b (get_or points count e).at ≡ false) where
+    pub some_taken : 0 < length points → 0 < count
+    some_taken some =
+        ⊎_elim (λ lt. lt) (λ none. let zero_is : count ≡ 0 = omega arith in
+        absurd (both_ways (in_block b (get_or points count d).at) (behind (omega arith) d) (ap (λ k. in_block b (get_or points k d).at) zero_is ∙ on)))
+        (cases_lt 0 count)
 
-  pub taken_inside : (p : Point) → Contains (take count points) p → in_block b p.at ≡ true
-  taken_inside p c =
-      let there = taken_there points count p c in
-      let least = first_least points d p up there in
-      let lt = All-contains (λ (q : Point). code_at q.at < end) (take count points) p before c in
-      let xy = pixel_in n p.at (All-contains (λ (q : Point). is_pixel n q.at ≡ true) points p pixels there) in
-      let m = side_most n le in
-      let x = xy.0 in
-      let y = xy.1 in
-      let bx = hb.in_x in
-      let by = hb.in_y in
-      let from = first_held.0 in
-      in_block-true b p.at (held_code n b p.at hb le (omega arith) (omega arith) (omega arith) (omega arith) (omega arith) (omega arith))
-
-  pub left_outside : (p : Point) → Contains (drop count points) p → in_block b p.at ≡ true → ⊥
-  left_outside p c t =
-      let held = (code_held n b p.at hb le (Holds-from b p.at t)).1 in
-      ⊎_elim
-      (λ lt.
-      let e = behind lt d in
-      let rest = drop_more points count d lt in
-      let rises = Rises-drop by_code count points up in
-      let least = first_least (get_or points count d ∷ drop (count + 1) points) d p (subst (Rises by_code) rest rises)
-      (subst (λ (l : List Point). Contains l p) rest c) in
-      absurd (omega arith))
-      (λ ge. Contains-nil p (subst (λ (l : List Point). Contains l p) (none_left points count ge) c))
-      (cases_lt count (length points))
-    where
-      none_left : (xs : List Point) (k : ℕ) → length xs ≤ k → drop k xs ≡ []
-      none_left [] zero h = refl
-      none_left [] (suc k) h = refl
-      none_left (x ∷ xs) zero h = absurd (omega arith)
-      none_left (x ∷ xs) (suc k) h = none_left xs k (omega arith)
+    pub left_outside : (p : Point) → Contains (drop count points) p → in_block b p.at ≡ true → ⊥
+    left_outside p c t = both_ways (in_block b p.at) (outside n le points up pixels b hb from_block count behind p c) t
 
 pub pixels_up : (n : ℕ) → n ≤ 12 → (ps : List Point) → All (λ p. is_pixel n p.at ≡ true) ps → All (λ p. is_pixel 12 p.at ≡ true) ps
 pixels_up n le ps h =

@@ -1,26 +1,37 @@
-use Rattle.std.proofs.Common.{◌++◌, ◌-◌, List, map, take, sym, ◌∙◌, ap, subst, Contains}
+use Rattle.std.proofs.Common.{◌≡◌, ◌++◌, ◌-◌, ◌≤◌, true, List, map, take, sym, ◌∙◌, ap, subst, Contains}
+use Rattle.std.proofs.lemmas.List.Elements.{All-contains, All-take}
 use Rattle.quilt_types.specs.declared.plane.Point.{Point}
 use Rattle.quilt_types.specs.Codes.{depth}
+use Rattle.quilt_types.specs.Plane.{in_block}
+use Rattle.quilt_loc.specs.Codes.{code_at, code_from}
 use Rattle.quilt_loc.proofs.Blocks.{IsBlock-up}
 use Rattle.quilt_edits.proofs.Lists.{taken_there}
 use Rattle.quilt_point_laws.specs.Growing.{gone_of, come_of}
 use Rattle.quilt_point_laws.proofs.Gains.{level_is}
 use Rattle.quilt_points.specs.Layers.{point_entries, block_record}
 use Rattle.quilt_points.proofs.plans.Puts.{free_from, taken_from}
-use Rattle.quilt_points.proofs.plans.Scatters.{some_taken, taken_inside, left_outside, pixels_up}
+use Rattle.quilt_points.specs.Coding.{by_code}
+use Rattle.quilt_points.proofs.Codings.{Rises-take}
+use Rattle.quilt_points.proofs.plans.Scatters.{from_block, some_taken, left_outside}
 use Rattle.quilt_points.proofs.scatter.add_block.Goals as goal
 
-pub end_of-requires : goal.end_of-requires
-end_of-requires g c = IsBlock-up c.args.layer.level 12 c.in_ok-leaf.leaf.block c.args.layer.has_level.1 c.in_ok-leaf.ensures.block
+pub count_in-count-requires : goal.count_in-count-requires
+count_in-count-requires g c = IsBlock-up c.args.layer.level 12 c.in_ok-leaf.leaf.block c.args.layer.has_level.1 c.in_ok-leaf.ensures.block
 
-pub count_before-count-requires : goal.count_before-count-requires
-count_before-count-requires g c = pixels_up c.args.layer.level c.args.layer.has_level.1 c.args.news.now c.requires.pixels
+pub add_delta-requires-clause-order : goal.add_delta-requires-clause-order
+add_delta-requires-clause-order g c _ = Rises-take by_code c.count_in-count.result c.args.news.now c.requires.order
+
+pub add_delta-requires-clause-least : goal.add_delta-requires-clause-least
+add_delta-requires-clause-least g c _ =
+    All-take (λ (p : Point). code_from c.in_ok-leaf.leaf.block ≤ code_at p.at) c.count_in-count.result c.args.news.now
+    (from_block c.args.layer.level c.args.layer.has_level.1 c.args.news.now c.requires.order c.requires.pixels c.in_ok-leaf.leaf.block
+    c.in_ok-leaf.ensures.block _ c.in_ok-leaf.ensures.holds)
 
 pub returns-then-has_common-clause-taken : goal.returns-then-has_common-clause-taken
 returns-then-has_common-clause-taken g c _ old h =
     let w = c.has_common.ensures.yes c.if-has_common.true in (
       w.0,
-      taken_there c.args.news.now c.count_before-count.result w.0 w.2,
+      taken_there c.args.news.now c.count_in-count.result w.0 w.2,
       taken_from old c.in_ok-leaf.leaf.block c.in_ok-leaf.leaf.points.items (w.0).at (c.in_ok-leaf.ensures.read old h).are w.1
           (subst (λ (l : List Point). Contains l w.1) c.deref.ensures.value w.3) w.4,
     )
@@ -28,37 +39,34 @@ returns-then-has_common-clause-taken g c _ old h =
 pub returns-clause-count : goal.returns-clause-count
 returns-clause-count g c = (
   some_taken c.args.layer.level c.args.layer.has_level.1 c.args.news.now c.requires.order c.requires.pixels c.in_ok-leaf.leaf.block
-      c.in_ok-leaf.ensures.block _ c.in_ok-leaf.ensures.holds c.end_of.result c.end_of.ensures.value c.count_before-count.result
-      c.count_before-count.ensures.most c.count_before-count.ensures.before c.count_before-count.ensures.behind
-      c.requires.some,
-  c.count_before-count.ensures.most,
+      c.in_ok-leaf.ensures.block _ c.in_ok-leaf.ensures.holds c.count_in-count.result c.count_in-count.ensures.behind c.requires.some,
+  c.count_in-count.ensures.most,
 )
 
 pub returns-clause-added : goal.returns-clause-added
 returns-clause-added g c old h =
     let is = c.in_ok-leaf.ensures.read old h in
-    let inside = taken_inside c.args.layer.level c.args.layer.has_level.1 c.args.news.now c.requires.order c.requires.pixels c.in_ok-leaf.leaf.block
-    c.in_ok-leaf.ensures.block _ c.in_ok-leaf.ensures.holds c.end_of.result c.end_of.ensures.value c.count_before-count.result
-    c.count_before-count.ensures.most c.count_before-count.ensures.before c.count_before-count.ensures.behind in
+    let inside = λ (p : Point) (cp : Contains (take c.count_in-count.result c.args.news.now) p).
+    All-contains (λ (q : Point). in_block c.in_ok-leaf.leaf.block q.at ≡ true) (take c.count_in-count.result c.args.news.now) p
+    c.count_in-count.ensures.inside cp in
     record {
       block = c.in_ok-leaf.leaf.block;
       held = c.in_ok-leaf.leaf.points.items;
       is = is;
       inside = inside;
       outside = left_outside c.args.layer.level c.args.layer.has_level.1 c.args.news.now c.requires.order c.requires.pixels c.in_ok-leaf.leaf.block
-          c.in_ok-leaf.ensures.block _ c.in_ok-leaf.ensures.holds c.end_of.result c.end_of.ensures.value c.count_before-count.result
-          c.count_before-count.ensures.most c.count_before-count.ensures.before c.count_before-count.ensures.behind;
+          c.in_ok-leaf.ensures.block _ c.in_ok-leaf.ensures.holds c.count_in-count.result c.count_in-count.ensures.behind;
       free = λ p cp.
           free_from c.args.layer.level c.args.layer.bucket old c.in_ok-leaf.leaf.block c.in_ok-leaf.leaf.points.items p.at is.are (inside p cp)
           (λ q cq e. c.has_common.ensures.no c.if-has_common.false p q cp (subst (λ (l : List Point). Contains l q) (sym c.deref.ensures.value) cq) e);
       gone = c.in-Ok.ensures.without
           ∙ ap (λ (l : List Point). c.args.delta.now.without.items ++ map (block_record c.args.layer.level c.args.layer.bucket c.args.layer.number)
-          (gone_of c.args.layer.bucket c.in_ok-leaf.leaf.block (point_entries l) (point_entries (take c.count_before-count.result c.args.news.now))))
+          (gone_of c.args.layer.bucket c.in_ok-leaf.leaf.block (point_entries l) (point_entries (take c.count_in-count.result c.args.news.now))))
           c.deref-2.ensures.value;
       come = c.in-Ok.ensures.with (c.args.layer.level - depth c.args.layer.level c.in_ok-leaf.leaf.block)
           (level_is c.args.layer.level c.in_ok-leaf.leaf.block c.in_ok-leaf.ensures.block)
           ∙ ap (λ (l : List Point). c.args.delta.now.with.items ++ map (block_record c.args.layer.level c.args.layer.bucket c.args.layer.number)
           (come_of c.args.layer.bucket (c.args.layer.level - depth c.args.layer.level c.in_ok-leaf.leaf.block) c.in_ok-leaf.leaf.block (point_entries l)
-          (point_entries (take c.count_before-count.result c.args.news.now))))
+          (point_entries (take c.count_in-count.result c.args.news.now))))
           c.deref-2.ensures.value;
     }
