@@ -136,7 +136,7 @@ as_rings : (f n k : ℕ) (group : Group) → 0 < k → begins_with (words_of gro
 as_rings f n zero group some other no_list = absurd (omega (arith, some))
 as_rings f n (suc k) group some other no_list = rw (other, no_list) refl
 
-some_side : (n : ℕ) → 0 < 2 ^ n
+pub some_side : (n : ℕ) → 0 < 2 ^ n
 some_side n = let least : 2 ^ 0 ≤ 2 ^ n = pow-le-pow_right {n = 2} (omega arith) {i = 0} {j = n} (omega arith) in omega (arith, least)
 
 as_holding : (f n k : ℕ) (group : Group) (what : Asked) → IsAsked n k (words_of group.line) what → held_as f n k group ≡ holding f n group.line group.more what

@@ -95,7 +95,7 @@ groups_past n (suc k) [] few = refl
 groups_past n zero (l ∷ taken) few = absurd (omega (arith, few))
 groups_past n (suc k) (l ∷ taken) few = groups_past n k taken (omega (arith, few))
 
-front_lines : (taken ls : List (List ℕ)) (k : ℕ) → length taken ≡ k → take k (taken ++ ls) ≡ taken
+pub front_lines : (taken ls : List (List ℕ)) (k : ℕ) → length taken ≡ k → take k (taken ++ ls) ≡ taken
 front_lines taken ls k size = take-append-le k taken ls (omega (arith, size)) ∙ take_all k taken (omega (arith, size))
 
 -- the group of a line that all its further lines follow

@@ -14,7 +14,7 @@ use Rattle.quilt_words.specs.Spelling.{number, row}
 abbrev pub before : {A : Type 0} → Option (List A) → Option (List A) → Option (List A)
 before first others = option_and_then (λ b. option_map (λ r. b ++ r) others) first
 
-onto_more : {A : Type 0} (got b : List A) (others : Option (List A))
+pub onto_more : {A : Type 0} (got b : List A) (others : Option (List A))
     → option_map (λ r. got ++ r) (before (Some b) others) ≡ option_map (λ r. (got ++ b) ++ r) others
 onto_more got b None = refl
 onto_more got b (Some r) = ap Some (sym (append_assoc got b r))
@@ -37,7 +37,7 @@ points_next line lines = either_point (nat_le (length line) 64) (point_of (words
 abbrev pub PointsSoFar : {X : Type 0} → (X → List ℕ) → List X → ℕ → List Point → Type 0
 PointsSoFar g xs i got = points_joined (map g xs) ≡ option_map (λ r. got ++ r) (points_joined (map g (drop i xs)))
 
-some_same : {A : Type 0} (r : Option (List A)) → r ≡ option_map (λ x. [] ++ x) r
+pub some_same : {A : Type 0} (r : Option (List A)) → r ≡ option_map (λ x. [] ++ x) r
 some_same None = refl
 some_same (Some x) = refl
 
@@ -141,7 +141,7 @@ odd_wide line not_even = ap (option_map (colour_bytes 1)) (odd_row line not_even
 abbrev pub one_row : ℕ → ℕ → List ℕ → Option (List ℕ)
 one_row f width line = if length line == 2 * f * width then option_map (colour_bytes f) (row line) else None
 
-either_row : (f : ℕ) (b : Bool) (r others : Option (List ℕ)) →
+pub either_row : (f : ℕ) (b : Bool) (r others : Option (List ℕ)) →
     cond b (option_and_then (λ bytes. option_map (λ rest. colour_bytes f bytes ++ rest) others) r) None
     ≡ before (cond b (option_map (colour_bytes f) r) None) others
 either_row f true None others = refl

@@ -11,6 +11,8 @@ pub mod Joins
 pub mod LineLaws
 pub mod Long
 pub mod Pieces
+pub mod Rasters
+pub mod RowsOver
 pub mod ShortLines
 pub mod Shortened
 pub mod Sixteens

@@ -1,5 +1,5 @@
 -- Lines cut from the front of a text, and how many further lines a line asks for.
-use Rattle.std.specs.Prelude.{◌≡◌, ℕ, ◌<◌, ◌≤◌, Bool, true, false, List, [], ◌++◌, length, codes, Option, Some, None}
+use Rattle.std.specs.Prelude.{◌≡◌, ℕ, ◌<◌, ◌≤◌, ◌+◌, Bool, true, false, List, [], ◌++◌, length, take, drop, codes, Option, Some, None}
 use Rattle.quilt_types.specs.Plane.{side}
 use Rattle.quilt_lang.specs.declared.asked.Asked.{Asked}
 use Rattle.quilt_lang.specs.declared.asked.Asked.TheVariants as kinds
@@ -60,3 +60,10 @@ holding f n line more kinds.Nothing = Line line
 holding f n line more kinds.Rows = Rows line (rows_of f n more)
 holding f n line more (kinds.Points k) = PointLines line (points_of k more)
 holding f n line more (kinds.Rings k) = RingLines line (rings_of k more)
+
+-- An item asks for rows of a level at which pixels have numbers of 16 bits, its line has so many bytes, and all of its lines so many.
+pub record HasRaster (ended : Bool) (n line : ℕ) (what : Asked) (len : ℕ) (text : List ℕ) : Type 0 where
+  pub kind : what ≡ kinds.Rows
+  pub low : n ≤ 16
+  pub within : len ≤ length text
+  pub rows : CutsUpTo ended (side n) (take (side n) (lines_of (drop (line + 1) text))) (drop (line + 1) text) (drop len text)

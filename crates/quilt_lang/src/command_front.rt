@@ -1,5 +1,5 @@
 //! The command of the item at the front of a text, taken from where its lines lie.
-ghost use Rattle.std.specs.Prelude.{◌≡◌, ◌+◌, ◌<◌, ◌≤◌, ℕ, false, [], List, Result, drop, length, map, IfOk, OnErr};
+ghost use Rattle.std.specs.Prelude.{◌≡◌, ◌+◌, ◌<◌, ◌≤◌, ℕ, false, [], List, None, Result, drop, length, map, IfOk, OnErr};
 ghost use Rattle.quilt_types.specs.declared.code.Code.{Code};
 ghost use Rattle.quilt_words.specs.declared.command.Command.{Command};
 ghost use Rattle.quilt_words.specs.Items.{asked, held, whole_lines, words_of};
@@ -13,7 +13,7 @@ ghost use Rattle.quilt_lang.specs.Progress.{IsFrontLine};
 use crate::asked::Asked;
 use crate::front::held_lines;
 use crate::held::{points_in, rings_in, rows_in};
-use quilt_types::Code;
+use quilt_types::{Code, Text};
 use quilt_words::{
     Command, FurtherLines, LINE_LIMIT, ParseErr, few_words, is_plain_line, line_words, parse_line,
     parse_words,
@@ -50,6 +50,18 @@ fn words_command(format: u8, words: &[&[u8]]) -> Result<Command, Code>
     ensures { form_of_words format nothing_further (map (λ w. w.now) words.now) ≡ result }
 {
     let mut further = FurtherLines::none();
+    parse_words(format, words, &mut further)
+}
+
+/// What the words of a line spell with these rows behind it. It takes no memory.
+pub fn rows_command(format: u8, words: &[&[u8]], rows: Option<Text>) -> Result<Command, Code>
+    ensures { form_of_words format (record { rows = rows; points = None; rings = None }) (map (λ w. w.now) words.now) ≡ result }
+{
+    let mut further = FurtherLines {
+        rows,
+        points: None,
+        rings: None,
+    };
     parse_words(format, words, &mut further)
 }
 

@@ -1,15 +1,16 @@
 //! Where the item at the front of a text stands: a line, with the further lines that there are of those that it asks for.
-ghost use Rattle.std.specs.Prelude.{◌≡◌, ◌+◌, ◌≤◌, false, [], ◌∷◌, length, take, drop, map, IfOk, MatchOption};
+ghost use Rattle.std.specs.Prelude.{◌≡◌, ◌+◌, ◌≤◌, false, [], ◌∷◌, length, take, drop, map, IfOk, IfSome, MatchOption};
 ghost use Rattle.quilt_words.specs.Items.{whole_lines};
 ghost use Rattle.quilt_lang.specs.Reading.{Gives, GivesItem, HasNone, begins_silent};
-ghost use Rattle.quilt_lang.specs.Cutting.{CutsUpTo, grouped, further_count};
+ghost use Rattle.quilt_lang.specs.Cutting.{CutsUpTo, HasRaster, grouped, further_count};
 ghost use Rattle.quilt_lang.specs.Progress.{IsFrontLine, IsFront, IsProgress, IsUncut, IsWaiting};
 
 use crate::asked::{Asked, further_asked};
 use crate::first_line::{first_line, line_len};
 use crate::held::item_of;
-use crate::line_count::count_lines;
+use crate::line_count::{count_lines, further_len};
 use crate::progress::{CutLines, Progress, Waiting};
+use crate::rows::OVER_LEVEL;
 use quilt_words::Item;
 use std::alloc::{AllocError, Global};
 
@@ -153,4 +154,25 @@ fn further_lines<'a>(
         len += rest.len().min(k + 1);
     }
     Ok((lines, len))
+}
+
+/// How many bytes the lines of the item at the front have, whose line has so many and asks for this, where its rows are to be read
+/// over their own digits: rows of up to 65,536 pixels, which are no shorter than what stands behind them, since that is copied.
+pub fn raster_len(level: u8, text: &[u8], line: usize, what: Asked, ended: bool) -> Option<usize>
+    requires first { line ≤ length text.now }
+    requires there { ended ≡ false → further_count level what ≤ length (whole_lines (drop (line + 1) text.now)) }
+    ensures { IfSome result (λ len. HasRaster ended level line what len text.now) }
+{
+    let Asked::Rows = what else {
+        return None;
+    };
+    if level > OVER_LEVEL {
+        return None;
+    }
+    let from = text.len().min(line + 1);
+    let len = from + further_len(level, what, &text[from..], ended);
+    if text.len() - len > len {
+        return None;
+    }
+    Some(len)
 }

@@ -11,6 +11,7 @@ mod kept;
 mod line_count;
 mod lines;
 mod progress;
+mod rows;
 mod short_lines;
 mod spelled;
 

@@ -1,7 +1,7 @@
 //! The further lines of an item, counted as they come.
-ghost use Rattle.std.specs.Prelude.{◌≡◌, ◌<◌, ◌+◌, [], drop, length};
-ghost use Rattle.quilt_words.specs.Items.{whole_lines};
-ghost use Rattle.quilt_lang.specs.Cutting.{further_count};
+ghost use Rattle.std.specs.Prelude.{◌≡◌, ◌<◌, ◌≤◌, ◌+◌, false, [], drop, length, take};
+ghost use Rattle.quilt_words.specs.Items.{lines_of, whole_lines};
+ghost use Rattle.quilt_lang.specs.Cutting.{CutsUpTo, further_count};
 ghost use Rattle.quilt_lang.specs.Progress.{IsCount};
 
 use crate::asked::Asked;
@@ -32,4 +32,18 @@ pub fn count_lines(level: u8, what: Asked, text: &[u8], so_far: CutLines) -> Cut
         };
     }
     cut
+}
+
+/// How many bytes the further lines have that stand at the front, which are all there, or as many as there are where the input has ended.
+pub fn further_len(level: u8, what: Asked, text: &[u8], ended: bool) -> usize
+    requires { ended ≡ false → further_count level what ≤ length (whole_lines text.now) }
+    ensures within { result ≤ length text.now }
+    ensures are { CutsUpTo ended (further_count level what) (take (further_count level what) (lines_of text.now)) text.now (drop result text.now) }
+{
+    let cut = count_lines(level, what, text, CutLines::NONE);
+    if what.is_met(level, cut.count, !ended) {
+        cut.len
+    } else {
+        text.len()
+    }
 }

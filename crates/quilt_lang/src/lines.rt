@@ -1,22 +1,27 @@
 ghost use Rattle.std.specs.Prelude.{◌≡◌, ◌≤◌, ◌+◌, ℕ, List, false, [], ◌∷◌, ◌++◌, drop, take, length, vec_len, OnOk, OnErr, IfOk, IfSome, MatchOption};
-ghost use Rattle.quilt_words.specs.Items.{whole_items};
+ghost use Rattle.quilt_types.specs.Plane.{side};
+ghost use Rattle.quilt_words.specs.Items.{whole_items, whole_lines};
 ghost use Rattle.quilt_words.specs.Forms.{Spelled};
 ghost use Rattle.quilt_words.specs.Table.{IsFitting};
 ghost use Rattle.quilt_lang.specs.Reading.{Gives, GivesCommand, GivesItem, HasNone, kept_limit};
-ghost use Rattle.quilt_lang.specs.Progress.{told_len};
+ghost use Rattle.quilt_lang.specs.Cutting.{HasRaster};
+ghost use Rattle.quilt_lang.specs.Progress.{IsFrontLine, told_len};
 ghost use Rattle.quilt_lang.specs.Shortening.{IsTextPart, KeepsShort, bounds_of};
+ghost use Rattle.quilt_lang.specs.declared.asked.Asked.TheVariants as kinds;
 
 use crate::asked::Asked;
-use crate::command_front::{front_command, line_command};
+use crate::command_front::{front_command, line_command, rows_command};
 use crate::first_line::silent_front;
-use crate::front::{Front, find_front, front_item};
+use crate::front::{Front, find_front, front_item, raster_len};
 use crate::kept::kept_progress;
 use crate::progress::Progress;
+use crate::rows::{row_room, rows_over};
 use crate::short_lines::{is_short, shortened};
 use quilt_types::Code;
-use quilt_words::{Command, Item};
+use quilt_words::{Command, Item, line_words};
 use std::alloc::{AllocError, Global};
 use std::marker::Model;
+use std::mem::replace;
 
 /// Reads a text in pieces and gives its items. Of a line that is too long it keeps no more than shows that it is.
 #[derive(Drop)]
@@ -108,7 +113,8 @@ impl Lines {
     }
 
     /// What the next item spells in the format, as `parse` answers for what `next_item` gives: its command, or the first refusal of
-    /// 13, 17, 1, 2, 3 and 4 that it has. Its lines are read where they lie. An Err leaves it as it was.
+    /// 13, 17, 1, 2, 3 and 4 that it has. Its lines are read where they lie, and the rows of a raster into that very memory. An Err
+    /// leaves it as it was.
     pub fn take_command(
         &mut self,
         format: u8,
@@ -136,6 +142,10 @@ impl Lines {
                 Ok(Some(command))
             }
             Front::There(line, what) => {
+                if let Some(len) = raster_len(self.level, rest, line, what, ended) {
+                    let command = self.take_raster(format, line, len, ended)?;
+                    return Ok(Some(command));
+                }
                 let (command, len) = front_command(
                     alloc, self.level, format, rest, line, what, ended,
                 )?;
@@ -150,6 +160,53 @@ impl Lines {
 const MUCH: usize = 65536;
 
 impl Lines {
+    /// What the item at the front spells, a raster whose line has so many bytes, and all of its lines so many: its rows are read over
+    /// their own digits, so that they take no memory beside them. An Err leaves all as it was.
+    fn take_raster(
+        &mut self,
+        format: u8,
+        line: usize,
+        len: usize,
+        ended: bool,
+    ) -> Result<Result<Command, Code>, AllocError>
+        requires first { IsFrontLine ended self.old.level line kinds.Rows self.old.rest }
+        requires raster { HasRaster ended self.old.level line kinds.Rows len self.old.rest }
+        requires there { ended ≡ false → side self.old.level ≤ length (whole_lines (drop (line + 1) self.old.rest)) }
+        ensures level { self.new.level ≡ self.old.level }
+        ensures given { IfOk result (λ spelled. GivesCommand ended self.old.level format spelled self.old.rest self.new.rest) }
+        ensures err { OnErr result (self.new ≡ self.old) }
+    {
+        let alloc = *self.bytes.allocator();
+        let first = Vec::from_slice(alloc, &self.bytes[self.from..self.from + line])?;
+        let words = line_words(alloc, &first)?;
+        let level = self.level;
+        let mut room = row_room(alloc, level, format)?;
+        let (bytes, from) = self.hand_over(len)?;
+        let rows_from = bytes.len().min(from + line + 1);
+        let rows = rows_over(level, format, bytes, rows_from, &mut room);
+        Ok(rows_command(format, &words, rows))
+    }
+
+    /// Gives the bytes out of its hands, with the index at which the rest begins, and goes on behind so many bytes of the rest, and
+    /// behind the lines there that begin no item; what it goes on with is copied. An Err leaves all as it was.
+    fn hand_over(&mut self, len: usize) -> Result<(Vec<u8>, usize), AllocError>
+        requires { len ≤ length self.old.rest }
+        ensures level { self.new.level ≡ self.old.level }
+        ensures within { IfOk result (λ b. b.1 ≤ length b.0.items) }
+        ensures rest { IfOk result (λ b. drop b.1 b.0.items ≡ self.old.rest) }
+        ensures passed { OnOk result ((n : ℕ) → Gives false n [] (drop len self.old.rest) self.new.rest) }
+        ensures err { OnErr result (self.new ≡ self.old) }
+    {
+        let from = self.from;
+        let behind = &self.bytes[from + len..];
+        let (silent, scanned) = silent_front(behind, 0);
+        let kept = Vec::from_slice(*self.bytes.allocator(), &behind[silent..])?;
+        let bytes = replace(&mut self.bytes, kept);
+        self.from = 0;
+        self.progress = Progress::Begun(scanned);
+        Ok((bytes, from))
+    }
+
     /// Goes on behind so many bytes of the rest, and behind the lines there that begin no item.
     fn pass(&mut self, len: usize)
         requires { len ≤ length self.old.rest }

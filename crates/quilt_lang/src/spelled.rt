@@ -56,9 +56,10 @@ fn byte_of(high: u8, low: u8) -> u8
 }
 
 /// Reads pairs of hexadecimal digits into the bytes that they spell. Says whether all are digits; else the bytes are only given up.
-fn read_pairs(line: &[u8], bytes: &mut [u8]) -> bool
+pub fn read_pairs(line: &[u8], bytes: &mut [u8]) -> bool
     requires { length line.now ≡ 2 * length bytes.old }
-    ensures { (if result then Some bytes.new else None) ≡ row line.now }
+    ensures same { length bytes.new ≡ length bytes.old }
+    ensures read { (if result then Some bytes.new else None) ≡ row line.now }
 {
     let mut most = 0_u8;
     let mut i = 0;
@@ -74,10 +75,11 @@ fn read_pairs(line: &[u8], bytes: &mut [u8]) -> bool
 
 /// Reads pairs of hexadecimal digits into the bytes that they spell, each behind a byte of 0. Says whether all are digits; else the
 /// bytes are only given up.
-fn read_wide_pairs(line: &[u8], bytes: &mut [u8]) -> bool
+pub fn read_wide_pairs(line: &[u8], bytes: &mut [u8]) -> bool
     requires same { length line.now ≡ length bytes.old }
     requires even { length line.now % 2 ≡ 0 }
-    ensures { (if result then Some bytes.new else None) ≡ option_map (colour_bytes 1) (row line.now) }
+    ensures same { length bytes.new ≡ length bytes.old }
+    ensures read { (if result then Some bytes.new else None) ≡ option_map (colour_bytes 1) (row line.now) }
 {
     match read_sixteens(line, bytes) {
         Some(from) => read_wide_rest(line, bytes, from),
@@ -110,7 +112,8 @@ fn read_wide_rest(line: &[u8], bytes: &mut [u8], from: usize) -> bool
     requires even { length line.now % 2 ≡ 0 }
     requires before { from % 2 ≡ 0 }
     requires read { IsWideUpTo line.now from (take from bytes.old) }
-    ensures { (if result then Some bytes.new else None) ≡ option_map (colour_bytes 1) (row line.now) }
+    ensures same { length bytes.new ≡ length bytes.old }
+    ensures read { (if result then Some bytes.new else None) ≡ option_map (colour_bytes 1) (row line.now) }
 {
     let mut most = 0_u8;
     let mut i = from;

@@ -27,6 +27,13 @@ impl Text {
         }
     }
 
+    /// These bytes, in the memory that they have.
+    pub fn of(bytes: Vec<u8>) -> Text
+        ensures { result ≡ bytes.items }
+    {
+        Text { bytes }
+    }
+
     /// Adds bytes at the end, or changes nothing where no memory is left.
     pub fn push(&mut self, bytes: &[u8]) -> Result<(), AllocError>
         ensures ok { OnOk result (self.new ≡ self.old ++ bytes.now) }

@@ -16,5 +16,5 @@ loop-i-preserved c =
           so.size (omega arith) so.is c.digit_value-high.ensures c.digit_value-low.ensures c.byte_of.ensures (omega (arith, c.max.ensures, c.max-most.ensures));
     }
 
-pub returns : goal.returns
-returns c = pairs_end c.args.line.now c.loop-i.bytes c.loop-i.i c.loop-i.most c.loop-i.invariant.size (omega arith) c.loop-i.invariant.is
+pub returns-clause-read : goal.returns-clause-read
+returns-clause-read c = pairs_end c.args.line.now c.loop-i.bytes c.loop-i.i c.loop-i.most c.loop-i.invariant.size (omega arith) c.loop-i.invariant.is

@@ -18,5 +18,5 @@ loop-i-preserved c =
           c.byte_of.ensures (omega (arith, c.max.ensures, c.max-most.ensures)) (grind (arith, common_steps));
     }
 
-pub returns : goal.returns
-returns c = wide_pairs_end c.args.line.now c.loop-i.bytes c.loop-i.i c.loop-i.most c.loop-i.invariant.size (omega arith) c.loop-i.invariant.is
+pub returns-clause-read : goal.returns-clause-read
+returns-clause-read c = wide_pairs_end c.args.line.now c.loop-i.bytes c.loop-i.i c.loop-i.most c.loop-i.invariant.size (omega arith) c.loop-i.invariant.is

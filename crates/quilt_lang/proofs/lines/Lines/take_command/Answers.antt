@@ -28,8 +28,19 @@ pub returns-in_ok-command-in-There-default-Nothing-clause-fitting : goal.returns
 returns-in_ok-command-in-There-default-Nothing-clause-fitting c =
     given_fits c.args.ended _ _ _ _ _ (returns-in_ok-command-in-There-default-Nothing-clause-given c)
 
-pub returns-in_ok-command-in-There : goal.returns-in_ok-command-in-There
-returns-in_ok-command-in-There c =
+pub returns-in-Some : goal.returns-in-Some
+returns-in-Some c =
+    let one = c.in_ok-command-in-There.ensures.given in
+    record {
+      level = c.take_raster.ensures.level;
+      given = one;
+      spelled = given_spelled c.args.ended _ _ _ _ _ one;
+      fitting = given_fits c.args.ended _ _ _ _ _ one;
+      err = tt;
+    }
+
+pub returns-in_ok-command-in-There-2 : goal.returns-in_ok-command-in-There-2
+returns-in_ok-command-in-There-2 c =
     let bytes : List ℕ = c.self.inside.bytes.items in
     let from = c.self.inside.from in
     let text : List ℕ = c.args.self.now.rest in
@@ -37,8 +48,8 @@ returns-in_ok-command-in-There c =
     let now : List ℕ = c.deref.result.now in
     let same : take (length now - from) (drop from now) ≡ text = rw c.deref.ensures.value (behind from bytes ∙ ap (λ (s : Unread). s.rest) c.self.view_is) in
     let one =
-    given_command c.args.ended c.args.self.now.level c.args.format c.in_ok-command-in-There.command text (drop c.in_ok-command-in-There.len text) _
-    (rw (same, level) at c.in_ok-command-in-There.ensures.gives) c.pass-in-There.ensures.passed in
+    given_command c.args.ended c.args.self.now.level c.args.format c.in_ok-command-in-There-2.command text (drop c.in_ok-command-in-There-2.len text) _
+    (rw (same, level) at c.in_ok-command-in-There-2.ensures.gives) c.pass-in-There.ensures.passed in
     record {
       level = c.pass-in-There.ensures.level;
       given = one;
