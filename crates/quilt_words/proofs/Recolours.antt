@@ -8,8 +8,8 @@ use Rattle.quilt_types.specs.declared.code.Code.TheVariants as codes_of
 use Rattle.quilt_types.specs.Layers.{colours}
 use Rattle.quilt_words.specs.declared.command.Command.{Command}
 use Rattle.quilt_words.specs.declared.command.Command.TheVariants as commands
-use Rattle.quilt_words.specs.Forms.{or_err, ◌>>=◌, values_of}
-use Rattle.quilt_words.specs.Table.{Argument, Value, Called, Number, Further, colour, pairs_of, recolour_command}
+use Rattle.quilt_words.specs.Forms.{or_err, ◌>>=◌, argument_value, values_of}
+use Rattle.quilt_words.specs.Table.{Argument, A_name, Value, Called, Number, Further, colour, pairs_of, recolour_command}
 use Rattle.quilt_words.specs.Made.{recoloured_command, has_pairs}
 use Rattle.std.proofs.lemmas.List.{length-map}
 use Rattle.quilt_words.specs.Pairs.{pairs_in, ReadsPair}
@@ -34,6 +34,7 @@ one_pair f (Some x) (Some y) (Err e) ps so = rw (sym so) refl
 one_pair f (Some x) (Some y) (Ok vs) ps so = rw (sym so) refl
 
 pub same_pairs : (f k m : ℕ) (ws : List (List ℕ)) → length ws ≡ 2 * m → SamePairs (values_of (paired f k m) ws) (pairs_in f ws)
+unfolding argument_value
 same_pairs f k zero [] size = refl
 same_pairs f k zero (w ∷ ws) size = absurd (omega (arith, size))
 same_pairs f k (suc m) [] size = absurd (omega (arith, size))
@@ -62,6 +63,7 @@ pair_number count is = grind arith
 
 pub recoloured_is : (f : ℕ) (more : Further) (a c : List ℕ) (ws : List (List ℕ)) → has_pairs (length (a ∷ c ∷ ws)) ≡ true →
     recoloured_command f more (a ∷ c ∷ ws) ≡ recolours f a c ws
+unfolding argument_value
 recoloured_is f more a c ws is =
     let pairs : ℕ = (length (a ∷ c ∷ ws) - 2) / 2 in
     let size : length ws ≡ 2 * pairs = omega (arith, pair_number (length (a ∷ c ∷ ws)) is) in
@@ -120,15 +122,24 @@ words_are f more g xs d is =
     let size : length (g (get_or xs 0 d) ∷ g (get_or xs 1 d) ∷ map g (drop 2 xs)) ≡ length xs = ap length (sym same) ∙ length-map xs g in
     ap (recoloured_command f more) same ∙ recoloured_is f more (g (get_or xs 0 d)) (g (get_or xs 1 d)) (map g (drop 2 xs)) (ap has_pairs size ∙ is)
 
+-- the name that a word spells is the argument's
+called : (o : Option (List ℕ)) (a : List ℕ) → or_err codes_of.Name (option_map Called o) ≡ Ok (Called a) → or_err codes_of.Name o ≡ Ok a
+called None a is = cc
+called (Some x) a is = cc
+
+named : (word a : List ℕ) → argument_value A_name word ≡ Ok (Called a) → or_err codes_of.Name (name word) ≡ Ok a
+unfolding argument_value
+named word a is = called (name word) a is
+
 -- two layers' names, and the pairs
 pub recolour_ok : {X : Type 0} (f : ℕ) (more : Further) (g : X → List ℕ) (xs : List X) (d : X) (a c : List ℕ) (pairs : List (Colour × Colour))
     → has_pairs (length xs) ≡ true →
-    or_err codes_of.Name (name (g (get_or xs 0 d))) ≡ Ok a → or_err codes_of.Name (name (g (get_or xs 1 d))) ≡ Ok c
+    argument_value A_name (g (get_or xs 0 d)) ≡ Ok (Called a) → argument_value A_name (g (get_or xs 1 d)) ≡ Ok (Called c)
     → pairs_in f (map g (drop 2 xs)) ≡ Ok pairs →
     recoloured_command f more (map g xs) ≡ Ok (commands.Recolour a c pairs)
-recolour_ok f more g xs d a c pairs is first second third = rw (words_are f more g xs d is, first, second, third) refl
+recolour_ok f more g xs d a c pairs is first second third = rw (words_are f more g xs d is, named _ a first, named _ c second, third) refl
 
 pub recolour_err : {X : Type 0} (f : ℕ) (more : Further) (g : X → List ℕ) (xs : List X) (d : X) (a c : List ℕ) (e : Code) → has_pairs (length xs) ≡ true →
-    or_err codes_of.Name (name (g (get_or xs 0 d))) ≡ Ok a → or_err codes_of.Name (name (g (get_or xs 1 d))) ≡ Ok c →
+    argument_value A_name (g (get_or xs 0 d)) ≡ Ok (Called a) → argument_value A_name (g (get_or xs 1 d)) ≡ Ok (Called c) →
     pairs_in f (map g (drop 2 xs)) ≡ Err e → recoloured_command f more (map g xs) ≡ Err e
-recolour_err f more g xs d a c e is first second third = rw (words_are f more g xs d is, first, second, third) refl
+recolour_err f more g xs d a c e is first second third = rw (words_are f more g xs d is, named _ a first, named _ c second, third) refl

@@ -1,5 +1,5 @@
 -- What a command that an item spells has fits the format and the level.
-use Rattle.std.proofs.Common.{◌≡◌, inl, inr, ℕ, zero, suc, ◌+◌, ◌-◌, ◌*◌, ◌/◌, ◌<◌, ◌≤◌, ◌^◌, arith, Bool, true, false, cond, List, [], ◌∷◌, ◌++◌, length, All}
+use Rattle.std.proofs.Common.{◌≡◌, inl, inr, ℕ, zero, suc, ◌+◌, ◌-◌, ◌*◌, ◌/◌, ◌<◌, ◌≤◌, arith, Bool, true, false, cond, List, [], ◌∷◌, length, All}
 use Rattle.std.proofs.Common.{Option, Some, None, Result, Ok, Err, refl, sym, ◌∙◌, ap, subst, ◌==◌, option_map, find, ℤ, pos, neg_ℤ, codes, IfOk, IfSome}
 use Rattle.std.specs.List.{list_all}
 use Rattle.std.specs.Str.{bytes_eq}
@@ -14,12 +14,8 @@ use Rattle.quilt_words.specs.declared.command.Command.{Command}
 use Rattle.quilt_words.specs.declared.command.Command.TheVariants as commands
 use Rattle.quilt_words.specs.declared.item.Item.{Item}
 use Rattle.quilt_words.specs.declared.item.Item.TheVariants.{Long, Line, Rows, PointLines, RingLines}
-use Rattle.quilt_words.specs.Fitting.{IsName, IsWithin, IsShift, IsColour, IsPixelOf16, IsWindowOf16}
-use Rattle.quilt_words.specs.Table.{IsFitting, FurtherFits, Further, Argument, A_name, A_number, A_signed, Value, Called, Number, Signed, coordinate, colour}
-use Rattle.quilt_words.specs.Table.{label, pixel, window, pairs_of, Entry, table, at_command, buffer_command, copy_command, drop_command, layers_command}
-use Rattle.quilt_words.specs.Table.{line_command, lines_command, points_command, polygon_command, put_command, rank_command, raster_command, recolour_command}
-use Rattle.quilt_words.specs.Table.{rect_command, region_command, scatter_command, set_command, shift_command, show_command, union_command, unline_command}
-use Rattle.quilt_words.specs.Table.{window_command}
+use Rattle.quilt_words.specs.Fitting.{IsName, IsWithin, IsShift, IsColour}
+use Rattle.quilt_words.specs.Table.{IsFitting, FurtherFits, Further, Argument, A_name, A_number, A_signed, Value, Called, Number, Signed, pairs_of, Entry, table, points_command, recolour_command}
 use Rattle.quilt_words.specs.Forms.{or_err, ◌>>=◌, argument_value, values_of, form_of_words, form_of_line, form, Spelled}
 use Rattle.quilt_words.specs.Items.{Group, held, is_plain, words_of}
 use Rattle.quilt_words.specs.Parsing.{IsParsedAs}
@@ -44,11 +40,19 @@ AllFit [] (v ∷ vs) = ⊥
 AllFit (a ∷ rest) [] = ⊥
 AllFit (a ∷ rest) (v ∷ vs) = Fits a v × AllFit rest vs
 
+-- a number of a range, which stands below the number behind the range
+record IsFrom (low high k : ℕ) : Type 0 where
+  pub within : IsWithin low high k
+  pub below : k < suc high
+
+from_within : (low high k : ℕ) → IsWithin low high k → IsFrom low high k
+from_within low high k within = record { within = within; below = let most : k ≤ high = within.most in omega (arith, most) }
+
 -- for all values that the arguments may be
 abbrev Each : List Argument → (List Value → Type 0) → Type 0
 Each [] P = P []
 Each (A_name ∷ rest) P = (a : List ℕ) → IsName a → Each rest (λ vs. P (Called a ∷ vs))
-Each (A_number low high ∷ rest) P = (k : ℕ) → IsWithin low high k → Each rest (λ vs. P (Number k ∷ vs))
+Each (A_number low high ∷ rest) P = (k : ℕ) → IsFrom low high k → Each rest (λ vs. P (Number k ∷ vs))
 Each (A_signed ∷ rest) P = (z : ℤ) → IsShift z → Each rest (λ vs. P (Signed z ∷ vs))
 
 of_each : (arguments : List Argument) (P : List Value → Type 0) → Each arguments P → (vs : List Value) → AllFit arguments vs → P vs
@@ -57,7 +61,8 @@ of_each [] P all (v ∷ vs) fit = absurd fit
 of_each (a ∷ rest) P all [] fit = absurd fit
 of_each (A_name ∷ rest) P all (Called a ∷ vs) fit = of_each rest (λ us. P (Called a ∷ us)) (all a fit.0) vs fit.1
 of_each (A_name ∷ rest) P all (v ∷ vs) fit = absurd fit.0
-of_each (A_number low high ∷ rest) P all (Number k ∷ vs) fit = of_each rest (λ us. P (Number k ∷ us)) (all k fit.0) vs fit.1
+of_each (A_number low high ∷ rest) P all (Number k ∷ vs) fit =
+    of_each rest (λ us. P (Number k ∷ us)) (all k (from_within low high k fit.0)) vs fit.1
 of_each (A_number low high ∷ rest) P all (v ∷ vs) fit = absurd fit.0
 of_each (A_signed ∷ rest) P all (Signed z ∷ vs) fit = of_each rest (λ us. P (Signed z ∷ us)) (all z fit.0) vs fit.1
 of_each (A_signed ∷ rest) P all (v ∷ vs) fit = absurd fit.0
@@ -107,6 +112,7 @@ signed_fits [] z is = cc
 signed_fits (c ∷ cs) z is = sign_fits (c == 45) cs (c ∷ cs) z is
 
 argument_fits : (a : Argument) (word : List ℕ) (v : Value) → argument_value a word ≡ Ok v → Fits a v
+unfolding argument_value
 argument_fits A_name word v is = let from = made_of Called codes_of.Name (name word) v is in subst (Fits A_name) from.2 (name_fits word from.0 from.1)
 argument_fits (A_number low high) word v is =
     let from = made_of Number codes_of.Number (number low high word) v is in subst (Fits (A_number low high)) from.2 (number_within low high word from.0 from.1)
@@ -128,16 +134,6 @@ few_colours f k fit = less (f == 1) fit.most
     less : (b : Bool) → k ≤ cond b 256 65536 - 1 → k < cond b 256 65536
     less true le = omega (arith, le)
     less false le = omega (arith, le)
-
-few_labels : (k : ℕ) → IsWithin 0 4294967295 k → k < 2 ^ 32
-few_labels k fit = let most = fit.most in omega (arith, most)
-
-pixel_within : {x y : ℕ} → IsWithin 0 65535 x → IsWithin 0 65535 y → IsPixelOf16 (record { x = x; y = y })
-pixel_within first second = record { x = first.most; y = second.most }
-
-window_within : {x y w h : ℕ} → IsWithin 0 65535 x → IsWithin 0 65535 y → IsWithin 1 65535 w → IsWithin 1 65535 h
-    → IsWindowOf16 (record { x = x; y = y; w = w; h = h })
-window_within first second third fourth = record { x = first.most; y = second.most; w = third; h = fourth }
 
 -- ---- the pairs of a recolouring
 
@@ -177,11 +173,6 @@ no_words f more = refl
 record FitsWith (f n : ℕ) (more : Further) (c : Command) : Type 0 where
   pub fits : FurtherFits f n more → IsFitting f n c
 
--- two rows of a table, or one and those behind it
-infixr 20 ◌&◌
-◌&◌ : {A B : Type 0} → A → B → A × B
-◌&◌ x y = (x, y)
-
 module _ (f n : ℕ) where
   -- a row makes what fits of all that its arguments may be
   abbrev Row : List Argument → (Further → List Value → Option Command) → Type 0
@@ -202,84 +193,21 @@ module _ (f n : ℕ) where
     | inr other ↦ let none : Err codes_of.Count ≡ Ok c = rw other at is in absurd (cc)
   ]
 
-  -- ---- by what the arguments are
-
-  none_fits : Row [] layers_command
-  none_fits more further = tt
-
-  name_fits_one : Row (A_name ∷ []) drop_command
-  name_fits_one more further a named = named
-
-  two_fit : Row (A_name ∷ A_name ∷ []) copy_command
-  two_fit more further a named b also_ = (named, also_)
-
-  three_fit : Row (A_name ∷ A_name ∷ A_name ∷ []) union_command
-  three_fit more further a named b also_ c last = (named, also_, last)
-
-  colour_fits : Row (A_name ∷ colour f ∷ []) region_command
-  colour_fits more further a named k within = (named, few_colours f k within)
-
-  threshold_fits : Row (A_name ∷ A_number 1 32 ∷ []) lines_command
-  threshold_fits more further a named t within = (named, within)
-
-  set_fits : Row (A_name ∷ pixel ++ colour f ∷ []) set_command
-  set_fits more further a named x first y second k within = (named, pixel_within first second, few_colours f k within)
-
-  rect_fits : Row (A_name ∷ window ++ colour f ∷ []) rect_command
-  rect_fits more further a named x first y second w third h fourth k within = (named, window_within first second third fourth, few_colours f k within)
-
-  raster_fits : Row (A_name ∷ []) raster_command
-  raster_fits more further a named = (named, further.rows)
-
-  pixel_fits : Row (A_name ∷ pixel) at_command
-  pixel_fits more further a named x first y second = (named, pixel_within first second)
-
-  window_fits : Row (A_name ∷ window) show_command
-  window_fits more further a named x first y second w third h fourth = (named, window_within first second third fourth)
-
-  cut_fits : Row (A_name ∷ window ++ A_name ∷ []) window_command
-  cut_fits more further a named x first y second w third h fourth b also_ = (named, window_within first second third fourth, also_)
-
-  shift_fits : Row (A_name ∷ A_signed ∷ A_signed ∷ A_name ∷ []) shift_command
-  shift_fits more further a named dx right dy down b also_ = (named, right, down, also_)
-
-  buffer_fits : Row (A_name ∷ coordinate ∷ A_name ∷ []) buffer_command
-  buffer_fits more further a named r within b also_ = (named, within.most, also_)
-
-  put_fits : Row (A_name ∷ pixel ++ label ∷ []) put_command
-  put_fits more further p named x first y second k within = (named, pixel_within first second, few_labels k within)
-
-  scatter_fits : Row (A_name ∷ A_number 1 100000 ∷ []) scatter_command
-  scatter_fits more further p named k within = (named, further.points)
-
-  line_fits : Row (A_name ∷ label ∷ pixel ++ pixel) line_command
-  line_fits more further l named k within x first y second u third v fourth =
-      (named, few_labels k within, record { first = pixel_within first second; second = pixel_within third fourth })
-
-  unline_fits : Row (A_name ∷ label ∷ []) unline_command
-  unline_fits more further l named k within = (named, few_labels k within)
-
-  polygon_fits : Row (A_name ∷ colour f ∷ A_number 1 1000 ∷ []) polygon_command
-  polygon_fits more further c named k within m rings = (named, few_colours f k within, further.rings)
-
-  rank_fits : Row (A_name ∷ pixel ++ A_number 1 100000 ∷ []) rank_command
-  rank_fits more further l named x first y second k within = (named, pixel_within first second, within)
-
   points_fits : (b : Bool) → Row (A_name ∷ cond b [] (A_number 1 16 ∷ [])) points_command
   points_fits true = λ more further p named. (named, record { least = omega arith; most = omega arith })
-  points_fits false = λ more further p named k within. (named, within)
+  points_fits false = λ more further p named k from. (named, from.within)
 
   -- each row of a table
   abbrev AllRows : List Entry → Type 0
   AllRows [] = Unit {0}
   AllRows (e ∷ es) = Row e.arguments e.command × AllRows es
 
+  -- what fits is made of what each argument is, where a format has 256 colours and where it has 65536
   all_rows : AllRows (table f)
-  all_rows =
-      colour_fits & threshold_fits & name_fits_one & two_fit & none_fits & name_fits_one & none_fits & set_fits & rect_fits & raster_fits & pixel_fits
-      & window_fits & name_fits_one & three_fit & three_fit & three_fit & cut_fits & shift_fits & buffer_fits & colour_fits & colour_fits & put_fits
-      & pixel_fits & scatter_fits & pixel_fits & window_fits & line_fits & unline_fits & window_fits & window_fits & pixel_fits & two_fit & none_fits
-      & none_fits & none_fits & none_fits & polygon_fits & rank_fits & two_fit & tt
+  all_rows = elim (cases_Bool (f == 1)) [
+    | inl one ↦ rw one (assumption)
+    | inr other ↦ rw other (assumption)
+  ]
 
   recolour_fits : (m : ℕ) → IsWithin 1 16 m → (more : Further) (vs : List Value) (c : Command) → AllFit (A_name ∷ A_name ∷ paired f 0 m) vs
       → recolour_command more vs ≡ Some c → FitsWith f n more c

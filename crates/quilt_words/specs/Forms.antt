@@ -36,7 +36,7 @@ entry_of f word count =
     else (or_err codes_of.Word (find (λ e. bytes_eq e.word word) (table f)) >>= with_count count)
 
 -- the value that a word spells for an argument; else the refusal `name` or `number`
-abbrev pub argument_value : Argument → List ℕ → Result Value Code
+unfoldable pub argument_value : Argument → List ℕ → Result Value Code
 argument_value A_name word = or_err codes_of.Name (option_map Called (name word))
 argument_value (A_number low high) word = or_err codes_of.Number (option_map Number (number low high word))
 argument_value A_signed word = or_err codes_of.Number (option_map Signed (signed 65535 word))

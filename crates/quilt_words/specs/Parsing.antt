@@ -30,6 +30,11 @@ abbrev pub ReadsAs : {A : Type 0} → (A → List Value) → Result A Code → R
 ReadsAs values (Ok x) r = r ≡ Ok (values x)
 ReadsAs values (Err code) r = r ≡ Err code
 
+-- the value is what the answer is, or the code is the answer's
+abbrev pub ReadsOne : {A : Type 0} → (A → Value) → Result A Code → Result Value Code → Type 0
+ReadsOne value (Ok x) r = r ≡ Ok (value x)
+ReadsOne value (Err code) r = r ≡ Err code
+
 -- the values of so many arguments, or the code of the first refusal
 abbrev pub counted : List Argument → List (List ℕ) → Result (List Value) Code
 counted arguments words = if length arguments == length words then values_of arguments words else Err codes_of.Count

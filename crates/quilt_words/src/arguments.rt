@@ -1,9 +1,10 @@
 ghost use Rattle.std.specs.Prelude.{◌≡◌, ◌≤◌, ◌<◌, ◌+◌, ◌*◌, ◌-◌, ℕ, Ok, Err, Some, None, Option, Bool, cond, nat_le, if◌then◌else◌, Result, option_map, IfOk};
 ghost use Rattle.std.specs.Prelude.{IfSome};
 ghost use Rattle.std.specs.List.{list_all};
-ghost use Rattle.quilt_types.specs.declared.code.Code.TheVariants as codes_of;
-ghost use Rattle.quilt_words.specs.Spelling.{number, signed, name, is_digit, is_spelled, value_of};
-ghost use Rattle.quilt_words.specs.Forms.{or_err};
+ghost use Rattle.quilt_words.specs.Spelling.{number, is_digit, is_spelled, value_of};
+ghost use Rattle.quilt_words.specs.Table.{A_name, A_number, A_signed, Called, Number, Signed, coordinate, extent};
+ghost use Rattle.quilt_words.specs.Forms.{argument_value};
+ghost use Rattle.quilt_words.specs.Parsing.{ReadsOne};
 ghost use Rattle.quilt_words.specs.Fitting.{IsWithin};
 ghost use Rattle.quilt_types.specs.Layers.{colours};
 
@@ -11,9 +12,9 @@ use quilt_types::{Code, Name};
 use std::str;
 
 /// The name that a word is.
-#[tactic(auto, unfolding(crate::specs::Spelling::name))]
+#[tactic(auto, unfolding(crate::specs::Spelling::name, crate::specs::Forms::argument_value))]
 pub fn parse_name(word: &[u8]) -> Result<Name, Code>
-    ensures { or_err codes_of.Name (name word.now) ≡ result }
+    ensures { ReadsOne Called result (argument_value A_name word.now) }
 {
     let Ok(text) = str::from_utf8(word) else {
         return Err(Code::Name);
@@ -77,8 +78,9 @@ pub fn number_of(low: u32, high: u32, word: &[u8]) -> Option<u32>
 }
 
 /// The number from `low` to `high` that a word spells.
+#[tactic(auto, unfolding(crate::specs::Forms::argument_value))]
 pub fn parse_number(low: u32, high: u32, word: &[u8]) -> Result<u32, Code>
-    ensures is { or_err codes_of.Number (number low high word.now) ≡ result }
+    ensures value { ReadsOne Number result (argument_value (A_number low high) word.now) }
     ensures within { IfOk result (IsWithin low high) }
 {
     match number_of(low, high, word) {
@@ -89,7 +91,7 @@ pub fn parse_number(low: u32, high: u32, word: &[u8]) -> Result<u32, Code>
 
 /// A coordinate.
 pub fn parse_coordinate(word: &[u8]) -> Result<u16, Code>
-    ensures { or_err codes_of.Number (number 0 65535 word.now) ≡ result }
+    ensures { ReadsOne Number result (argument_value coordinate word.now) }
 {
     let n = parse_number(0, 65535, word)?;
     Ok(n as u16)
@@ -97,25 +99,30 @@ pub fn parse_coordinate(word: &[u8]) -> Result<u16, Code>
 
 /// An extent of a window, at least 1.
 pub fn parse_extent(word: &[u8]) -> Result<u16, Code>
-    ensures { or_err codes_of.Number (number 1 65535 word.now) ≡ result }
+    ensures { ReadsOne Number result (argument_value extent word.now) }
 {
     let n = parse_number(1, 65535, word)?;
     Ok(n as u16)
 }
 
 /// A number of at most 65535, or a minus before one that is not 0.
+#[tactic(auto, unfolding(crate::specs::Forms::argument_value))]
 pub fn parse_signed(word: &[u8]) -> Result<i32, Code>
-    ensures { or_err codes_of.Number (signed 65535 word.now) ≡ result }
+    ensures { ReadsOne Signed result (argument_value A_signed word.now) }
 {
     let Some((first, digits)) = word.split_first() else {
         return Err(Code::Number);
     };
     if *first == b'-' {
-        let n = parse_number(1, 65535, digits)?;
-        return Ok(-(n as i32));
+        return match number_of(1, 65535, digits) {
+            Some(n) => Ok(-(n as i32)),
+            None => Err(Code::Number),
+        };
     }
-    let n = parse_number(0, 65535, word)?;
-    Ok(n as i32)
+    match number_of(0, 65535, word) {
+        Some(n) => Ok(n as i32),
+        None => Err(Code::Number),
+    }
 }
 
 /// The greatest colour of a format.

@@ -169,7 +169,7 @@ pub enum Command {
 }
 
 /// A word of a command on the map and its layers.
-#[derive(Clone, Copy, Debug, PartialEq, Eq)]
+#[derive(Clone, Copy)]
 pub enum MapWord {
     Region,
     Lines,
@@ -207,7 +207,7 @@ impl MapWord {
 }
 
 /// A word of a command on one region layer.
-#[derive(Clone, Copy, Debug, PartialEq, Eq)]
+#[derive(Clone, Copy)]
 pub enum RegionWord {
     Set,
     Rect,
@@ -239,7 +239,7 @@ impl RegionWord {
 }
 
 /// A word of a command on region layers that make another.
-#[derive(Clone, Copy, Debug, PartialEq, Eq)]
+#[derive(Clone, Copy)]
 pub enum AlgebraWord {
     Union,
     Inter,
@@ -267,7 +267,7 @@ impl AlgebraWord {
 }
 
 /// A word of a command on a point layer.
-#[derive(Clone, Copy, Debug, PartialEq, Eq)]
+#[derive(Clone, Copy)]
 pub enum PointWord {
     Put,
     Del,
@@ -291,7 +291,7 @@ impl PointWord {
 }
 
 /// A word of a command on line layers.
-#[derive(Clone, Copy, Debug, PartialEq, Eq)]
+#[derive(Clone, Copy)]
 pub enum LineWord {
     Line,
     Unline,
@@ -321,7 +321,7 @@ impl LineWord {
 }
 
 /// A command's word.
-#[derive(Clone, Copy, Debug, PartialEq, Eq)]
+#[derive(Clone, Copy)]
 pub enum Word {
     Map(MapWord),
     Region(RegionWord),

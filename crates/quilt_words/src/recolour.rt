@@ -4,7 +4,7 @@ ghost use Rattle.quilt_words.specs.Table.{Further};
 ghost use Rattle.quilt_words.specs.Made.{recoloured_command, has_pairs};
 ghost use Rattle.quilt_words.specs.Pairs.{pairs_in, ReadsPair};
 
-use crate::arguments::{most_colour, parse_name, parse_number};
+use crate::arguments::{most_colour, number_of, parse_name};
 use crate::{Command, Pairs};
 use quilt_types::{Code, Colour, Name};
 
@@ -33,9 +33,10 @@ fn parse_pair(format: u8, o: &[u8], n: &[u8]) -> Result<(Colour, Colour), Code>
     ensures { ReadsPair format result o.now n.now }
 {
     let most = most_colour(format);
-    let o = parse_number(0, most, o)?;
-    let n = parse_number(0, most, n)?;
-    Ok((Colour(o as u16), Colour(n as u16)))
+    match (number_of(0, most, o), number_of(0, most, n)) {
+        (Some(o), Some(n)) => Ok((Colour(o as u16), Colour(n as u16))),
+        _ => Err(Code::Number),
+    }
 }
 
 /// From 1 to 16 pairs of colours.

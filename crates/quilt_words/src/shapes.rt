@@ -40,7 +40,6 @@ pub fn two_names(words: &[&[u8]]) -> Result<(Name, Name), Code>
 }
 
 /// Three layers.
-#[tactic(auto, using(crate::proofs::Slices::three_words))]
 pub fn three_names(words: &[&[u8]]) -> Result<(Name, Name, Name), Code>
     ensures { ReadsAs (λ v. Called v.0 ∷ Called v.1 ∷ Called v.2 ∷ []) result (counted (A_name ∷ A_name ∷ A_name ∷ []) (map (λ w. w.now) words.now)) }
 {
@@ -54,7 +53,6 @@ pub fn three_names(words: &[&[u8]]) -> Result<(Name, Name, Name), Code>
 }
 
 /// A layer and a number from `low` to `high`.
-#[tactic(auto, using(crate::proofs::Slices::two_words))]
 pub fn name_number(words: &[&[u8]], low: u32, high: u32) -> Result<(Name, u32), Code>
     ensures is { ReadsAs (λ v. Called v.0 ∷ Number v.1 ∷ []) result (counted (A_name ∷ A_number low high ∷ []) (map (λ w. w.now) words.now)) }
     ensures within { IfOk result (λ v. IsWithin low high v.1) }
@@ -68,7 +66,6 @@ pub fn name_number(words: &[&[u8]], low: u32, high: u32) -> Result<(Name, u32), 
 }
 
 /// A layer and a pixel.
-#[tactic(auto, using(crate::proofs::Slices::three_words))]
 pub fn name_pixel(words: &[&[u8]]) -> Result<(Name, Pixel), Code>
     ensures { ReadsAs (λ v. Called v.0 ∷ Number v.1.x ∷ Number v.1.y ∷ []) result
         (counted (A_name ∷ coordinate ∷ coordinate ∷ []) (map (λ w. w.now) words.now)) }
@@ -83,7 +80,6 @@ pub fn name_pixel(words: &[&[u8]]) -> Result<(Name, Pixel), Code>
 }
 
 /// A layer, a pixel and a number from `low` to `high`.
-#[tactic(auto, using(crate::proofs::Slices::four_words))]
 pub fn name_pixel_number(words: &[&[u8]], low: u32, high: u32) -> Result<(Name, Pixel, u32), Code>
     ensures is { ReadsAs (λ v. Called v.0 ∷ Number v.1.x ∷ Number v.1.y ∷ Number v.2 ∷ []) result
         (counted (A_name ∷ coordinate ∷ coordinate ∷ A_number low high ∷ []) (map (λ w. w.now) words.now)) }
@@ -100,7 +96,6 @@ pub fn name_pixel_number(words: &[&[u8]], low: u32, high: u32) -> Result<(Name, 
 }
 
 /// A layer and a window.
-#[tactic(auto, using(crate::proofs::Slices::five_words))]
 pub fn name_window(words: &[&[u8]]) -> Result<(Name, Window), Code>
     ensures { ReadsAs (λ v. Called v.0 ∷ Number v.1.x ∷ Number v.1.y ∷ Number v.1.w ∷ Number v.1.h ∷ []) result
         (counted (A_name ∷ coordinate ∷ coordinate ∷ extent ∷ extent ∷ []) (map (λ w. w.now) words.now)) }
@@ -117,7 +112,6 @@ pub fn name_window(words: &[&[u8]]) -> Result<(Name, Window), Code>
 }
 
 /// A layer, a window and a number from `low` to `high`.
-#[tactic(auto, using(crate::proofs::Slices::six_words))]
 pub fn name_window_number(words: &[&[u8]], low: u32, high: u32) -> Result<(Name, Window, u32), Code>
     ensures is { ReadsAs (λ v. Called v.0 ∷ Number v.1.x ∷ Number v.1.y ∷ Number v.1.w ∷ Number v.1.h ∷ Number v.2 ∷ []) result
         (counted (A_name ∷ coordinate ∷ coordinate ∷ extent ∷ extent ∷ A_number low high ∷ []) (map (λ w. w.now) words.now)) }
@@ -136,7 +130,6 @@ pub fn name_window_number(words: &[&[u8]], low: u32, high: u32) -> Result<(Name,
 }
 
 /// A layer, a window and a layer.
-#[tactic(auto, using(crate::proofs::Slices::six_words))]
 pub fn name_window_name(words: &[&[u8]]) -> Result<(Name, Window, Name), Code>
     ensures { ReadsAs (λ v. Called v.0 ∷ Number v.1.x ∷ Number v.1.y ∷ Number v.1.w ∷ Number v.1.h ∷ Called v.2 ∷ []) result
         (counted (A_name ∷ coordinate ∷ coordinate ∷ extent ∷ extent ∷ A_name ∷ []) (map (λ w. w.now) words.now)) }
@@ -154,7 +147,6 @@ pub fn name_window_name(words: &[&[u8]]) -> Result<(Name, Window, Name), Code>
 }
 
 /// A layer, how far to the right and down, and a layer.
-#[tactic(auto, using(crate::proofs::Slices::four_words))]
 pub fn name_shift_name(words: &[&[u8]]) -> Result<(Name, i32, i32, Name), Code>
     ensures { ReadsAs (λ v. Called v.0 ∷ Signed v.1 ∷ Signed v.2 ∷ Called v.3 ∷ []) result
         (counted (A_name ∷ A_signed ∷ A_signed ∷ A_name ∷ []) (map (λ w. w.now) words.now)) }
@@ -170,7 +162,6 @@ pub fn name_shift_name(words: &[&[u8]]) -> Result<(Name, i32, i32, Name), Code>
 }
 
 /// A layer, a radius and a layer.
-#[tactic(auto, using(crate::proofs::Slices::three_words))]
 pub fn name_radius_name(words: &[&[u8]]) -> Result<(Name, u16, Name), Code>
     ensures { ReadsAs (λ v. Called v.0 ∷ Number v.1 ∷ Called v.2 ∷ []) result (counted (A_name ∷ coordinate ∷ A_name ∷ []) (map (λ w. w.now) words.now)) }
 {
@@ -184,7 +175,6 @@ pub fn name_radius_name(words: &[&[u8]]) -> Result<(Name, u16, Name), Code>
 }
 
 /// A layer, a number from `low` to `high`, and a number of rings.
-#[tactic(auto, using(crate::proofs::Slices::three_words))]
 pub fn name_number_rings(words: &[&[u8]], low: u32, high: u32) -> Result<(Name, u32, u32), Code>
     ensures is { ReadsAs (λ v. Called v.0 ∷ Number v.1 ∷ Number v.2 ∷ []) result
         (counted (A_name ∷ A_number low high ∷ A_number 1 1000 ∷ []) (map (λ w. w.now) words.now)) }
@@ -200,7 +190,6 @@ pub fn name_number_rings(words: &[&[u8]], low: u32, high: u32) -> Result<(Name, 
 }
 
 /// A layer, an id and the ends of a segment.
-#[tactic(auto, using(crate::proofs::Slices::six_words))]
 pub fn name_id_segment(words: &[&[u8]]) -> Result<(Name, u32, Seg), Code>
     ensures { ReadsAs (λ v. Called v.0 ∷ Number v.1 ∷ Number v.2.x1 ∷ Number v.2.y1 ∷ Number v.2.x2 ∷ Number v.2.y2 ∷ []) result
         (counted (A_name ∷ label ∷ coordinate ∷ coordinate ∷ coordinate ∷ coordinate ∷ []) (map (λ w. w.now) words.now)) }
