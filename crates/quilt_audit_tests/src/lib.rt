@@ -2,18 +2,4 @@
 #![tactic(auto)]
 
 #[cfg(test)]
-mod drawing;
-#[cfg(test)]
-mod drawn_lines;
-#[cfg(test)]
-mod drawn_points;
-#[cfg(test)]
-mod lines;
-#[cfg(test)]
-mod pages;
-#[cfg(test)]
-mod planted;
-#[cfg(test)]
-mod points;
-#[cfg(test)]
-mod regions;
+mod tests;

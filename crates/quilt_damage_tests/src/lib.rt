@@ -2,22 +2,4 @@
 #![tactic(auto)]
 
 #[cfg(test)]
-mod changes;
-#[cfg(test)]
-mod drawing;
-#[cfg(test)]
-mod judging;
-#[cfg(test)]
-mod layers;
-#[cfg(test)]
-mod lines;
-#[cfg(test)]
-mod points;
-#[cfg(test)]
-mod regions;
-#[cfg(test)]
-mod tally;
-#[cfg(test)]
-mod trial;
-#[cfg(test)]
-mod writing;
+mod tests;

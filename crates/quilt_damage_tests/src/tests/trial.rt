@@ -1,8 +1,8 @@
-use crate::changes::{Change, change_spelling, change_tree, drawn_change};
-use crate::drawing::Draw;
-use crate::judging::{Claim, judge};
-use crate::tally::Tally;
-use crate::writing::write_tree;
+use super::changes::{Change, change_spelling, change_tree, drawn_change};
+use super::drawing::Draw;
+use super::judging::{Claim, judge};
+use super::tally::Tally;
+use super::writing::write_tree;
 use quilt_record::{Key, Record};
 use std::alloc::Global;
 use std::process::Abort;

@@ -1,5 +1,5 @@
-use crate::drawing::Draw;
-use crate::writing::{Tree, put, short_bytes, write_leaf};
+use super::drawing::Draw;
+use super::writing::{Tree, put, short_bytes, write_leaf};
 use quilt_plain_pages::{Page, byte, offset, record, short, word};
 use quilt_record::Record;
 use std::alloc::{AllocError, Global};

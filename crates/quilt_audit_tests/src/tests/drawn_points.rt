@@ -1,5 +1,5 @@
-use crate::drawing::{Draw, Tally, answered, changed, rise};
-use crate::planted::entry;
+use super::drawing::{Draw, Tally, answered, changed, rise};
+use super::planted::entry;
 use quilt_plain_pages::{PointLayer, blank};
 use quilt_record::Record;
 use std::alloc::{AllocError, Global};

@@ -1,7 +1,7 @@
-use crate::drawing::Draw;
-use crate::layers::{drawn_quarters, drawn_region};
-use crate::tally::Tally;
-use crate::trial::{Chart, drawn_level, entry, try_chart};
+use super::drawing::Draw;
+use super::layers::{drawn_quarters, drawn_region};
+use super::tally::Tally;
+use super::trial::{Chart, drawn_level, entry, try_chart};
 use quilt_plain_pages::RegionLayer;
 use quilt_record::Record;
 use std::alloc::{AllocError, Global};

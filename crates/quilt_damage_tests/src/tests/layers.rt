@@ -1,4 +1,4 @@
-use crate::drawing::Draw;
+use super::drawing::Draw;
 use quilt_plain_pages::{Line, LineLayer, PointLayer, RegionLayer, Span, blank, paint, size};
 use quilt_record::Record;
 use std::alloc::{AllocError, Global};

@@ -1,7 +1,7 @@
-use crate::drawing::Draw;
-use crate::layers::drawn_lines;
-use crate::tally::Tally;
-use crate::trial::{Chart, drawn_level, entry, try_chart};
+use super::drawing::Draw;
+use super::layers::drawn_lines;
+use super::tally::Tally;
+use super::trial::{Chart, drawn_level, entry, try_chart};
 use quilt_plain_pages::LineLayer;
 use std::alloc::{AllocError, Global};
 use std::test::Fail;

@@ -1,6 +1,6 @@
 ghost use Rattle.std.specs.Prelude.{◌<◌, ◌≤◌};
 
-use crate::planted::{NO_MAP, refusal};
+use super::planted::{NO_MAP, refusal};
 use quilt_record::{Key, Record};
 use quilt_types::Stop;
 use std::alloc::{AllocError, Global};

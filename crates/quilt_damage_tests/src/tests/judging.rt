@@ -1,7 +1,7 @@
 ghost use Rattle.std.specs.Prelude.{◌≡◌};
 
-use crate::tally::Tally;
-use crate::writing::{Tree, put};
+use super::tally::Tally;
+use super::writing::{Tree, put};
 use quilt_audit::{Survey, audit};
 use quilt_node::header_of;
 use quilt_plain_pages::{Page, Walk, is_map, walk_tree};

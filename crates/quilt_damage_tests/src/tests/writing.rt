@@ -1,4 +1,4 @@
-use crate::drawing::{Draw, shuffled};
+use super::drawing::{Draw, shuffled};
 use quilt_plain_pages::{Page, offset};
 use quilt_record::{Key, Record, key_bytes};
 use std::alloc::{AllocError, Global};

@@ -1,4 +1,4 @@
-use crate::planted::{NO_MAP, entry, map_of, refusal_of, spell_maps, spell_no_map};
+use super::planted::{NO_MAP, entry, map_of, refusal_of, spell_maps, spell_no_map};
 use quilt_record::{Entry, Key, Record};
 use quilt_types::Kind;
 use std::alloc::Global;

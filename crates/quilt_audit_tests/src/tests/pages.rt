@@ -1,4 +1,4 @@
-use crate::planted::{BLANK, Said, entry, leaf_page, spell_no_map, stored, surveyed};
+use super::planted::{BLANK, Said, entry, leaf_page, spell_no_map, stored, surveyed};
 use quilt_audit::{Survey, audit};
 use quilt_node::{Head, InnerPage};
 use quilt_record::{Key, Record};

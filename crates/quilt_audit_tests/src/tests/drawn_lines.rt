@@ -1,5 +1,5 @@
-use crate::drawing::{Draw, Tally, answered, changed, rise};
-use crate::lines::{bare, lines, met};
+use super::drawing::{Draw, Tally, answered, changed, rise};
+use super::lines::{bare, lines, met};
 use quilt_plain_pages::{Line, LineLayer, Span, size};
 use quilt_record::Record;
 use std::alloc::{AllocError, Global};

@@ -1,5 +1,5 @@
-use crate::lines::has_kind;
-use crate::planted::{NO_MAP, entry, refusal, refusal_of, spell_maps, spell_no_map};
+use super::lines::has_kind;
+use super::planted::{NO_MAP, entry, refusal, refusal_of, spell_maps, spell_no_map};
 use quilt_record::{Key, Record};
 use quilt_types::{Kind, Stop};
 use std::test::Fail;

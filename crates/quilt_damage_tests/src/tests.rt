@@ -1,0 +1,10 @@
+mod changes;
+mod drawing;
+mod judging;
+mod layers;
+mod lines;
+mod points;
+mod regions;
+mod tally;
+mod trial;
+mod writing;
