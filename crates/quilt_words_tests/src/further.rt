@@ -1,6 +1,6 @@
 //! Rows, list lines and ring lines that are drawn, and cut anywhere.
-use quilt_lang::{Item, Lines, items_in, whole_items_in};
-use quilt_types::{Corner, Pixel, Point};
+use quilt_lang::{Command, Item, Lines, items_in, whole_items_in};
+use quilt_types::{Code, Corner, Pixel, Point};
 use std::alloc::Global;
 use std::test::Fail;
 
@@ -52,6 +52,13 @@ fn is_read(alloc: Global, format: u8, pieces: &[&[u8]], drawn: &Drawn) -> Result
     }
 }
 
+/// A reader of a text at this level that has read its first piece.
+fn begun(alloc: Global, level: u8, first: &[u8]) -> Result<Lines, Fail> {
+    let mut lines = Lines::new(alloc, level);
+    lines.feed(first)?;
+    Ok(lines)
+}
+
 /// Whether the first piece gives no item, and the second one that holds what was drawn, while more may come.
 fn is_awaited(
     alloc: Global,
@@ -60,8 +67,7 @@ fn is_awaited(
     second: &[u8],
     drawn: &Drawn,
 ) -> Result<bool, Fail> {
-    let mut lines = Lines::new(alloc, LEVEL);
-    lines.feed(first)?;
+    let mut lines = begun(alloc, LEVEL, first)?;
     let None = lines.next_item(format, false)? else {
         return Ok(false);
     };
@@ -69,6 +75,46 @@ fn is_awaited(
     match lines.next_item(format, false)? {
         Some(item) => Ok(holds(&item, drawn)),
         None => Ok(false),
+    }
+}
+
+/// What an item spells.
+type Taken = Result<Command, Code>;
+
+/// Whether a raster was taken, with these rows or with none.
+fn is_raster(taken: &Option<Taken>, rows: Option<&[u8]>) -> bool {
+    let Some(Ok(Command::Raster { rows: found, .. })) = taken else {
+        return false;
+    };
+    match found {
+        Some(text) => match rows {
+            Some(bytes) => text.bytes() == bytes,
+            None => false,
+        },
+        None => rows.is_none(),
+    }
+}
+
+/// The command of the first item, of which a part may stand in the second piece, and the one behind it where the input ends.
+fn taken_of(
+    alloc: Global,
+    level: u8,
+    format: u8,
+    first: &[u8],
+    second: &[u8],
+) -> Result<(Option<Taken>, Option<Taken>), Fail> {
+    let mut lines = begun(alloc, level, first)?;
+    match lines.take_command(format, false)? {
+        Some(found) => {
+            let next = lines.take_command(format, true)?;
+            Ok((Some(found), next))
+        }
+        None => {
+            lines.feed(second)?;
+            let found = lines.take_command(format, true)?;
+            let next = lines.take_command(format, true)?;
+            Ok((found, next))
+        }
     }
 }
 
@@ -85,6 +131,12 @@ fn check_cuts(alloc: Global, format: u8, text: &[u8], drawn: &Drawn) -> Result<(
         }
         if !is_awaited(alloc, format, first, second, drawn)? {
             return Err(Fail::from("given otherwise"));
+        }
+        if let Drawn::Rows(bytes) = drawn {
+            let (found, _next) = taken_of(alloc, LEVEL, format, first, second)?;
+            if !is_raster(&found, Some(bytes.as_slice())) {
+                return Err(Fail::from("taken otherwise"));
+            }
         }
     }
     Ok(())
@@ -415,6 +467,94 @@ fn reads_each_row_up_to_its_limit(rt: HostRuntime) -> Result<(), Fail> {
                 0,
             )?;
         }
+    }
+    Ok(())
+}
+
+/// A level, a format, a text that begins with a raster, and the bytes of its rows, or none.
+type Raster = (u8, u8, &'static [u8], Option<&'static [u8]>);
+
+/// Takes the raster of a text that is cut in two at each byte.
+fn check_taken(alloc: Global, case: &Raster) -> Result<(), Fail> {
+    let (level, format, text, rows) = *case;
+    for cut in 0..=text.len() {
+        let (found, _next) = taken_of(alloc, level, format, &text[..cut], &text[cut..])?;
+        if !is_raster(&found, rows) {
+            return Err(Fail::from("taken otherwise"));
+        }
+    }
+    Ok(())
+}
+
+#[test]
+fn takes_rasters(rt: HostRuntime) -> Result<(), Fail> {
+    let cases: [Raster; 12] = [
+        (0, 1, b"raster a\nFf\n", Some(&[0, 255])),
+        (0, 1, b"raster a\nFf\nat a 0 0\n", Some(&[0, 255])),
+        (0, 1, b"raster a\nFf\nat a 0 0\nat a 0 0\n", Some(&[0, 255])),
+        (0, 2, b"raster a\n01fF\nat a 0 0\n", Some(&[1, 255])),
+        (
+            1,
+            1,
+            b"raster a\n00Ff\n0102\nat a 1 0\n# a remark\n",
+            Some(&[0, 0, 0, 255, 0, 1, 0, 2]),
+        ),
+        (
+            1,
+            2,
+            b"raster a\n00Ff0102\naBcDeF90\nat a 1 0\n",
+            Some(&[0, 255, 1, 2, 171, 205, 239, 144]),
+        ),
+        (0, 2, b"raster a\n01f\nat a 0 0\n", None),
+        (1, 1, b"raster a\n0001\n00g0\nat a 1 0\n", None),
+        (1, 1, b"raster a\n00\n0001\nat a 1 0\n", None),
+        (1, 2, b"raster a\n00Ff0102\n00Ff\nat a 1 0\n", None),
+        (1, 1, b"raster a\n0001\n", None),
+        (
+            1,
+            1,
+            b"raster a\n0001\n0203",
+            Some(&[0, 0, 0, 1, 0, 2, 0, 3]),
+        ),
+    ];
+    for case in &cases {
+        check_taken(rt.alloc(), case)?;
+    }
+    Ok(())
+}
+
+/// What is behind a raster that is taken, where it is an `at`: its pixel.
+fn pixel_behind(alloc: Global, format: u8, text: &[u8]) -> Result<Option<Pixel>, Fail> {
+    let (_found, next) = taken_of(alloc, LEVEL, format, text, b"")?;
+    match next {
+        Some(Ok(Command::At { at, .. })) => Ok(Some(at)),
+        _ => Ok(None),
+    }
+}
+
+#[test]
+fn goes_on_behind_a_raster(rt: HostRuntime) -> Result<(), Fail> {
+    let cases: [(u8, &[u8], Option<Pixel>); 5] = [
+        (
+            1,
+            b"raster a\n0001\n0203\nat a 1 0\n",
+            Some(Pixel { x: 1, y: 0 }),
+        ),
+        (
+            1,
+            b"raster a\n0001\n0g03\n\n#\nat a 0 1",
+            Some(Pixel { x: 0, y: 1 }),
+        ),
+        (
+            2,
+            b"raster a\n00010203\n02030405\nat a 1 1\nat a 0 0\n",
+            Some(Pixel { x: 1, y: 1 }),
+        ),
+        (1, b"raster a\n0001\n0203\n", None),
+        (1, b"raster a\n0001\nat a 1 0\n", None),
+    ];
+    for (format, text, at) in cases {
+        assert_eq!(rt; pixel_behind(rt.alloc(), format, text)?, at);
     }
     Ok(())
 }

@@ -1,6 +1,6 @@
 use Rattle.std.proofs.Common.{◌≡◌, ℕ, [], refl}
 use Rattle.quilt_words.specs.Items.{whole_items, whole_lines}
-use Rattle.quilt_words_tests.proofs.further.is_awaited.Goals as goal
+use Rattle.quilt_words_tests.proofs.further.begun.Goals as goal
 
 none_whole : (n : ℕ) → whole_items n [] ≡ []
 unfolding whole_items whole_lines
