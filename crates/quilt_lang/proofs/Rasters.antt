@@ -3,7 +3,7 @@ use Rattle.std.proofs.Common.{◌≡◌, ℕ, ◌+◌, ◌<◌, ◌≤◌, ◌==
 use Rattle.std.proofs.Common.{refl, sym, ◌∙◌, ap, subst, arith, inl, inr, append-nil, length-append, length-drop}
 use Rattle.std.specs.List.{list_all}
 use Rattle.std.proofs.lemmas.List.{drop_all, drop-drop, take_all}
-use Rattle.std.proofs.lemmas.Bool.{eqb-true, eqb-false, or_parts, cases_Bool}
+use Rattle.std.proofs.lemmas.Bool.{eqb-true, eqb-false, or_parts, cases_Bool, not-false}
 use Rattle.quilt_types.specs.Plane.{side}
 use Rattle.quilt_types.specs.declared.code.Code.{Code}
 use Rattle.quilt_words.specs.declared.command.Command.{Command}
@@ -95,16 +95,12 @@ counted_end true count cut text so is all =
     (record { cuts = cuts_all text; few = long; stops = λ less. no_lines })
 
 -- a line that asks for rows is neither too long nor odd
-true_of : (b : Bool) → not b ≡ false → b ≡ true
-true_of true is = refl
-true_of false is = absurd (let bad : true ≡ false = is in cc)
-
 pub rows_plain : (n : ℕ) (line : List ℕ) → IsAsked n (asked n line) (words_of line) kinds.Rows → (is_long line ≡ false) × (list_all is_plain line ≡ true)
 rows_plain n line asks = elim (cases_Bool (is_long line || not (list_all is_plain line))) [
   | inl odd ↦
       let none : asked n line ≡ 0 = ap (λ (b : Bool). cond {A = ℕ} b 0 (asked_by n (words_of line))) odd in
       absurd (omega (arith, none, asks.number, some_side n))
-  | inr is ↦ let parts = or_parts (is_long line) (not (list_all is_plain line)) is in (parts.0, true_of (list_all is_plain line) parts.1)
+  | inr is ↦ let parts = or_parts (is_long line) (not (list_all is_plain line)) is in (parts.0, not-false (list_all is_plain line) parts.1)
 ]
 
 -- where its rows begin
