@@ -10,14 +10,13 @@ ghost use Rattle.quilt_edits.specs.Edits.{EditsAscend, CanBeEdits};
 
 use quilt_record::{Edits, Record, RecordList};
 use quilt_types::Stop;
-use std::alloc::{AllocError, Global};
 
 /// What is answered where records cannot be edits.
 const DAMAGED: Stop = Stop::Damaged { page: 0 };
 
 /// The records that go and those that come, each in the order of their keys. Records of a damaged store, of which two of a list
-/// have one key or one is in both lists, are refused as damage of page 0; all others for want of memory alone.
-pub fn edits_of(alloc: Global, mut remove: Vec<Record>, mut add: Vec<Record>) -> Result<Edits, Stop>
+/// have one key or one is in both lists, are refused as damage of page 0. It takes no memory.
+pub fn edits_of(mut remove: Vec<Record>, mut add: Vec<Record>) -> Result<Edits, Stop>
     ensures remove { IfOk result (λ e. IsPermutation remove.items e.remove) }
     ensures add { IfOk result (λ e. IsPermutation add.items e.add) }
     ensures order { IfOk result EditsAscend }
@@ -36,32 +35,10 @@ pub fn edits_of(alloc: Global, mut remove: Vec<Record>, mut add: Vec<Record>) ->
     if !are_apart(&remove, &add) {
         return Err(DAMAGED);
     }
-    match both_lists(alloc, &remove, &add) {
-        Ok(edits) => Ok(edits),
-        Err(_) => Err(Stop::Memory),
-    }
-}
-
-/// Two lists of records as edits.
-fn both_lists(alloc: Global, remove: &[Record], add: &[Record]) -> Result<Edits, AllocError>
-    requires { (r : AnyRecord) → Contains remove.now r → Contains add.now r → ⊥ }
-    ensures remove { IfOk result (λ e. e.remove ≡ remove.now) }
-    ensures add { IfOk result (λ e. e.add ≡ add.now) }
-{
-    let remove = list_of(alloc, remove)?;
-    let add = list_of(alloc, add)?;
-    Ok(Edits { remove, add })
-}
-
-/// The records as a list.
-fn list_of(alloc: Global, records: &[Record]) -> Result<RecordList, AllocError>
-    ensures { IfOk result (λ list. list ≡ records.now) }
-{
-    let mut list = RecordList::new(alloc);
-    for r in records {
-        list.push(r)?;
-    }
-    Ok(list)
+    Ok(Edits {
+        remove: RecordList::of(remove),
+        add: RecordList::of(add),
+    })
 }
 
 /// Puts the records in the order of their keys.

@@ -132,7 +132,7 @@ impl Arrival {
         });
         let all = whole_square(self.view.level);
         self.add_in(alloc, store, &mut search, &mut change, all)?;
-        edits_of(alloc, change.gone, change.come)
+        edits_of(change.gone, change.come)
     }
 
     /// Adds the records of the facts that change in a block, from the blocks of the layer in it that the segment meets.

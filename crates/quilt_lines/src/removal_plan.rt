@@ -122,7 +122,7 @@ impl Removal {
         let Ok(back) = back(alloc, all) else {
             return Err(Stop::Memory);
         };
-        edits_of(alloc, gone, back)
+        edits_of(gone, back)
     }
 
     /// The records that go.

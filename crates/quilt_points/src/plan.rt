@@ -176,7 +176,7 @@ fn take_out(
 {
     match delta_of(alloc, layer, b, held, p) {
         Err(_) => Err(Stop::Memory),
-        Ok(delta) => edits_of(alloc, delta.with, delta.without),
+        Ok(delta) => edits_of(delta.with, delta.without),
     }
 }
 
@@ -236,7 +236,7 @@ fn put_into(
     let Ok(delta) = delta_of(alloc, layer, b, held, p) else {
         return Err(Stop::Memory);
     };
-    let edits = edits_of(alloc, delta.without, delta.with)?;
+    let edits = edits_of(delta.without, delta.with)?;
     Ok(Some(edits))
 }
 

@@ -72,7 +72,7 @@ pub fn plan_scatter<S: PageStore>(
     let Some(delta) = grown(alloc, store, tree, place, &news)? else {
         return Ok(None);
     };
-    let edits = edits_of(alloc, delta.without, delta.with)?;
+    let edits = edits_of(delta.without, delta.with)?;
     Ok(Some(edits))
 }
 

@@ -29,6 +29,13 @@ impl RecordList {
         }
     }
 
+    /// These records. It takes no memory.
+    pub fn of(records: Vec<Record>) -> RecordList
+        ensures { result ≡ records.items }
+    {
+        RecordList { records }
+    }
+
     /// Adds a record at the end, or changes nothing where no memory is left.
     pub fn push(&mut self, r: &Record) -> Result<(), AllocError>
         ensures ok { OnOk result (self.new ≡ self.old ++ r.now ∷ []) }

@@ -27,25 +27,20 @@ fn records(alloc: Global, all: &[(u32, u8)]) -> Result<Vec<Record>, AllocError> 
     Ok(list)
 }
 
-/// The edits of these records, or why there are none.
-fn edits(alloc: Global, remove: Vec<Record>, add: Vec<Record>) -> Result<Edits, Stop> {
-    edits_of(alloc, remove, add)
-}
-
 /// Why these records cannot be removed and added.
 fn refusal(
     alloc: Global,
     remove: &[(u32, u8)],
     add: &[(u32, u8)],
 ) -> Result<Option<Stop>, AllocError> {
-    Ok(edits_of(alloc, records(alloc, remove)?, records(alloc, add)?).err())
+    Ok(edits_of(records(alloc, remove)?, records(alloc, add)?).err())
 }
 
 #[test]
 fn both_lists_are_put_in_order(rt: HostRuntime) -> Result<(), Fail> {
     let remove = records(rt.alloc(), &[(7, 0), (2, 0), (5, 0)])?;
     let add = records(rt.alloc(), &[(5, 1), (1, 0)])?;
-    let edits = edits(rt.alloc(), remove, add)?;
+    let edits = edits_of(remove, add)?;
     let removed = records(rt.alloc(), &[(2, 0), (5, 0), (7, 0)])?;
     assert_eq!(rt; edits.remove.records(), removed.as_slice());
     let added = records(rt.alloc(), &[(1, 0), (5, 1)])?;

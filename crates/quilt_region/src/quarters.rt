@@ -125,7 +125,7 @@ fn plan_in_block<S: PageStore>(
     )? {
         return Ok(None);
     }
-    let edits = edits_of(alloc, remove, add)?;
+    let edits = edits_of(remove, add)?;
     Ok(Some(edits))
 }
 

@@ -27,8 +27,9 @@ returns-then-not-are_apart-clause-memory c can =
     ((permuted c.args.add.items c.sort-2.new.records.items c.sort-2.ensures.permutation r).1
     (subst (λ (l : List Record). Contains l r) c.deref-4.ensures.value b)))))
 
-pub both_lists-requires : goal.both_lists-requires
-both_lists-requires c r a b =
-    c.are_apart.ensures.yes c.if-not-are_apart.false r
-    (subst (λ (l : List Record). Contains l r) (c.deref-5.ensures.value ∙ sym c.deref-3.ensures.value) a)
-    (subst (λ (l : List Record). Contains l r) (c.deref-6.ensures.value ∙ sym c.deref-4.ensures.value) b)
+pub invariant_of-result : goal.invariant_of-result
+invariant_of-result c = record {
+  apart = λ r a b. c.are_apart.ensures.yes c.if-not-are_apart.false r
+      (subst (λ (l : List Record). Contains l r) (c.of.ensures ∙ sym c.deref-3.ensures.value) a)
+      (subst (λ (l : List Record). Contains l r) (c.of-2.ensures ∙ sym c.deref-4.ensures.value) b);
+}
