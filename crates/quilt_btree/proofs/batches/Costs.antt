@@ -1,14 +1,15 @@
 -- What the first edits of a run leave of a store.
-use Rattle.std.proofs.Common.{◌∙◌, ℕ, zero, suc, ◌+◌, ◌-◌, ◌≤◌, List, [], ◌∷◌, length, take, Option, Some, None, Result, Ok, Err, arith}
+use Rattle.std.proofs.Common.{◌≡◌, ◌∙◌, sym, subst, ℕ, zero, suc, ◌+◌, ◌-◌, ◌≤◌, List, [], ◌∷◌, length, take, Option, Some, None, Result, Ok, Err, arith}
 use Rattle.std.specs.Prelude.{IsErrOf}
 use Rattle.quilt_types.specs.declared.stop.Stop.{Stop}
-use Rattle.quilt_types.specs.declared.stop.Stop.TheVariants.{Device, Damaged}
+use Rattle.quilt_types.specs.declared.stop.Stop.TheVariants.{Device}
 use Rattle.quilt_world.specs.Tale.{Goes}
 use Rattle.quilt_store.specs.declared.store.PageStore.{Ghosts}
 use Rattle.quilt_store.proofs.Reading.{rose_since}
 use Rattle.quilt_btree.specs.declared.edit.Edit.{Edit}
-use Rattle.quilt_btree.specs.Costs.{EditsWithinOnOk}
+use Rattle.quilt_btree.specs.Costs.{EditsWithin, EditsWithinOnOk}
 use Rattle.quilt_btree.specs.Batches.{cost_of, looks_of, cost, looks, EditsFirst}
+use Rattle.quilt_btree.proofs.stores.Leaves.{not_device}
 use Rattle.quilt_btree.proofs.batches.Leaves.{edit_at}
 use Rattle.quilt_btree.proofs.batches.Whole.{least_cost, least_looks}
 
@@ -45,21 +46,25 @@ read_one k l (Some a) None le f = f
 read_one k l None (Some b) le f = f
 read_one k l None None le f = f
 
-pub damaged_device : {T : Type 0} {q : ℕ} → IsErrOf {T = T} {E = Stop} (Err (Damaged q)) Device → ⊥
-damaged_device h = cc
-
 pub some_taken : (run : List Edit) (n : ℕ) → 1 ≤ n → n ≤ length run → 1 ≤ cost (take n run)
 some_taken [] n some le = absurd (omega arith)
 some_taken (e ∷ run) zero some le = absurd (omega arith)
 some_taken (e ∷ run) (suc n) some le = let l = least_cost e in omega arith
 
-not_device : {T : Type 0} (v : T) → IsErrOf {T = T} {E = Stop} (Ok v) Device → ⊥
-not_device v h = cc
-
 onto : {T U : Type 0} (e : Stop) → IsErrOf {T = T} {E = Stop} (Err e) Device → IsErrOf {T = U} {E = Stop} (Err e) Device
 onto e h = cc
 
 module _ {S : Type 0} (g : Ghosts S) where
+  -- what holds of each answer holds where there is a value
+  within_ok : {T : Type 0} {s t : S} {m n : ℕ} {result : Result T Stop} → EditsWithin g m n s t result → EditsWithinOnOk g m n s t result
+  within_ok {result = Ok v} a = record { cause = a.cause; size = a.size; later = a.later; changed = a.changed; reads = a.reads }
+  within_ok {result = Err e} a = record { cause = a.cause; size = a.size; later = a.later; changed = a.changed; reads = tt }
+
+  -- an edit within what it may cost
+  pub edit_cost : {T : Type 0} {s t : S} {result : Result T Stop} {edit e : Edit} → edit ≡ e
+      → EditsWithin g (cost_of e - 1) (looks_of e - 3) s t result → EditsWithinOnOk g (cost_of edit - 1) (looks_of edit - 3) s t result
+  edit_cost {s = s} {t = t} {result = result} is a = subst (λ x. EditsWithinOnOk g (cost_of x - 1) (looks_of x - 3) s t result) (sym is) (within_ok a)
+
   -- where less was spared than there is to spare
   pub first_spared : {s t : S} {run : List Edit} {result : Result ℕ Stop} → EditsFirst g 1 3 run s t result → EditsFirst g 0 0 run s t result
   first_spared {run = run} {result = Ok n} a = record {

@@ -1,8 +1,13 @@
-use Rattle.std.proofs.Common.{◌∙◌}
+use Rattle.std.proofs.Common.{◌∙◌, Ok}
+use Rattle.quilt_btree.specs.declared.outcomes.Rebalanced.TheVariants.{Joined, Redistributed}
+use Rattle.quilt_btree.specs.Costs.{EditsWithin}
+use Rattle.quilt_btree.proofs.stores.Leaves.{looked, edits_on, edits_more, edits_err, edits_ok, edits_damaged}
 use Rattle.quilt_btree.proofs.subtrees.Descending.{along_told}
 use Rattle.quilt_btree.proofs.removals.LeafRebalances.{left_spells, right_spells}
 use Rattle.quilt_btree.proofs.removals.InnerRebalances.{inners_joined, inners_separated, inners_taken, not_inners}
 use Rattle.quilt_btree.proofs.Handed.{handed_on}
+use Rattle.quilt_btree.proofs.balance.rebalance_inners.Given.{Over}
+use Rattle.quilt_btree.proofs.balance.rebalance_inners.Goals.{In_ok-rest}
 use Rattle.quilt_btree.proofs.balance.rebalance_inners.Goals as goal
 
 pub returns-in_err-first-clause-sound : goal.returns-in_err-first-clause-sound
@@ -91,3 +96,45 @@ returns-clause-rebalanced g c = λ b rs used m.
       tells = c.in_ok-write_both.ensures.told;
       frees = c.in_ok-write_both.ensures.free ∙ c.in_ok-rest.ensures.looks.left.free ∙ c.in_ok-first.ensures.looks.left.free;
     }) m
+
+-- both pages were read
+two_read : (g : Over) (c : In_ok-rest g) → EditsWithin g.S.PageStore 0 2 c.args.store.now c.read_inner-2.new.store (Ok c.in_ok-rest.rest)
+two_read g c =
+    edits_on _ g.met.S.PageStore.goes_on (looked _ 1 c.in_ok-first.ensures.looks.left c.in_ok-first.ensures.looks.reads)
+    (looked _ 1 c.in_ok-rest.ensures.looks.left c.in_ok-rest.ensures.looks.reads)
+
+pub returns-in_err-first-clause-left : goal.returns-in_err-first-clause-left
+returns-in_err-first-clause-left g c =
+    edits_more _ 2 1 (edits_err _ c.from_residual.ensures.1 (looked _ 1 c.in_err-first.ensures.looks.left c.in_err-first.ensures.looks.reads))
+
+pub returns-in_err-rest-clause-left : goal.returns-in_err-rest-clause-left
+returns-in_err-rest-clause-left g c =
+    edits_more _ 2 0 (edits_err _ c.from_residual-in_err-rest.ensures.1
+    (edits_on _ g.met.S.PageStore.goes_on (looked _ 1 c.in_ok-first.ensures.looks.left c.in_ok-first.ensures.looks.reads)
+    (looked _ 1 c.in_err-rest.ensures.looks.left c.in_err-rest.ensures.looks.reads)))
+
+pub returns-then-not-inners_ascend-clause-left : goal.returns-then-not-inners_ascend-clause-left
+returns-then-not-inners_ascend-clause-left g c =
+    edits_more _ 2 0 (edits_damaged _ _ (two_read g (goal.at.returns-then-not-inners_ascend-clause-left g c).In_ok-rest))
+
+pub returns-in_err-write_and_give-clause-left : goal.returns-in_err-write_and_give-clause-left
+returns-in_err-write_and_give-clause-left g c =
+    edits_more _ 1 0 (edits_err _ c.from_residual-in_err-write_and_give.ensures.1
+    (edits_on _ g.met.S.PageStore.goes_on (two_read g (goal.at.returns-in_err-write_and_give-clause-left g c).In_ok-rest)
+    c.in_err-write_and_give.ensures.left))
+
+pub returns-then-len-le-MOST_CHILDREN-clause-left : goal.returns-then-len-le-MOST_CHILDREN-clause-left
+returns-then-len-le-MOST_CHILDREN-clause-left g c =
+    edits_more _ 1 0 (edits_ok _ Joined
+    (edits_on _ g.met.S.PageStore.goes_on (two_read g (goal.at.returns-then-len-le-MOST_CHILDREN-clause-left g c).In_ok-rest)
+    c.in_ok-write_and_give.ensures.left))
+
+pub returns-in_err-write_both-clause-left : goal.returns-in_err-write_both-clause-left
+returns-in_err-write_both-clause-left g c =
+    edits_err _ c.from_residual-in_err-write_both.ensures.1
+    (edits_on _ g.met.S.PageStore.goes_on (two_read g (goal.at.returns-in_err-write_both-clause-left g c).In_ok-rest) c.in_err-write_both.ensures.left)
+
+pub returns-clause-left : goal.returns-clause-left
+returns-clause-left g c =
+    edits_ok _ (Redistributed c.share_children-separator.result)
+    (edits_on _ g.met.S.PageStore.goes_on (two_read g (goal.at.returns-clause-left g c).In_ok-rest) c.in_ok-write_both.ensures.left)

@@ -1,8 +1,13 @@
-use Rattle.std.proofs.Common.{◌∙◌, ◌+◌, refl, arith}
+use Rattle.std.proofs.Common.{◌∙◌, ◌+◌, Ok, refl, arith}
+use Rattle.quilt_btree.specs.declared.outcomes.Rebalanced.TheVariants.{Joined, Redistributed}
+use Rattle.quilt_btree.specs.Costs.{EditsWithin}
+use Rattle.quilt_btree.proofs.stores.Leaves.{looked, edits_on, edits_more, edits_err, edits_ok, edits_damaged}
 use Rattle.quilt_btree.proofs.subtrees.Descending.{along_told}
 use Rattle.quilt_btree.proofs.removals.LeafRebalances.{leaves_joined, leaves_separated, leaves_taken, not_leaves, left_spells, right_spells}
 use Rattle.quilt_btree.proofs.ways.Damage.{names_spare, no_spare, names_more}
 use Rattle.quilt_btree.proofs.Handed.{handed_on}
+use Rattle.quilt_btree.proofs.balance.rebalance_leaves.Given.{Over}
+use Rattle.quilt_btree.proofs.balance.rebalance_leaves.Goals.{In_ok-rest}
 use Rattle.quilt_btree.proofs.balance.rebalance_leaves.Goals as goal
 
 pub returns-in_err-first-clause-sound : goal.returns-in_err-first-clause-sound
@@ -115,3 +120,45 @@ pub returns-in_err-write_both-clause-bad : goal.returns-in_err-write_both-clause
 returns-in_err-write_both-clause-bad g c =
     rw (handed_on c.from_residual-in_err-write_both.result c.from_residual-in_err-write_both.ensures.1)
     (λ height one. no_spare (g.S.PageStore.told c.args.store.now) height c.args.spare _ c.in_err-write_both.ensures.names)
+
+-- both leaves were read
+two_read : (g : Over) (c : In_ok-rest g) → EditsWithin g.S.PageStore 0 2 c.args.store.now c.read_leaf-2.new.store (Ok c.in_ok-rest.rest)
+two_read g c =
+    edits_on _ g.met.S.PageStore.goes_on (looked _ 1 c.in_ok-first.ensures.left c.in_ok-first.ensures.reads)
+    (looked _ 1 c.in_ok-rest.ensures.left c.in_ok-rest.ensures.reads)
+
+pub returns-in_err-first-clause-left : goal.returns-in_err-first-clause-left
+returns-in_err-first-clause-left g c =
+    edits_more _ 2 1 (edits_err _ c.from_residual.ensures.1 (looked _ 1 c.in_err-first.ensures.left c.in_err-first.ensures.reads))
+
+pub returns-in_err-rest-clause-left : goal.returns-in_err-rest-clause-left
+returns-in_err-rest-clause-left g c =
+    edits_more _ 2 0 (edits_err _ c.from_residual-in_err-rest.ensures.1
+    (edits_on _ g.met.S.PageStore.goes_on (looked _ 1 c.in_ok-first.ensures.left c.in_ok-first.ensures.reads)
+    (looked _ 1 c.in_err-rest.ensures.left c.in_err-rest.ensures.reads)))
+
+pub returns-then-not-leaves_ascend-clause-left : goal.returns-then-not-leaves_ascend-clause-left
+returns-then-not-leaves_ascend-clause-left g c =
+    edits_more _ 2 0 (edits_damaged _ _ (two_read g (goal.at.returns-then-not-leaves_ascend-clause-left g c).In_ok-rest))
+
+pub returns-in_err-write_and_give-clause-left : goal.returns-in_err-write_and_give-clause-left
+returns-in_err-write_and_give-clause-left g c =
+    edits_more _ 1 0 (edits_err _ c.from_residual-in_err-write_and_give.ensures.1
+    (edits_on _ g.met.S.PageStore.goes_on (two_read g (goal.at.returns-in_err-write_and_give-clause-left g c).In_ok-rest)
+    c.in_err-write_and_give.ensures.left))
+
+pub returns-then-len-le-MOST_RECORDS-clause-left : goal.returns-then-len-le-MOST_RECORDS-clause-left
+returns-then-len-le-MOST_RECORDS-clause-left g c =
+    edits_more _ 1 0 (edits_ok _ Joined
+    (edits_on _ g.met.S.PageStore.goes_on (two_read g (goal.at.returns-then-len-le-MOST_RECORDS-clause-left g c).In_ok-rest)
+    c.in_ok-write_and_give.ensures.left))
+
+pub returns-in_err-write_both-clause-left : goal.returns-in_err-write_both-clause-left
+returns-in_err-write_both-clause-left g c =
+    edits_err _ c.from_residual-in_err-write_both.ensures.1
+    (edits_on _ g.met.S.PageStore.goes_on (two_read g (goal.at.returns-in_err-write_both-clause-left g c).In_ok-rest) c.in_err-write_both.ensures.left)
+
+pub returns-clause-left : goal.returns-clause-left
+returns-clause-left g c =
+    edits_ok _ (Redistributed c.rec.result.key)
+    (edits_on _ g.met.S.PageStore.goes_on (two_read g (goal.at.returns-clause-left g c).In_ok-rest) c.in_ok-write_both.ensures.left)

@@ -6,7 +6,7 @@ use Rattle.quilt_btree.proofs.ways.Damage.{bad_below, inner_faults, fault_names,
 use Rattle.quilt_store.specs.Store.{count_free}
 use Rattle.quilt_btree.specs.Trees.{SpellsSubtree}
 use Rattle.quilt_btree.proofs.growth.UnderGrowth.{IsLedIn, sound_leaf, sound_under, under_there, under_done, took_child, sound_child}
-use Rattle.quilt_btree.proofs.stores.Leaves.{looked, edits_then}
+use Rattle.quilt_btree.proofs.stores.Leaves.{looked, edits_then, edits_within, edits_err, edits_ok, inserts_below}
 use Rattle.quilt_btree.proofs.growth.Below.{leads_to, edit_spells}
 use Rattle.quilt_btree.proofs.growth.Finding.{there_in_leaf, finds_below, new_finds}
 use Rattle.quilt_btree.proofs.Handed.{handed_on}
@@ -139,9 +139,26 @@ returns-in-Split-clause-left g t c =
     (edits_then _ g.met.S.PageStore.goes_on (2 * (c.args.height - 1)) c.args.height (omega arith)
     (omega arith) (looked _ 1 c.in_ok-path.ensures.left c.in_ok-path.ensures.reads) c.in_ok-insert_under.ensures.left) c.put_in_page.ensures.left
 
+pub returns-then-height-eq1-clause-left : goal.returns-then-height-eq1-clause-left
+returns-then-height-eq1-clause-left g t c =
+    let some = c.requires.height in
+    edits_within _ (2 * c.args.height) c.args.height (omega arith) (omega arith) c.insert_leaf.ensures.left
+
+pub returns-in_err-path-clause-left : goal.returns-in_err-path-clause-left
+returns-in_err-path-clause-left g t c =
+    let some = c.requires.height in
+    edits_within _ (2 * c.args.height) c.args.height (omega arith) (omega arith)
+    (edits_err _ c.from_residual.ensures.1 (looked _ 1 c.in_err-path.ensures.left c.in_err-path.ensures.reads))
+
 pub returns-in_err-insert_under-clause-left : goal.returns-in_err-insert_under-clause-left
 returns-in_err-insert_under-clause-left g t c =
-    rw (handed_on c.from_residual-in_err-insert_under.result c.from_residual-in_err-insert_under.ensures.1)
-    (let some = c.requires.height in
-    edits_then _ g.met.S.PageStore.goes_on (2 * c.args.height) c.args.height (omega arith) (omega arith)
-    (looked _ 1 c.in_ok-path.ensures.left c.in_ok-path.ensures.reads) c.in_err-insert_under.ensures.left)
+    edits_err _ c.from_residual-in_err-insert_under.ensures.1
+    (inserts_below _ g.met.S.PageStore.goes_on c.args.height c.requires.height c.in_ok-path.ensures.left c.in_ok-path.ensures.reads c.in_err-insert_under.ensures.left)
+
+pub returns-in-There-clause-left : goal.returns-in-There-clause-left
+returns-in-There-clause-left g t c =
+    edits_ok _ _ (inserts_below _ g.met.S.PageStore.goes_on c.args.height c.requires.height c.in_ok-path.ensures.left c.in_ok-path.ensures.reads c.in_ok-insert_under.ensures.left)
+
+pub returns-in-Done-clause-left : goal.returns-in-Done-clause-left
+returns-in-Done-clause-left g t c =
+    edits_ok _ _ (inserts_below _ g.met.S.PageStore.goes_on c.args.height c.requires.height c.in_ok-path.ensures.left c.in_ok-path.ensures.reads c.in_ok-insert_under.ensures.left)

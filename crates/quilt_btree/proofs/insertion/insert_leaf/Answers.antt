@@ -2,6 +2,7 @@ use Rattle.std.proofs.Common.{refl, sym, ◌∙◌, ap, arith}
 use Rattle.std.proofs.lemmas.Option.{none-some}
 use Rattle.quilt_node.specs.Pages.{leaf_of}
 use Rattle.quilt_btree.specs.Trees.{ReadsLeaf}
+use Rattle.quilt_btree.proofs.stores.Leaves.{looked, edits_on, edits_more, edits_err, edits_damaged}
 use Rattle.quilt_btree.proofs.subtrees.Along.{sound_along}
 use Rattle.quilt_btree.proofs.ways.Damage.{none_of, sound_names, bad_leaf, zero_named, named_more}
 use Rattle.quilt_btree.proofs.ways.Forks.{leaf_here}
@@ -66,3 +67,15 @@ returns-in-Err-clause-names g c =
 
 pub returns-in-Err-clause-bad : goal.returns-in-Err-clause-bad
 returns-in-Err-clause-bad g c = zero_named c.put_record.result (g.S.PageStore.told c.args.store.now) 1 c.args.page c.put_record.ensures.names
+
+pub returns-in_err-read_into-clause-left : goal.returns-in_err-read_into-clause-left
+returns-in_err-read_into-clause-left g c =
+    edits_more _ 2 0 (edits_err _ c.from_residual.ensures.1 (looked _ 1 c.in_err-read_into.ensures.left c.in_err-read_into.ensures.reads))
+
+pub returns-then-not-is_leaf-clause-left : goal.returns-then-not-is_leaf-clause-left
+returns-then-not-is_leaf-clause-left g c =
+    edits_more _ 2 0 (edits_damaged _ _ (looked _ 1 c.in_ok-read_into.ensures.left c.in_ok-read_into.ensures.reads))
+
+pub returns-in-Err-clause-left : goal.returns-in-Err-clause-left
+returns-in-Err-clause-left g c =
+    edits_on _ g.met.S.PageStore.goes_on (looked _ 1 c.in_ok-read_into.ensures.left c.in_ok-read_into.ensures.reads) c.put_record.ensures.left

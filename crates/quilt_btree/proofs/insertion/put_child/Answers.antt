@@ -1,6 +1,7 @@
 use Rattle.std.proofs.Common.{◌≡◌, refl, sym, ◌∙◌, subst, arith}
 use Rattle.quilt_node.specs.Pages.{Inner}
 use Rattle.std.proofs.lemmas.Result.{IfErr-weaker}
+use Rattle.quilt_btree.proofs.stores.Leaves.{edits_more, edits_err, edits_ok}
 use Rattle.quilt_btree.proofs.growth.InnerGrowth.{IsWritten, pending_taken, put_done}
 use Rattle.quilt_btree.proofs.Handed.{handed_on}
 use Rattle.quilt_btree.proofs.insertion.put_child.Goals as goal
@@ -26,3 +27,9 @@ returns-then-height-eq3-clause-sound g c is_root b all under p room low =
 pub returns-clause-sound : goal.returns-clause-sound
 returns-clause-sound g c =
     IfErr-weaker c.split_child.result _ _ (λ e f is_root b all under p room low. f is_root b all under p room) c.split_child.ensures.sound
+
+pub returns-in_err-write_page-clause-left : goal.returns-in_err-write_page-clause-left
+returns-in_err-write_page-clause-left g c = edits_more _ 1 0 (edits_err _ c.from_residual.ensures.1 c.in_err-write_page.ensures.left)
+
+pub returns-then-len-lt-MOST_CHILDREN-clause-left : goal.returns-then-len-lt-MOST_CHILDREN-clause-left
+returns-then-len-lt-MOST_CHILDREN-clause-left g c = edits_more _ 1 0 (edits_ok _ _ c.in_ok-write_page.ensures.left)

@@ -3,6 +3,7 @@ use Rattle.std.proofs.Common.{◌≡◌, List, length, refl, Some, take, drop, �
 use Rattle.std.specs.List.{insert}
 use Rattle.quilt_record.specs.declared.record.Record.{Record}
 use Rattle.quilt_node.specs.Nodes.{IsGap}
+use Rattle.quilt_btree.proofs.stores.Leaves.{edits_more, edits_err, edits_ok}
 use Rattle.quilt_btree.proofs.growth.LeafGrowth.{gap_ascends, leaf_done, leaf_split}
 use Rattle.quilt_btree.proofs.insertion.put_record.Goals as goal
 
@@ -46,3 +47,15 @@ returns-clause-put g c is_root b rs used same can =
       is_key = refl;
     })
     c.in_ok-new.ensures.page.1 c.in_ok-new.ensures.free c.in_ok-new.ensures.taken c.in_ok-new.ensures.told can
+
+pub returns-in_err-write_page-clause-left : goal.returns-in_err-write_page-clause-left
+returns-in_err-write_page-clause-left g c = edits_more _ 1 0 (edits_err _ c.from_residual.ensures.1 c.in_err-write_page.ensures.left)
+
+pub returns-then-len-lt-MOST_RECORDS-clause-left : goal.returns-then-len-lt-MOST_RECORDS-clause-left
+returns-then-len-lt-MOST_RECORDS-clause-left g c = edits_more _ 1 0 (edits_ok _ _ c.in_ok-write_page.ensures.left)
+
+pub returns-in_err-new-clause-left : goal.returns-in_err-new-clause-left
+returns-in_err-new-clause-left g c = edits_err _ c.from_residual-in_err-new.ensures.1 c.in_err-new.ensures.left
+
+pub returns-clause-left : goal.returns-clause-left
+returns-clause-left g c = edits_ok _ _ c.in_ok-new.ensures.left

@@ -2,6 +2,7 @@ use Rattle.std.proofs.Common.{◌≡◌, suc, ◌≤◌, length, refl, subst, ar
 use Rattle.quilt_node.specs.Pages.{Inner}
 use Rattle.std.specs.List.{insert}
 use Rattle.std.proofs.lemmas.List.Edits.{length-insert}
+use Rattle.quilt_btree.proofs.stores.Leaves.{edits_err, edits_ok}
 use Rattle.quilt_btree.proofs.growth.InnerGrowth.{IsWritten, pending_taken, put_split}
 use Rattle.quilt_btree.proofs.Handed.{handed_on}
 use Rattle.quilt_btree.proofs.insertion.split_child.Goals as goal
@@ -32,3 +33,9 @@ returns-clause-put g c is_root b all under p =
       parts = c.insert_split-right.ensures.key;
     })
     refl p
+
+pub returns-in_err-new-clause-left : goal.returns-in_err-new-clause-left
+returns-in_err-new-clause-left g c = edits_err _ c.from_residual.ensures.1 c.in_err-new.ensures.left
+
+pub returns-clause-left : goal.returns-clause-left
+returns-clause-left g c = edits_ok _ _ c.in_ok-new.ensures.left

@@ -1,5 +1,6 @@
 use Rattle.std.proofs.Common.{◌∙◌}
 use Rattle.quilt_store.proofs.Reading.{only_reads_then, only_reads_ok, only_reads_err}
+use Rattle.quilt_btree.proofs.stores.Looks.{only_reads_handed}
 use Rattle.quilt_btree.proofs.cursors.Lowers.{lower_here, lower_none, lower_before}
 use Rattle.quilt_btree.proofs.subtrees.Descending.{along_told}
 use Rattle.quilt_btree.proofs.ways.Looked.{read_of, read_on, fork_shown}
@@ -15,15 +16,15 @@ returns-in_err-r-clause-sound g t c =
 
 pub returns-in-Some-clause-lower : goal.returns-in-Some-clause-lower
 returns-in-Some-clause-lower g t c = λ rs s.
-    let found = rw c.in-Some.is at c.in_ok-r.ensures in
+    let found = rw c.in-Some.is at c.in_ok-r.ensures.lower in
     let a = fork_shown c.in_ok-fork.ensures.looks c.requires.height c.if-height-eq1.false (g.met.S.PageStore.as_many c.args.store.now) c.in_ok-fork.ensures.shows s in
-    lower_here c.in-Some.r a.at found.lower rs s
+    lower_here c.in-Some.r a.at found rs s
 
 pub returns-in-None-prior-clause-lower : goal.returns-in-None-prior-clause-lower
 returns-in-None-prior-clause-lower g t c = λ rs s.
-    let found = rw c.in-None.is at c.in_ok-r.ensures in
+    let found = rw c.in-None.is at c.in_ok-r.ensures.lower in
     let a = fork_shown c.in_ok-fork.ensures.looks c.requires.height c.if-height-eq1.false (g.met.S.PageStore.as_many c.args.store.now) c.in_ok-fork.ensures.shows s in
-    lower_none a.at (a.first c.in-None-prior.is) found.lower rs s
+    lower_none a.at (a.first c.in-None-prior.is) found rs s
 
 pub returns-in_err-last_under-in-Some-prior-clause-sound : goal.returns-in_err-last_under-in-Some-prior-clause-sound
 returns-in_err-last_under-in-Some-prior-clause-sound g t c =
@@ -35,12 +36,12 @@ returns-in_err-last_under-in-Some-prior-clause-sound g t c =
 
 pub returns-in_ok-last_under-in-Some-prior-clause-lower : goal.returns-in_ok-last_under-in-Some-prior-clause-lower
 returns-in_ok-last_under-in-Some-prior-clause-lower g t c = λ rs s.
-    let found = rw c.in-None.is at c.in_ok-r.ensures in
+    let found = rw c.in-None.is at c.in_ok-r.ensures.lower in
     let a = fork_shown c.in_ok-fork.ensures.looks c.requires.height c.if-height-eq1.false (g.met.S.PageStore.as_many c.args.store.now) c.in_ok-fork.ensures.shows s in
     let p = a.later c.in-Some-prior.prior c.in-Some-prior.is in
     let there = along_told _ _ _ _ _ (c.in_ok-r.ensures.left.told ∙ c.in_ok-fork.ensures.looks.left.told) p.spells in
     lower_before c.in_ok-last_under-in-Some-prior.field-0 a.at p.some
-    (c.in_ok-r.ensures.left.told ∙ c.in_ok-fork.ensures.looks.left.told) p.is found.lower c.in_ok-last_under-in-Some-prior.ensures.last s
+    (c.in_ok-r.ensures.left.told ∙ c.in_ok-fork.ensures.looks.left.told) p.is found c.in_ok-last_under-in-Some-prior.ensures.last s
 
 pub returns-in_err-fork-clause-sound : goal.returns-in_err-fork-clause-sound
 returns-in_err-fork-clause-sound g t c =
@@ -90,3 +91,6 @@ returns-in-Some-clause-left g t c =
 pub returns-in-None-prior-clause-left : goal.returns-in-None-prior-clause-left
 returns-in-None-prior-clause-left g t c =
     only_reads_ok _ (only_reads_then _ g.met.S.PageStore.goes_on _ _ _ c.in_ok-fork.ensures.looks.left c.in_ok-r.ensures.left) _
+
+pub returns-in_err-fork-clause-left : goal.returns-in_err-fork-clause-left
+returns-in_err-fork-clause-left g t c = only_reads_handed _ c.from_residual.ensures.1 c.in_err-fork.ensures.looks.left

@@ -4,14 +4,17 @@ use Rattle.quilt_btree.specs.Searches.{IsHigh}
 use Rattle.quilt_btree.proofs.ways.Forks.{place_inside, read_ok}
 use Rattle.quilt_btree.proofs.ways.Damage.{bad_below, beside_named, inner_fault, named_leaf}
 use Rattle.quilt_btree.specs.declared.outcomes.Removed.TheVariants.{Underfull, Done}
-use Rattle.quilt_btree.proofs.batches.Costs.{damaged_device}
-use Rattle.quilt_btree.proofs.stores.Leaves.{looked, edits_free, edits_then, removes_below}
+use Rattle.quilt_btree.proofs.stores.Leaves.{looked, edits_within, edits_err, edits_ok, edits_damaged, removes_below, removes_above}
 use Rattle.quilt_btree.proofs.growth.Finding.{finds_below, found_in_leaf, found_finds}
 use Rattle.quilt_btree.proofs.growth.Below.{leads_to, edit_spells}
 use Rattle.quilt_btree.proofs.removals.Removals.{sound_child, missing_child, done_child, rebalanced_child}
 use Rattle.quilt_btree.proofs.removals.Removals.{rebalanced_sound, emptied_child, only_child, leaf_sound}
 use Rattle.quilt_btree.proofs.Handed.{handed_on}
 use Rattle.quilt_btree.proofs.removal.+remove_under.Goals as goal
+
+-- a page with too few is not one that is done
+underfull_done : Underfull ≡ Done → ⊥
+underfull_done h = cc
 
 pub returns-then-height-eq1-clause-sound : goal.returns-then-height-eq1-clause-sound
 returns-then-height-eq1-clause-sound g t c =
@@ -149,46 +152,45 @@ returns-in-Some-clause-bad g t c =
 
 pub returns-in-Some-clause-left : goal.returns-in-Some-clause-left
 returns-in-Some-clause-left g t c =
-    let some = c.requires.height in
-    let below = rw c.in-Underfull.is at c.in_ok-remove_under.ensures in
-    let less = below.remains.less (λ e. underfull_done e) in
-    let all = edits_then _ g.met.S.PageStore.goes_on (2 * (c.args.height - 1))
-    (3 * c.args.height - 4) (omega arith) (omega arith) (looked _ 1 c.in_ok-path.ensures.left c.in_ok-path.ensures.reads) c.in_ok-remove_under.ensures.left in
-    edits_then _ g.met.S.PageStore.goes_on {m = 2 * (c.args.height - 1) - 1} {n = 3 * c.args.height - 4} (2 * c.args.height) (3 * c.args.height - 2)
-    (omega arith)
-    (omega arith) (record {
-      cause = all.cause;
-      size = all.size;
-      later = all.later;
-      changed = let r = c.in_ok-path.ensures.left.changed in omega arith;
-      reads = all.reads;
-    }) c.rebalance_child.ensures.left
-  where
-    underfull_done : Underfull ≡ Done → ⊥
-    underfull_done h = cc
+    let below = rw c.in-Underfull.is at c.in_ok-remove_under.ensures.remains in
+    removes_above _ g.met.S.PageStore.goes_on c.args.height c.requires.height c.if-height-eq1.false (below.less underfull_done) c.in_ok-path.ensures.left c.in_ok-path.ensures.reads
+    c.in_ok-remove_under.ensures.left c.rebalance_child.ensures.left
 
 pub returns-in_err-remove_under-clause-left : goal.returns-in_err-remove_under-clause-left
 returns-in_err-remove_under-clause-left g t c =
-    rw (handed_on c.from_residual-in_err-remove_under.result c.from_residual-in_err-remove_under.ensures.1)
-    (removes_below _ g.met.S.PageStore.goes_on c.args.height c.requires.height c.in_ok-path.ensures.left c.in_ok-path.ensures.reads
-    c.in_err-remove_under.ensures.left)
+    edits_err _ c.from_residual-in_err-remove_under.ensures.1
+    (removes_below _ g.met.S.PageStore.goes_on c.args.height c.requires.height c.in_ok-path.ensures.left c.in_ok-path.ensures.reads c.in_err-remove_under.ensures.left)
 
 pub returns-in-Missing-clause-left : goal.returns-in-Missing-clause-left
 returns-in-Missing-clause-left g t c =
-    removes_below _ g.met.S.PageStore.goes_on c.args.height c.requires.height c.in_ok-path.ensures.left c.in_ok-path.ensures.reads
-    (rw c.in-Missing.is at c.in_ok-remove_under.ensures.left)
+    edits_ok _ _ (removes_below _ g.met.S.PageStore.goes_on c.args.height c.requires.height c.in_ok-path.ensures.left c.in_ok-path.ensures.reads c.in_ok-remove_under.ensures.left)
 
 pub returns-in-Done-clause-left : goal.returns-in-Done-clause-left
 returns-in-Done-clause-left g t c =
-    removes_below _ g.met.S.PageStore.goes_on c.args.height c.requires.height c.in_ok-path.ensures.left c.in_ok-path.ensures.reads
-    (rw c.in-Done.is at c.in_ok-remove_under.ensures.left)
+    edits_ok _ _ (removes_below _ g.met.S.PageStore.goes_on c.args.height c.requires.height c.in_ok-path.ensures.left c.in_ok-path.ensures.reads c.in_ok-remove_under.ensures.left)
 
 pub returns-in-Emptied-clause-left : goal.returns-in-Emptied-clause-left
 returns-in-Emptied-clause-left g t c =
-    edits_free _ _ _ _ (omega arith) (omega arith) damaged_device
+    edits_damaged _ _
     (removes_below _ g.met.S.PageStore.goes_on c.args.height c.requires.height c.in_ok-path.ensures.left c.in_ok-path.ensures.reads c.in_ok-remove_under.ensures.left)
 
 pub returns-in-Only-clause-left : goal.returns-in-Only-clause-left
 returns-in-Only-clause-left g t c =
-    edits_free _ _ _ _ (omega arith) (omega arith) damaged_device
+    edits_damaged _ _
     (removes_below _ g.met.S.PageStore.goes_on c.args.height c.requires.height c.in_ok-path.ensures.left c.in_ok-path.ensures.reads c.in_ok-remove_under.ensures.left)
+
+pub returns-in-None-clause-left : goal.returns-in-None-clause-left
+returns-in-None-clause-left g t c =
+    edits_damaged _ _
+    (removes_below _ g.met.S.PageStore.goes_on c.args.height c.requires.height c.in_ok-path.ensures.left c.in_ok-path.ensures.reads c.in_ok-remove_under.ensures.left)
+
+pub returns-then-height-eq1-clause-left : goal.returns-then-height-eq1-clause-left
+returns-then-height-eq1-clause-left g t c =
+    let some = c.requires.height in
+    edits_within _ (2 * c.args.height) (3 * c.args.height - 2) (omega arith) (omega arith) c.remove_in_leaf.ensures.left
+
+pub returns-in_err-path-clause-left : goal.returns-in_err-path-clause-left
+returns-in_err-path-clause-left g t c =
+    let some = c.requires.height in
+    edits_within _ (2 * c.args.height) (3 * c.args.height - 2) (omega arith) (omega arith)
+    (edits_err _ c.from_residual.ensures.1 (looked _ 1 c.in_err-path.ensures.left c.in_err-path.ensures.reads))

@@ -1,6 +1,7 @@
 use Rattle.std.proofs.Common.{◌≡◌, suc, length, arith}
 use Rattle.quilt_node.specs.Edits.{without_child}
 use Rattle.quilt_btree.specs.Rebalancing.{WritesInner}
+use Rattle.quilt_btree.proofs.stores.Leaves.{edits_err, edits_ok}
 use Rattle.quilt_btree.proofs.removals.Drops.{dropped_written, dropped_many}
 use Rattle.quilt_btree.proofs.removal.drop_child.Given.{Over}
 use Rattle.quilt_btree.proofs.removal.drop_child.Goals.{In_ok-write_page}
@@ -25,3 +26,12 @@ pub returns-else-left-lt-LEAST_CHILDREN-clause-dropped : goal.returns-else-left-
 returns-else-left-lt-LEAST_CHILDREN-clause-dropped g c =
     let d = dropped g (goal.at.returns-else-left-lt-LEAST_CHILDREN-clause-dropped g c).In_ok-write_page in
     (let m = d.0 in let h = c.if-left-lt-LEAST_CHILDREN.false in omega arith, d.1)
+
+pub returns-in_err-write_page-clause-left : goal.returns-in_err-write_page-clause-left
+returns-in_err-write_page-clause-left g c = edits_err _ c.from_residual.ensures.1 c.in_err-write_page.ensures.left
+
+pub returns-then-left-lt-LEAST_CHILDREN-clause-left : goal.returns-then-left-lt-LEAST_CHILDREN-clause-left
+returns-then-left-lt-LEAST_CHILDREN-clause-left g c = edits_ok _ _ c.in_ok-write_page.ensures.left
+
+pub returns-else-left-lt-LEAST_CHILDREN-clause-left : goal.returns-else-left-lt-LEAST_CHILDREN-clause-left
+returns-else-left-lt-LEAST_CHILDREN-clause-left g c = edits_ok _ _ c.in_ok-write_page.ensures.left

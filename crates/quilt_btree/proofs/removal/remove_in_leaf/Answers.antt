@@ -1,4 +1,6 @@
 use Rattle.std.proofs.Common.{◌+◌, ◌∙◌, refl, sym, arith}
+use Rattle.quilt_btree.specs.declared.outcomes.Removed.TheVariants.{Missing, Emptied, Underfull, Done}
+use Rattle.quilt_btree.proofs.stores.Leaves.{looked, edits_on, edits_more, edits_err, edits_ok}
 use Rattle.quilt_btree.proofs.ways.Damage.{zero_names, names_more, same_others, wrote_others}
 use Rattle.quilt_btree.proofs.growth.Finding.{finds_here, finds_none}
 use Rattle.quilt_btree.proofs.growth.Below.{edit_spells}
@@ -103,3 +105,28 @@ returns-then-left-lt-LEAST_RECORDS-clause-others g c =
 pub returns-else-left-lt-LEAST_RECORDS-clause-others : goal.returns-else-left-lt-LEAST_RECORDS-clause-others
 returns-else-left-lt-LEAST_RECORDS-clause-others g c =
     wrote_others c.args.page c.bytes.result.now _ _ _ c.in_ok-leaf.ensures.left.told c.in_ok-write_page-in-Ok-2.ensures.told
+
+pub returns-in_err-leaf-clause-left : goal.returns-in_err-leaf-clause-left
+returns-in_err-leaf-clause-left g c =
+    edits_more _ 1 0 (edits_err _ c.from_residual.ensures.1 (looked _ 1 c.in_err-leaf.ensures.left c.in_err-leaf.ensures.reads))
+
+pub returns-in-Err-clause-left : goal.returns-in-Err-clause-left
+returns-in-Err-clause-left g c = edits_more _ 1 0 (edits_ok _ Missing (looked _ 1 c.in_ok-leaf.ensures.left c.in_ok-leaf.ensures.reads))
+
+pub returns-in-Ok-clause-left : goal.returns-in-Ok-clause-left
+returns-in-Ok-clause-left g c = edits_more _ 1 0 (edits_ok _ Emptied (looked _ 1 c.in_ok-leaf.ensures.left c.in_ok-leaf.ensures.reads))
+
+pub returns-in_err-write_page-in-Ok-2-clause-left : goal.returns-in_err-write_page-in-Ok-2-clause-left
+returns-in_err-write_page-in-Ok-2-clause-left g c =
+    edits_err _ c.from_residual-in_err-write_page-in-Ok-2.ensures.1
+    (edits_on _ g.met.S.PageStore.goes_on (looked _ 1 c.in_ok-leaf.ensures.left c.in_ok-leaf.ensures.reads) c.in_err-write_page-in-Ok-2.ensures.left)
+
+pub returns-then-left-lt-LEAST_RECORDS-clause-left : goal.returns-then-left-lt-LEAST_RECORDS-clause-left
+returns-then-left-lt-LEAST_RECORDS-clause-left g c =
+    edits_ok _ Underfull
+    (edits_on _ g.met.S.PageStore.goes_on (looked _ 1 c.in_ok-leaf.ensures.left c.in_ok-leaf.ensures.reads) c.in_ok-write_page-in-Ok-2.ensures.left)
+
+pub returns-else-left-lt-LEAST_RECORDS-clause-left : goal.returns-else-left-lt-LEAST_RECORDS-clause-left
+returns-else-left-lt-LEAST_RECORDS-clause-left g c =
+    edits_ok _ Done
+    (edits_on _ g.met.S.PageStore.goes_on (looked _ 1 c.in_ok-leaf.ensures.left c.in_ok-leaf.ensures.reads) c.in_ok-write_page-in-Ok-2.ensures.left)

@@ -1,5 +1,8 @@
-use Rattle.std.proofs.Common.{rules, sym, ◌∙◌, ◌≢◌, arith}
+use Rattle.std.proofs.Common.{rules, sym, ◌∙◌, ◌≢◌, arith, le_refl}
 use Rattle.quilt_btree.specs.Looks.{IsSpoilt}
+use Rattle.quilt_store.proofs.Reading.{only_reads_then, only_reads_ok}
+use Rattle.quilt_world.proofs.ReadCounts.{reads_then}
+use Rattle.quilt_btree.proofs.stores.Looks.{only_reads_handed, only_reads_damaged, found_read}
 use Rattle.quilt_btree.proofs.ranges.Spans.{added_most, added_within, above_bound}
 use Rattle.quilt_node.specs.Nodes.{page_records}
 use Rattle.quilt_btree.proofs.subtrees.Whole.{tree_spells}
@@ -123,3 +126,45 @@ returns-in_ok-page-in-Some-clause-bad g c = fault_named (g.S.PageStore.told c.ar
     c.in_ok-page-in-Some.page (IsSpoilt (g.S.PageStore.told c.add_at.new.store) c.in_ok-found.found.page) c.in_ok-page-in-Some.ensures.fault
     (λ (s : IsSpoilt (g.S.PageStore.told c.add_at.new.store) c.in_ok-found.found.page). c.in_ok-found.ensures.spoilt s.bytes
     (told_before _ _ _ _ (sym (c.in_ok-now.ensures.looks.left.told ∙ c.in_ok-found.ensures.left.told)) s.are) s.is_none)
+
+pub returns-in_err-found-clause-left : goal.returns-in_err-found-clause-left
+returns-in_err-found-clause-left g c = only_reads_handed _ c.from_residual.ensures.1 c.in_err-found.ensures.left
+
+pub returns-in_err-now-clause-left : goal.returns-in_err-now-clause-left
+returns-in_err-now-clause-left g c =
+    only_reads_handed _ c.from_residual-in_err-now.ensures.1
+    (only_reads_then _ g.met.S.PageStore.goes_on _ _ _ c.in_ok-found.ensures.left c.in_err-now.ensures.looks.left)
+
+pub returns-then-now-most-clause-left : goal.returns-then-now-most-clause-left
+returns-then-now-most-clause-left g c =
+    only_reads_ok _ (only_reads_then _ g.met.S.PageStore.goes_on _ _ _ c.in_ok-found.ensures.left c.in_ok-now.ensures.looks.left) _
+
+pub returns-in_err-page-in-Some-clause-left : goal.returns-in_err-page-in-Some-clause-left
+returns-in_err-page-in-Some-clause-left g c =
+    only_reads_handed _ c.from_residual-in_err-page-in-Some.ensures.1 (only_reads_then _ g.met.S.PageStore.goes_on _ _ _ c.in_ok-found.ensures.left
+    (only_reads_then _ g.met.S.PageStore.goes_on _ _ _ c.in_ok-now.ensures.looks.left c.in_err-page-in-Some.ensures.looks.left))
+
+pub returns-in_ok-page-in-Some-clause-left : goal.returns-in_ok-page-in-Some-clause-left
+returns-in_ok-page-in-Some-clause-left g c =
+    only_reads_damaged _ _ (only_reads_then _ g.met.S.PageStore.goes_on _ _ _ c.in_ok-found.ensures.left
+    (only_reads_then _ g.met.S.PageStore.goes_on _ _ _ c.in_ok-now.ensures.looks.left c.in_ok-page-in-Some.ensures.looks.left))
+
+pub returns-in_default-clause-left : goal.returns-in_default-clause-left
+returns-in_default-clause-left g c =
+    only_reads_ok _ (only_reads_then _ g.met.S.PageStore.goes_on _ _ _ c.in_ok-found.ensures.left c.in_ok-now.ensures.looks.left) _
+
+pub returns-in_default-2-clause-left : goal.returns-in_default-2-clause-left
+returns-in_default-2-clause-left g c =
+    only_reads_ok _ (only_reads_then _ g.met.S.PageStore.goes_on _ _ _ c.in_ok-found.ensures.left c.in_ok-now.ensures.looks.left) _
+
+pub returns-then-now-most-clause-reads : goal.returns-then-now-most-clause-reads
+returns-then-now-most-clause-reads g c =
+    reads_then 2 1 3 _ _ _ (le_refl 3) (found_read c.args.self.now.height _ _ c.requires.rooted.height c.in_ok-found.ensures.reads) c.in_ok-now.ensures.looks.reads
+
+pub returns-in_default-clause-reads : goal.returns-in_default-clause-reads
+returns-in_default-clause-reads g c =
+    reads_then 2 1 3 _ _ _ (le_refl 3) (found_read c.args.self.now.height _ _ c.requires.rooted.height c.in_ok-found.ensures.reads) c.in_ok-now.ensures.looks.reads
+
+pub returns-in_default-2-clause-reads : goal.returns-in_default-2-clause-reads
+returns-in_default-2-clause-reads g c =
+    reads_then 2 1 3 _ _ _ (le_refl 3) (found_read c.args.self.now.height _ _ c.requires.rooted.height c.in_ok-found.ensures.reads) c.in_ok-now.ensures.looks.reads

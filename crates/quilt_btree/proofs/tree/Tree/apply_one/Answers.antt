@@ -3,6 +3,8 @@ use Rattle.std.specs.Prelude.{if◌then◌else◌}
 use Rattle.quilt_record.specs.Lists.{put, without}
 use Rattle.quilt_btree.specs.Batches.{is_due, edited}
 use Rattle.quilt_btree.specs.Edits.{IsWhole}
+use Rattle.quilt_btree.proofs.batches.Costs.{edit_cost}
+use Rattle.quilt_btree.proofs.stores.Leaves.{edits_on, edits_more, edits_err, edits_ok, edits_damaged}
 use Rattle.quilt_btree.proofs.ways.Damage.{stops_behind, run_zero}
 use Rattle.quilt_btree.proofs.batches.Whole.{gone}
 use Rattle.quilt_btree.proofs.Handed.{handed_on}
@@ -76,3 +78,39 @@ returns-else-is_new-2-clause-fails g c rs w page is =
     c.remove-in-Replace.new.self (without k rs)) (sym c.in_ok-is_out-in-Replace.ensures.left.size) h.1 in
     let i = c.in-Ok.ensures.inserts.inserted (without k rs) mid in
     absurd (true_false c.in-Ok.is_new (i.0 ∙ ap not (gone k rs)) c.if-is_new-2.false)
+
+pub returns-in_err-is_out-in-Remove-clause-left : goal.returns-in_err-is_out-in-Remove-clause-left
+returns-in_err-is_out-in-Remove-clause-left g c = edit_cost _ c.in-Remove.is (edits_err _ c.from_residual.ensures.1 c.in_err-is_out-in-Remove.ensures.left)
+
+pub returns-then-is_out-clause-left : goal.returns-then-is_out-clause-left
+returns-then-is_out-clause-left g c = edit_cost _ c.in-Remove.is (edits_ok _ _ c.in_ok-is_out-in-Remove.ensures.left)
+
+pub returns-else-is_out-clause-left : goal.returns-else-is_out-clause-left
+returns-else-is_out-clause-left g c = edit_cost _ c.in-Remove.is (edits_damaged _ _ c.in_ok-is_out-in-Remove.ensures.left)
+
+pub returns-in_err-is_new-in-Put-clause-left : goal.returns-in_err-is_new-in-Put-clause-left
+returns-in_err-is_new-in-Put-clause-left g c =
+    edit_cost _ c.in-Put.is (edits_err _ c.from_residual-in_err-is_new-in-Put.ensures.1 c.in_err-is_new-in-Put.ensures.left)
+
+pub returns-then-is_new-clause-left : goal.returns-then-is_new-clause-left
+returns-then-is_new-clause-left g c = edit_cost _ c.in-Put.is (edits_ok _ _ c.in_ok-is_new-in-Put.ensures.left)
+
+pub returns-else-is_new-clause-left : goal.returns-else-is_new-clause-left
+returns-else-is_new-clause-left g c = edit_cost _ c.in-Put.is (edits_damaged _ _ c.in_ok-is_new-in-Put.ensures.left)
+
+pub returns-in_err-is_out-in-Replace-clause-left : goal.returns-in_err-is_out-in-Replace-clause-left
+returns-in_err-is_out-in-Replace-clause-left g c =
+    edit_cost _ c.in-Replace.is (edits_more _ 6 6 (edits_err _ c.from_residual-in_err-is_out-in-Replace.ensures.1 c.in_err-is_out-in-Replace.ensures.left))
+
+pub returns-then-not-is_out-clause-left : goal.returns-then-not-is_out-clause-left
+returns-then-not-is_out-clause-left g c = edit_cost _ c.in-Replace.is (edits_more _ 6 6 (edits_damaged _ _ c.in_ok-is_out-in-Replace.ensures.left))
+
+pub returns-then-is_new-2-clause-left : goal.returns-then-is_new-2-clause-left
+returns-then-is_new-2-clause-left g c =
+    edit_cost _ c.in-Replace.is
+    (edits_more _ 1 3 (edits_ok _ _ (edits_on _ g.met.S.PageStore.goes_on c.in_ok-is_out-in-Replace.ensures.left c.in-Ok.ensures.left)))
+
+pub returns-else-is_new-2-clause-left : goal.returns-else-is_new-2-clause-left
+returns-else-is_new-2-clause-left g c =
+    edit_cost _ c.in-Replace.is
+    (edits_more _ 1 3 (edits_damaged _ _ (edits_on _ g.met.S.PageStore.goes_on c.in_ok-is_out-in-Replace.ensures.left c.in-Ok.ensures.left)))

@@ -2,7 +2,8 @@ use Rattle.std.proofs.Common.{◌≤◌, take, drop, arith}
 use Rattle.quilt_types.specs.Facts.{quota}
 use Rattle.quilt_btree.specs.Batches.{more, fewer}
 use Rattle.quilt_btree.proofs.batches.Whole.{whole_edited, whole_fails, some_left, stays_edited, stays_failed, more_take, some_cost, few_enough, first_room, still_rooted}
-use Rattle.quilt_btree.proofs.batches.Costs.{first_spared, first_behind, first_made, first_stopped, some_taken, damaged_device}
+use Rattle.quilt_btree.proofs.batches.Costs.{first_spared, first_behind, first_made, first_stopped, some_taken}
+use Rattle.quilt_btree.proofs.stores.Leaves.{damaged_device}
 use Rattle.quilt_btree.proofs.batches.Whole.{some_looks}
 use Rattle.quilt_btree.proofs.ways.Damage.{named_along}
 use Rattle.quilt_btree.proofs.Handed.{handed_on}

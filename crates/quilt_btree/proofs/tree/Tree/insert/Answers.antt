@@ -1,6 +1,7 @@
 use Rattle.std.proofs.Common.{◌≡◌, refl, true, false, not, suc, ◌-◌, ◌≤◌, ◌<◌, Some, ap, subst, ◌∙◌, arith}
 use Rattle.std.proofs.lemmas.Bool.{false≢true}
 use Rattle.quilt_node.specs.Pages.{Inner}
+use Rattle.quilt_btree.proofs.stores.Leaves.{edits_on, edits_more, edits_err, edits_ok, edits_damaged, inserts_tree, inserts_low}
 use Rattle.quilt_btree.proofs.ways.Damage.{zero_names, names_more}
 use Rattle.quilt_btree.proofs.growth.Finding.{finds_root, finds_empty}
 use Rattle.quilt_btree.proofs.growth.InnerGrowth.{IsWritten}
@@ -208,3 +209,36 @@ returns-in_err-root-in-Split-clause-bad g c =
 pub returns-in_err-insert_under-clause-bad : goal.returns-in_err-insert_under-clause-bad
 returns-in_err-insert_under-clause-bad g c =
     rw (handed_on c.from_residual-in_err-insert_under.result c.from_residual-in_err-insert_under.ensures.1) (c.in_err-insert_under.ensures.bad)
+
+pub returns-in_err-root-clause-left : goal.returns-in_err-root-clause-left
+returns-in_err-root-clause-left g c = edits_more _ 4 3 (edits_err _ c.from_residual.ensures.1 c.in_err-root.ensures.left)
+
+pub returns-then-self-eq0-clause-left : goal.returns-then-self-eq0-clause-left
+returns-then-self-eq0-clause-left g c = edits_more _ 4 3 (edits_ok _ _ c.in_ok-root.ensures.left)
+
+pub returns-in_err-insert_under-clause-left : goal.returns-in_err-insert_under-clause-left
+returns-in_err-insert_under-clause-left g c =
+    edits_err _ c.from_residual-in_err-insert_under.ensures.1
+    (inserts_tree _ c.args.self.now.height c.requires.rooted.height c.in_err-insert_under.ensures.less c.in_err-insert_under.ensures.left)
+
+pub returns-in-There-clause-left : goal.returns-in-There-clause-left
+returns-in-There-clause-left g c =
+    edits_ok _ _ (inserts_tree _ c.args.self.now.height c.requires.rooted.height c.in_ok-insert_under.ensures.less c.in_ok-insert_under.ensures.left)
+
+pub returns-in-Done-clause-left : goal.returns-in-Done-clause-left
+returns-in-Done-clause-left g c =
+    edits_ok _ _ (inserts_tree _ c.args.self.now.height c.requires.rooted.height c.in_ok-insert_under.ensures.less c.in_ok-insert_under.ensures.left)
+
+pub returns-then-self-eq3-clause-left : goal.returns-then-self-eq3-clause-left
+returns-then-self-eq3-clause-left g c =
+    edits_damaged _ _ (inserts_tree _ c.args.self.now.height c.requires.rooted.height c.in_ok-insert_under.ensures.less c.in_ok-insert_under.ensures.left)
+
+pub returns-in_err-root-in-Split-clause-left : goal.returns-in_err-root-in-Split-clause-left
+returns-in_err-root-in-Split-clause-left g c =
+    edits_err _ c.from_residual-in_err-root-in-Split.ensures.1
+    (edits_on _ g.met.S.PageStore.goes_on (inserts_low _ c.args.self.now.height c.requires.rooted.height c.if-self-eq3.false c.in_ok-insert_under.ensures.left) c.in_err-root-in-Split.ensures.left)
+
+pub returns-in_ok-root-in-Split-clause-left : goal.returns-in_ok-root-in-Split-clause-left
+returns-in_ok-root-in-Split-clause-left g c =
+    edits_ok _ _
+    (edits_on _ g.met.S.PageStore.goes_on (inserts_low _ c.args.self.now.height c.requires.rooted.height c.if-self-eq3.false c.in_ok-insert_under.ensures.left) c.in_ok-root-in-Split.ensures.left)

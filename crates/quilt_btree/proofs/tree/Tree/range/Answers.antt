@@ -1,9 +1,11 @@
-use Rattle.std.proofs.Common.{refl, ◌∙◌, ap, arith}
+use Rattle.std.proofs.Common.{refl, ◌∙◌, ap, arith, le_refl}
 use Rattle.std.specs.List.{list_all}
 use Rattle.quilt_record.specs.Records.{key_cmp}
 use Rattle.quilt_store.proofs.Reading.{only_reads_then, only_reads_ok, only_reads_err}
 use Rattle.quilt_btree.specs.Lists.{is_from_to}
 use Rattle.quilt_record.proofs.Orders.{lt_to_le}
+use Rattle.quilt_world.proofs.ReadCounts.{reads_then}
+use Rattle.quilt_btree.proofs.stores.Looks.{only_reads_handed, found_read, first_read, rest_read}
 use Rattle.quilt_btree.proofs.ranges.Spans.{first_within, above_bound}
 use Rattle.quilt_btree.proofs.subtrees.Whole.{sound_whole}
 use Rattle.quilt_btree.proofs.ranges.Rests.{no_range}
@@ -78,3 +80,35 @@ pub returns-in_ok-add_rest-in-Some-clause-left : goal.returns-in_ok-add_rest-in-
 returns-in_ok-add_rest-in-Some-clause-left g c =
     only_reads_ok _ (only_reads_then _ g.met.S.PageStore.goes_on _ _ _ c.in_ok-found.ensures.left
     (only_reads_then _ g.met.S.PageStore.goes_on _ _ _ c.in_ok-now.ensures.looks.left c.in_ok-add_rest-in-Some.ensures.left)) _
+
+pub returns-in_err-found-clause-left : goal.returns-in_err-found-clause-left
+returns-in_err-found-clause-left g c = only_reads_handed _ c.from_residual.ensures.1 c.in_err-found.ensures.left
+
+pub returns-in_err-now-clause-left : goal.returns-in_err-now-clause-left
+returns-in_err-now-clause-left g c =
+    only_reads_handed _ c.from_residual-in_err-now.ensures.1
+    (only_reads_then _ g.met.S.PageStore.goes_on _ _ _ c.in_ok-found.ensures.left c.in_err-now.ensures.looks.left)
+
+pub returns-then-now-most-clause-left : goal.returns-then-now-most-clause-left
+returns-then-now-most-clause-left g c =
+    only_reads_ok _ (only_reads_then _ g.met.S.PageStore.goes_on _ _ _ c.in_ok-found.ensures.left c.in_ok-now.ensures.looks.left) _
+
+pub returns-in-None-clause-left : goal.returns-in-None-clause-left
+returns-in-None-clause-left g c =
+    only_reads_ok _ (only_reads_then _ g.met.S.PageStore.goes_on _ _ _ c.in_ok-found.ensures.left c.in_ok-now.ensures.looks.left) _
+
+pub returns-then-now-most-clause-reads : goal.returns-then-now-most-clause-reads
+returns-then-now-most-clause-reads g c =
+    first_read _ _ _
+    (reads_then 2 1 3 _ _ _ (le_refl 3) (found_read c.args.self.now.height _ _ c.requires.height c.in_ok-found.ensures.reads) c.in_ok-now.ensures.looks.reads)
+
+pub returns-in-None-clause-reads : goal.returns-in-None-clause-reads
+returns-in-None-clause-reads g c =
+    first_read _ _ _
+    (reads_then 2 1 3 _ _ _ (le_refl 3) (found_read c.args.self.now.height _ _ c.requires.height c.in_ok-found.ensures.reads) c.in_ok-now.ensures.looks.reads)
+
+pub returns-in_ok-add_rest-in-Some-clause-reads : goal.returns-in_ok-add_rest-in-Some-clause-reads
+returns-in_ok-add_rest-in-Some-clause-reads g c =
+    rest_read _ _ _ _ _
+    (reads_then 2 1 3 _ _ _ (le_refl 3) (found_read c.args.self.now.height _ _ c.requires.height c.in_ok-found.ensures.reads) c.in_ok-now.ensures.looks.reads)
+    c.in_ok-add_rest-in-Some.ensures.reads

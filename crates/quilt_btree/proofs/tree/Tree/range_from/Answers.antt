@@ -1,7 +1,10 @@
-use Rattle.std.proofs.Common.{◌∙◌, arith}
+use Rattle.std.proofs.Common.{◌∙◌, arith, le_refl}
 use Rattle.quilt_record.specs.Records.{key_cmp}
 use Rattle.quilt_record.proofs.Orders.{lt_to_le}
 use Rattle.quilt_store.proofs.Reading.{only_reads_then, only_reads_ok, only_reads_err}
+use Rattle.quilt_btree.proofs.stores.Leaves.{none_within}
+use Rattle.quilt_world.proofs.ReadCounts.{reads_then}
+use Rattle.quilt_btree.proofs.stores.Looks.{only_reads_handed, first_read, rest_read, none_on}
 use Rattle.quilt_btree.proofs.Spots.{spot_ends, spot_fills, spot_sound, spot_rest, wide_spot, under_next, never_on, placed_at}
 use Rattle.quilt_btree.proofs.ranges.Rests.{no_range}
 use Rattle.quilt_btree.proofs.ranges.Spans.{first_within, first_few}
@@ -92,6 +95,58 @@ returns-in_err-add_rest-in-Some-clause-from g c =
 pub returns-in_ok-add_rest-in-Some-clause-from : goal.returns-in_ok-add_rest-in-Some-clause-from
 returns-in_ok-add_rest-in-Some-clause-from g c = record {
   here = λ at last. absurd (never_on _ c.args.high.now c.in-Some.next (c.in_ok-found.ensures.here at).0 last c.in-Some.ensures.0 c.in-Some.ensures.1);
+  placed = λ some.
+      placed_at (g.S.PageStore.size c.args.store.now) c.in_ok-found.found c.in_ok-wide.wide c.args.low.now c.in_ok-found.ensures.leads.page
+      c.in_ok-found.ensures.leads.keys c.in_ok-wide.ensures.same;
+}
+
+pub returns-in_err-found-clause-left : goal.returns-in_err-found-clause-left
+returns-in_err-found-clause-left g c = only_reads_handed _ c.from_residual.ensures.1 c.in_err-found.ensures.left
+
+pub returns-in_err-wide-clause-left : goal.returns-in_err-wide-clause-left
+returns-in_err-wide-clause-left g c =
+    only_reads_handed _ c.from_residual-in_err-wide.ensures.1
+    (only_reads_then _ g.met.S.PageStore.goes_on _ _ _ c.in_ok-found.ensures.left c.in_err-wide.ensures.looks.left)
+
+pub returns-then-len-most-clause-left : goal.returns-then-len-most-clause-left
+returns-then-len-most-clause-left g c =
+    only_reads_ok _ (only_reads_then _ g.met.S.PageStore.goes_on _ _ _ c.in_ok-found.ensures.left c.in_ok-wide.ensures.looks.left) _
+
+pub returns-in-None-clause-left : goal.returns-in-None-clause-left
+returns-in-None-clause-left g c =
+    only_reads_ok _ (only_reads_then _ g.met.S.PageStore.goes_on _ _ _ c.in_ok-found.ensures.left c.in_ok-wide.ensures.looks.left) _
+
+pub returns-then-len-most-clause-reads : goal.returns-then-len-most-clause-reads
+returns-then-len-most-clause-reads g c = first_read _ _ _ (reads_then 2 1 3 _ _ _ (le_refl 3) c.in_ok-found.ensures.reads c.in_ok-wide.ensures.looks.reads)
+
+pub returns-in-None-clause-reads : goal.returns-in-None-clause-reads
+returns-in-None-clause-reads g c = first_read _ _ _ (reads_then 2 1 3 _ _ _ (le_refl 3) c.in_ok-found.ensures.reads c.in_ok-wide.ensures.looks.reads)
+
+pub returns-in_ok-add_rest-in-Some-clause-reads : goal.returns-in_ok-add_rest-in-Some-clause-reads
+returns-in_ok-add_rest-in-Some-clause-reads g c =
+    rest_read _ _ _ _ _ (reads_then 2 1 3 _ _ _ (le_refl 3) c.in_ok-found.ensures.reads c.in_ok-wide.ensures.looks.reads)
+    c.in_ok-add_rest-in-Some.ensures.reads
+
+pub returns-in_err-found-clause-from : goal.returns-in_err-found-clause-from
+returns-in_err-found-clause-from g c =
+    rw (handed_on c.from_residual.result c.from_residual.ensures.1) (record { here = λ at last. none_within 1 _ _ (c.in_err-found.ensures.here at).1; placed = tt })
+
+pub returns-in_err-wide-clause-from : goal.returns-in_err-wide-clause-from
+returns-in_err-wide-clause-from g c =
+    rw (handed_on c.from_residual-in_err-wide.result c.from_residual-in_err-wide.ensures.1)
+    (record { here = λ at last. none_on _ _ _ (c.in_ok-found.ensures.here at).1 c.in_err-wide.ensures.looks.reads; placed = tt })
+
+pub returns-then-len-most-clause-from : goal.returns-then-len-most-clause-from
+returns-then-len-most-clause-from g c = record {
+  here = λ at last. none_on _ _ _ (c.in_ok-found.ensures.here at).1 c.in_ok-wide.ensures.looks.reads;
+  placed = λ some.
+      placed_at (g.S.PageStore.size c.args.store.now) c.in_ok-found.found c.in_ok-wide.wide c.args.low.now c.in_ok-found.ensures.leads.page
+      c.in_ok-found.ensures.leads.keys c.in_ok-wide.ensures.same;
+}
+
+pub returns-in-None-clause-from : goal.returns-in-None-clause-from
+returns-in-None-clause-from g c = record {
+  here = λ at last. none_on _ _ _ (c.in_ok-found.ensures.here at).1 c.in_ok-wide.ensures.looks.reads;
   placed = λ some.
       placed_at (g.S.PageStore.size c.args.store.now) c.in_ok-found.found c.in_ok-wide.wide c.args.low.now c.in_ok-found.ensures.leads.page
       c.in_ok-found.ensures.leads.keys c.in_ok-wide.ensures.same;

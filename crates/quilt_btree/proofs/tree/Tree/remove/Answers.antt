@@ -1,4 +1,5 @@
 use Rattle.std.proofs.Common.{◌≡◌, true, false, ◌-◌, ◌≤◌, refl, arith}
+use Rattle.quilt_btree.proofs.stores.Leaves.{edits_on, edits_err, edits_ok, edits_answer, removes_tree}
 use Rattle.quilt_btree.proofs.ways.Damage.{zero_names, zero_named, names_more}
 use Rattle.quilt_btree.proofs.growth.Finding.{finds_root, finds_empty, shrunk_answer}
 use Rattle.quilt_btree.proofs.growth.KeptPages.{out_none, sound_out, out_missing, out_done, out_underfull}
@@ -61,13 +62,13 @@ returns-in-Missing-clause-removes g c = record {
 pub returns-in-Done-clause-removes : goal.returns-in-Done-clause-removes
 returns-in-Done-clause-removes g c = record {
   removed =
-      let found = rw c.in-Done.is at c.in_ok-remove_under.ensures in
+      let found = rw c.in-Done.is at c.in_ok-remove_under.ensures.removed in
       shrunk c.args.k.now (g.S.PageStore.told c.args.store.now) (g.S.PageStore.free c.args.store.now) (g.S.PageStore.size c.args.store.now)
       c.args.self.now c.shrink.result (g.S.PageStore.told c.remove_under.new.store) (g.S.PageStore.free c.remove_under.new.store) c.shrink.new.self
       (record { root = c.args.self.now.root; height = c.args.self.now.height; records = c.args.self.now.records - 1 }) c.shrink.ensures.tree
       c.shrink.ensures.answer (λ rs w. whole_done c.args.k.now (g.S.PageStore.told c.args.store.now) (g.S.PageStore.told c.remove_under.new.store)
       (g.S.PageStore.free c.args.store.now) (g.S.PageStore.free c.remove_under.new.store) (g.S.PageStore.size c.args.store.now) c.args.self.now rs
-      (removing g (goal.at.returns-in-Done-clause-removes g c).Else-self-eq0) found.removed w);
+      (removing g (goal.at.returns-in-Done-clause-removes g c).Else-self-eq0) found w);
   answer =
       shrunk_answer c.shrink.result (g.S.PageStore.told c.args.store.now) c.args.self.now c.args.k.now c.shrink.ensures.answer
       (λ rs is. finds_root (g.S.PageStore.told c.args.store.now) c.args.k.now true c.args.self.now rs c.if-self-eq0.false (rw c.in-Done.is at c.in_ok-remove_under.ensures.finds) is);
@@ -82,7 +83,7 @@ returns-in-Done-clause-removes g c = record {
 
 pub returns-in-Done-clause-sound : goal.returns-in-Done-clause-sound
 returns-in-Done-clause-sound g c =
-    let found = rw c.in-Done.is at c.in_ok-remove_under.ensures in
+    let found = rw c.in-Done.is at c.in_ok-remove_under.ensures.removed in
     shrunk_sound (g.S.PageStore.told c.args.store.now) (g.S.PageStore.free c.args.store.now) (g.S.PageStore.size c.args.store.now) c.args.self.now
     c.shrink.result (c.args.self.now.height ≡ 0 → (c.args.self.now.root ≡ 0) × (c.args.self.now.records ≡ 1)) (1 ≤ c.args.self.now.height
     → 2 ≤ c.args.self.now.records) c.shrink.ensures.sound
@@ -90,13 +91,13 @@ returns-in-Done-clause-sound g c =
       λ e. absurd (c.if-self-eq0.false e),
       λ e. many_done c.args.k.now (g.S.PageStore.told c.args.store.now) (g.S.PageStore.told c.remove_under.new.store)
           (g.S.PageStore.free c.args.store.now) (g.S.PageStore.free c.remove_under.new.store) (g.S.PageStore.size c.args.store.now) c.args.self.now rs
-          (removing g (goal.at.returns-in-Done-clause-sound g c).Else-self-eq0) found.removed w,
+          (removing g (goal.at.returns-in-Done-clause-sound g c).Else-self-eq0) found w,
     ))
 
 pub returns-in-Underfull-clause-removes : goal.returns-in-Underfull-clause-removes
 returns-in-Underfull-clause-removes g c = record {
   removed =
-      let found = rw c.in-Underfull.is at c.in_ok-remove_under.ensures in
+      let found = rw c.in-Underfull.is at c.in_ok-remove_under.ensures.removed in
       shrunk c.args.k.now (g.S.PageStore.told c.args.store.now) (g.S.PageStore.free c.args.store.now) (g.S.PageStore.size c.args.store.now)
       c.args.self.now c.shrink-in-Underfull.result (g.S.PageStore.told c.remove_under.new.store) (g.S.PageStore.free c.remove_under.new.store)
       c.shrink-in-Underfull.new.self
@@ -104,7 +105,7 @@ returns-in-Underfull-clause-removes g c = record {
       c.shrink-in-Underfull.ensures.tree c.shrink-in-Underfull.ensures.answer
       (λ rs w. whole_underfull c.args.k.now (g.S.PageStore.told c.args.store.now) (g.S.PageStore.told c.remove_under.new.store)
       (g.S.PageStore.free c.args.store.now) (g.S.PageStore.free c.remove_under.new.store) (g.S.PageStore.size c.args.store.now) c.args.self.now rs
-      (removing g (goal.at.returns-in-Underfull-clause-removes g c).Else-self-eq0) found.removed w);
+      (removing g (goal.at.returns-in-Underfull-clause-removes g c).Else-self-eq0) found w);
   answer =
       shrunk_answer c.shrink-in-Underfull.result (g.S.PageStore.told c.args.store.now) c.args.self.now c.args.k.now
       c.shrink-in-Underfull.ensures.answer
@@ -121,7 +122,7 @@ returns-in-Underfull-clause-removes g c = record {
 
 pub returns-in-Underfull-clause-sound : goal.returns-in-Underfull-clause-sound
 returns-in-Underfull-clause-sound g c =
-    let found = rw c.in-Underfull.is at c.in_ok-remove_under.ensures in
+    let found = rw c.in-Underfull.is at c.in_ok-remove_under.ensures.removed in
     shrunk_sound (g.S.PageStore.told c.args.store.now) (g.S.PageStore.free c.args.store.now) (g.S.PageStore.size c.args.store.now) c.args.self.now
     c.shrink-in-Underfull.result (c.args.self.now.height ≡ 0 → (c.args.self.now.root ≡ 0)
     × (c.args.self.now.records ≡ 1)) (1 ≤ c.args.self.now.height → 2 ≤ c.args.self.now.records) c.shrink-in-Underfull.ensures.sound
@@ -129,22 +130,22 @@ returns-in-Underfull-clause-sound g c =
       λ e. absurd (c.if-self-eq0.false e),
       λ e. many_underfull c.args.k.now (g.S.PageStore.told c.args.store.now) (g.S.PageStore.told c.remove_under.new.store)
           (g.S.PageStore.free c.args.store.now) (g.S.PageStore.free c.remove_under.new.store) (g.S.PageStore.size c.args.store.now) c.args.self.now rs
-          (removing g (goal.at.returns-in-Underfull-clause-sound g c).Else-self-eq0) found.removed w,
+          (removing g (goal.at.returns-in-Underfull-clause-sound g c).Else-self-eq0) found w,
     ))
 
 pub returns-in_err-give_back-in-Emptied-clause-sound : goal.returns-in_err-give_back-in-Emptied-clause-sound
 returns-in_err-give_back-in-Emptied-clause-sound g c =
     rw (handed_on c.from_residual-in_err-give_back-in-Emptied.result c.from_residual-in_err-give_back-in-Emptied.ensures.1)
-    (let found = rw c.in-Emptied.is at c.in_ok-remove_under.ensures in
+    (let found = rw c.in-Emptied.is at c.in_ok-remove_under.ensures.removed in
     λ rs w. c.in_err-give_back-in-Emptied.ensures.sound
     (one_emptied c.args.k.now (g.S.PageStore.told c.args.store.now) (g.S.PageStore.told c.remove_under.new.store)
     (g.S.PageStore.free c.args.store.now) (g.S.PageStore.free c.remove_under.new.store) (g.S.PageStore.size c.args.store.now) c.args.self.now rs
-    (removing g (goal.at.returns-in_err-give_back-in-Emptied-clause-sound g c).Else-self-eq0) found.removed w).0)
+    (removing g (goal.at.returns-in_err-give_back-in-Emptied-clause-sound g c).Else-self-eq0) found w).0)
 
 pub returns-in_ok-give_back-in-Emptied-clause-removes : goal.returns-in_ok-give_back-in-Emptied-clause-removes
 returns-in_ok-give_back-in-Emptied-clause-removes g c = record {
   removed =
-      let found = rw c.in-Emptied.is at c.in_ok-remove_under.ensures in
+      let found = rw c.in-Emptied.is at c.in_ok-remove_under.ensures.removed in
       shrunk c.args.k.now (g.S.PageStore.told c.args.store.now) (g.S.PageStore.free c.args.store.now) (g.S.PageStore.size c.args.store.now)
       c.args.self.now c.shrink-in-Emptied.result (g.S.PageStore.told c.give_back.new.store) (g.S.PageStore.free c.give_back.new.store)
       c.shrink-in-Emptied.new.self (record { root = 0; height = 0; records = c.args.self.now.records - 1 }) c.shrink-in-Emptied.ensures.tree
@@ -152,7 +153,7 @@ returns-in_ok-give_back-in-Emptied-clause-removes g c = record {
       (λ rs w. whole_emptied c.args.k.now (g.S.PageStore.told c.args.store.now) (g.S.PageStore.told c.remove_under.new.store)
       (g.S.PageStore.told c.give_back.new.store) (g.S.PageStore.free c.args.store.now) (g.S.PageStore.free c.remove_under.new.store)
       (g.S.PageStore.free c.give_back.new.store) (g.S.PageStore.size c.args.store.now) c.args.self.now rs
-      (removing g (goal.at.returns-in_ok-give_back-in-Emptied-clause-removes g c).Else-self-eq0) found.removed c.in_ok-give_back-in-Emptied.ensures.told c.in_ok-give_back-in-Emptied.ensures.free w);
+      (removing g (goal.at.returns-in_ok-give_back-in-Emptied-clause-removes g c).Else-self-eq0) found c.in_ok-give_back-in-Emptied.ensures.told c.in_ok-give_back-in-Emptied.ensures.free w);
   answer =
       shrunk_answer c.shrink-in-Emptied.result (g.S.PageStore.told c.args.store.now) c.args.self.now c.args.k.now c.shrink-in-Emptied.ensures.answer
       (λ rs is. finds_root (g.S.PageStore.told c.args.store.now) c.args.k.now true c.args.self.now rs c.if-self-eq0.false (rw c.in-Emptied.is at c.in_ok-remove_under.ensures.finds) is);
@@ -168,7 +169,7 @@ returns-in_ok-give_back-in-Emptied-clause-removes g c = record {
 
 pub returns-in_ok-give_back-in-Emptied-clause-sound : goal.returns-in_ok-give_back-in-Emptied-clause-sound
 returns-in_ok-give_back-in-Emptied-clause-sound g c =
-    let found = rw c.in-Emptied.is at c.in_ok-remove_under.ensures in
+    let found = rw c.in-Emptied.is at c.in_ok-remove_under.ensures.removed in
     shrunk_sound (g.S.PageStore.told c.args.store.now) (g.S.PageStore.free c.args.store.now) (g.S.PageStore.size c.args.store.now) c.args.self.now
     c.shrink-in-Emptied.result (0 ≡ 0 → (0 ≡ 0) × (c.args.self.now.records ≡ 1)) (1 ≤ 0 → 2 ≤ c.args.self.now.records)
     c.shrink-in-Emptied.ensures.sound
@@ -177,7 +178,7 @@ returns-in_ok-give_back-in-Emptied-clause-sound g c =
         refl,
         (one_emptied c.args.k.now (g.S.PageStore.told c.args.store.now) (g.S.PageStore.told c.remove_under.new.store)
             (g.S.PageStore.free c.args.store.now) (g.S.PageStore.free c.remove_under.new.store) (g.S.PageStore.size c.args.store.now) c.args.self.now rs
-            (removing g (goal.at.returns-in_ok-give_back-in-Emptied-clause-sound g c).Else-self-eq0) found.removed w).1,
+            (removing g (goal.at.returns-in_ok-give_back-in-Emptied-clause-sound g c).Else-self-eq0) found w).1,
       ),
       λ h. absurd (omega arith),
     ))
@@ -185,15 +186,15 @@ returns-in_ok-give_back-in-Emptied-clause-sound g c =
 pub returns-in_err-give_back-in-Only-clause-sound : goal.returns-in_err-give_back-in-Only-clause-sound
 returns-in_err-give_back-in-Only-clause-sound g c =
     rw (handed_on c.from_residual-in_err-give_back-in-Only.result c.from_residual-in_err-give_back-in-Only.ensures.1)
-    (let found = rw c.in-Only.is at c.in_ok-remove_under.ensures in
+    (let found = rw c.in-Only.is at c.in_ok-remove_under.ensures.removed in
     λ rs w. c.in_err-give_back-in-Only.ensures.sound
     (one_only (g.S.PageStore.told c.args.store.now) (g.S.PageStore.free c.args.store.now) (g.S.PageStore.size c.args.store.now) c.args.self.now c.args.k.now (g.S.PageStore.told c.remove_under.new.store) (g.S.PageStore.free c.remove_under.new.store) c.in-Only.child rs
-    (removing g (goal.at.returns-in_err-give_back-in-Only-clause-sound g c).Else-self-eq0) found.removed w).0)
+    (removing g (goal.at.returns-in_err-give_back-in-Only-clause-sound g c).Else-self-eq0) found w).0)
 
 pub returns-in_ok-give_back-in-Only-clause-removes : goal.returns-in_ok-give_back-in-Only-clause-removes
 returns-in_ok-give_back-in-Only-clause-removes g c = record {
   removed =
-      let found = rw c.in-Only.is at c.in_ok-remove_under.ensures in
+      let found = rw c.in-Only.is at c.in_ok-remove_under.ensures.removed in
       shrunk c.args.k.now (g.S.PageStore.told c.args.store.now) (g.S.PageStore.free c.args.store.now) (g.S.PageStore.size c.args.store.now)
       c.args.self.now c.shrink-in-Only.result (g.S.PageStore.told c.give_back-in-Only.new.store)
       (g.S.PageStore.free c.give_back-in-Only.new.store) c.shrink-in-Only.new.self
@@ -202,7 +203,7 @@ returns-in_ok-give_back-in-Only-clause-removes g c = record {
       (λ rs w. whole_only c.args.k.now (g.S.PageStore.told c.args.store.now) (g.S.PageStore.told c.remove_under.new.store)
       (g.S.PageStore.told c.give_back-in-Only.new.store) (g.S.PageStore.free c.args.store.now) (g.S.PageStore.free c.remove_under.new.store)
       (g.S.PageStore.free c.give_back-in-Only.new.store) (g.S.PageStore.size c.args.store.now) c.in-Only.child c.args.self.now rs
-      (removing g (goal.at.returns-in_ok-give_back-in-Only-clause-removes g c).Else-self-eq0) found.removed c.in_ok-give_back-in-Only.ensures.told c.in_ok-give_back-in-Only.ensures.free w);
+      (removing g (goal.at.returns-in_ok-give_back-in-Only-clause-removes g c).Else-self-eq0) found c.in_ok-give_back-in-Only.ensures.told c.in_ok-give_back-in-Only.ensures.free w);
   answer =
       shrunk_answer c.shrink-in-Only.result (g.S.PageStore.told c.args.store.now) c.args.self.now c.args.k.now
       c.shrink-in-Only.ensures.answer
@@ -221,16 +222,16 @@ returns-in_ok-give_back-in-Only-clause-removes g c = record {
 
 pub returns-in_ok-give_back-in-Only-clause-sound : goal.returns-in_ok-give_back-in-Only-clause-sound
 returns-in_ok-give_back-in-Only-clause-sound g c =
-    let found = rw c.in-Only.is at c.in_ok-remove_under.ensures in
+    let found = rw c.in-Only.is at c.in_ok-remove_under.ensures.removed in
     shrunk_sound (g.S.PageStore.told c.args.store.now) (g.S.PageStore.free c.args.store.now) (g.S.PageStore.size c.args.store.now) c.args.self.now
     c.shrink-in-Only.result (c.args.self.now.height - 1 ≡ 0 → (c.in-Only.child ≡ 0)
     × (c.args.self.now.records ≡ 1)) (1 ≤ c.args.self.now.height - 1 → 2 ≤ c.args.self.now.records) c.shrink-in-Only.ensures.sound
     (λ rs w. (
       λ e. absurd
           ((one_only (g.S.PageStore.told c.args.store.now) (g.S.PageStore.free c.args.store.now) (g.S.PageStore.size c.args.store.now) c.args.self.now c.args.k.now (g.S.PageStore.told c.remove_under.new.store) (g.S.PageStore.free c.remove_under.new.store) c.in-Only.child rs
-          (removing g (goal.at.returns-in_ok-give_back-in-Only-clause-sound g c).Else-self-eq0) found.removed w).2 e),
+          (removing g (goal.at.returns-in_ok-give_back-in-Only-clause-sound g c).Else-self-eq0) found w).2 e),
       λ h. (one_only (g.S.PageStore.told c.args.store.now) (g.S.PageStore.free c.args.store.now) (g.S.PageStore.size c.args.store.now) c.args.self.now c.args.k.now (g.S.PageStore.told c.remove_under.new.store) (g.S.PageStore.free c.remove_under.new.store) c.in-Only.child rs
-          (removing g (goal.at.returns-in_ok-give_back-in-Only-clause-sound g c).Else-self-eq0) found.removed w).1,
+          (removing g (goal.at.returns-in_ok-give_back-in-Only-clause-sound g c).Else-self-eq0) found w).1,
     ))
 
 pub returns-in_err-remove_under-clause-goes : goal.returns-in_err-remove_under-clause-goes
@@ -349,3 +350,38 @@ pub returns-in_ok-give_back-in-Only-clause-bad : goal.returns-in_ok-give_back-in
 returns-in_ok-give_back-in-Only-clause-bad g c =
     zero_named c.shrink-in-Only.result (g.S.PageStore.told c.args.store.now) c.args.self.now.height c.args.self.now.root
     (c.shrink-in-Only.ensures.names 1 (omega arith))
+
+pub returns-in_err-remove_under-clause-left : goal.returns-in_err-remove_under-clause-left
+returns-in_err-remove_under-clause-left g c =
+    edits_err _ c.from_residual.ensures.1 (removes_tree _ c.args.self.now.height c.requires.rooted.height c.in_err-remove_under.ensures.left)
+
+pub returns-in-Missing-clause-left : goal.returns-in-Missing-clause-left
+returns-in-Missing-clause-left g c = edits_ok _ _ (removes_tree _ c.args.self.now.height c.requires.rooted.height c.in_ok-remove_under.ensures.left)
+
+pub returns-in-Done-clause-left : goal.returns-in-Done-clause-left
+returns-in-Done-clause-left g c =
+    edits_answer _ c.shrink.result c.shrink.ensures.cause (removes_tree _ c.args.self.now.height c.requires.rooted.height c.in_ok-remove_under.ensures.left)
+
+pub returns-in-Underfull-clause-left : goal.returns-in-Underfull-clause-left
+returns-in-Underfull-clause-left g c =
+    edits_answer _ c.shrink-in-Underfull.result c.shrink-in-Underfull.ensures.cause (removes_tree _ c.args.self.now.height c.requires.rooted.height c.in_ok-remove_under.ensures.left)
+
+pub returns-in_err-give_back-in-Emptied-clause-left : goal.returns-in_err-give_back-in-Emptied-clause-left
+returns-in_err-give_back-in-Emptied-clause-left g c =
+    edits_err _ c.from_residual-in_err-give_back-in-Emptied.ensures.1
+    (edits_on _ g.met.S.PageStore.goes_on (removes_tree _ c.args.self.now.height c.requires.rooted.height c.in_ok-remove_under.ensures.left) c.in_err-give_back-in-Emptied.ensures.left)
+
+pub returns-in_ok-give_back-in-Emptied-clause-left : goal.returns-in_ok-give_back-in-Emptied-clause-left
+returns-in_ok-give_back-in-Emptied-clause-left g c =
+    edits_answer _ c.shrink-in-Emptied.result c.shrink-in-Emptied.ensures.cause
+    (edits_on _ g.met.S.PageStore.goes_on (removes_tree _ c.args.self.now.height c.requires.rooted.height c.in_ok-remove_under.ensures.left) c.in_ok-give_back-in-Emptied.ensures.left)
+
+pub returns-in_err-give_back-in-Only-clause-left : goal.returns-in_err-give_back-in-Only-clause-left
+returns-in_err-give_back-in-Only-clause-left g c =
+    edits_err _ c.from_residual-in_err-give_back-in-Only.ensures.1
+    (edits_on _ g.met.S.PageStore.goes_on (removes_tree _ c.args.self.now.height c.requires.rooted.height c.in_ok-remove_under.ensures.left) c.in_err-give_back-in-Only.ensures.left)
+
+pub returns-in_ok-give_back-in-Only-clause-left : goal.returns-in_ok-give_back-in-Only-clause-left
+returns-in_ok-give_back-in-Only-clause-left g c =
+    edits_answer _ c.shrink-in-Only.result c.shrink-in-Only.ensures.cause
+    (edits_on _ g.met.S.PageStore.goes_on (removes_tree _ c.args.self.now.height c.requires.rooted.height c.in_ok-remove_under.ensures.left) c.in_ok-give_back-in-Only.ensures.left)
