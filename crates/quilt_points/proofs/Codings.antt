@@ -1,25 +1,28 @@
 -- Points in the order of their codes: what the order says, and what it is to be sorted by them.
-use Rattle.std.proofs.Common.{◌≡◌, ℕ, zero, suc, ◌+◌, ◌-◌, ◌<◌, ◌≤◌, true, List, [], ◌∷◌, ◌++◌, map, take, drop, length, get_or, refl, sym, ◌∙◌, ap, subst}
+use Rattle.std.proofs.Common.{◌≡◌, ℕ, zero, suc, ◌+◌, ◌-◌, ◌/◌, ◌^◌, ◌<◌, ◌≤◌, true, List, [], ◌∷◌, ◌++◌, map, take, drop, length, get_or, refl, sym, ◌∙◌, ap, ap₂, subst}
 use Rattle.std.proofs.Common.{⊎_elim, arith, Contains, All, Ordering, nat_cmp}
 use Rattle.std.specs.Ordering.{is_lt}
 use Rattle.std.specs.Cmp.{nat_cmp_total, on_total}
 use Rattle.std.specs.List.Sorted.{IsPermutation, IsSortedByKey}
 use Rattle.std.proofs.lemmas.Bool.{cases_lt, both_ways}
 use Rattle.std.proofs.lemmas.List.{get_or_default, map-append, take_all, length-drop}
-use Rattle.std.proofs.lemmas.List.Elements.{All-contains, All-append, All-cons}
+use Rattle.std.proofs.lemmas.List.Elements.{All-append, All-cons, All-take}
 use Rattle.std.proofs.lemmas.List.Sorted.{IsPermutation-map}
 use Rattle.quilt_types.specs.declared.plane.Pixel.{Pixel}
+use Rattle.quilt_types.specs.declared.plane.Block.{Block}
 use Rattle.quilt_types.specs.declared.plane.Point.{Point}
+use Rattle.quilt_types.specs.Codes.{code}
 use Rattle.quilt_types.specs.Plane.{is_pixel}
-use Rattle.quilt_loc.specs.Codes.{Rises, code_at}
+use Rattle.quilt_types.proofs.CodeTables.{interleaved_gathered, gathered_below}
+use Rattle.quilt_loc.specs.Codes.{Rises, code_at, code_from}
 use Rattle.quilt_loc.proofs.Members.{Contains-here, Contains-there, Contains-cons_cases, Contains-nil, Contains-map, Contains-map_from}
-use Rattle.quilt_loc.proofs.CodeLaws.{code_alone}
+use Rattle.quilt_loc.proofs.CodeLaws.{code_alone, code_below}
 use Rattle.quilt_loc.proofs.Rising.{Rises-map, nat_less, nat_less_from}
 use Rattle.quilt_spell.specs.Apart.{Apart}
 use Rattle.quilt_edits.proofs.Lists.{member_at, take_next, taken_there}
 use Rattle.quilt_edits.proofs.Ascents.{permuted, Apart-permuted}
 use Rattle.quilt_points.specs.declared.coded.Coded.{Coded}
-use Rattle.quilt_points.specs.Coding.{by_code, coded, IsStepwise, HasFall}
+use Rattle.quilt_points.specs.Coding.{by_code, AreInCodeOrder, coded, pixel_with, decoded, IsStepwise, HasFall}
 use Rattle.quilt_points.proofs.Finds.{pixel_in}
 use Rattle.quilt_points.proofs.Windows.{steps_rise}
 
@@ -74,6 +77,19 @@ first_least (x ∷ xs) d p up c =
     ⊎_elim (λ is. let e = ap (λ (q : Point). code_at q.at) is in omega arith) (λ m. let lt =
     nat_less_from (code_at x.at) (code_at p.at) (up.0 p m) in omega arith) (Contains-cons_cases x xs p c)
 
+-- codes do not fall
+pub codes_up : (xs : List Point) (i j : ℕ) (d : Point) → Rises by_code xs → i ≤ j → j < length xs → code_at (get_or xs i d).at ≤ code_at (get_or xs j d).at
+codes_up [] i j d up le lt = absurd (omega arith)
+codes_up (x ∷ xs) zero j d up le lt = first_least (x ∷ xs) d (get_or (x ∷ xs) j d) up (member_at (x ∷ xs) j d lt)
+codes_up (x ∷ xs) (suc i) zero d up le lt = absurd (omega arith)
+codes_up (x ∷ xs) (suc i) (suc j) d up le lt = codes_up xs i j d up.1 (omega arith) (omega arith)
+
+pub InOrder-take : (b : Block) (k : ℕ) (xs : List Point) → AreInCodeOrder b xs → AreInCodeOrder b (take k xs)
+InOrder-take b k xs h = record {
+  rises = Rises-take by_code k xs h.rises;
+  least = All-take (λ (p : Point). code_from b ≤ code_at p.at) k xs h.least;
+}
+
 -- points in this order have pixels of their own
 pub pixels_apart : (xs : List Point) → Rises by_code xs → Apart (map (λ p. p.at) xs)
 pixels_apart [] h = tt
@@ -86,11 +102,12 @@ pixels_apart (x ∷ xs) h = (
   pixels_apart xs h.1,
 )
 
--- ---- points with their codes
-pub coded_next : (old new : List Coded) (ps : List Point) (i : ℕ) (d : Point) (r : Coded) → new ≡ old ++ r ∷ [] → old ≡ map coded (take i ps)
-    → i < length ps → r ≡ coded (get_or ps i d) → new ≡ map coded (take (i + 1) ps)
-coded_next old new ps i d r is has lt row =
-    is ∙ (λ j. has j ++ row j ∷ []) ∙ sym (map-append coded (take i ps) (get_or ps i d ∷ [])) ∙ ap (map coded) (sym (take_next ps i d lt))
+-- ---- points by their codes
+-- what a list has for the first elements of another, it has for one more
+pub mapped_next : {X Y : Type 0} (f : X → Y) (old new : List Y) (xs : List X) (i : ℕ) (d : X) (r : Y) → new ≡ old ++ r ∷ [] → old ≡ map f (take i xs)
+    → i < length xs → r ≡ f (get_or xs i d) → new ≡ map f (take (i + 1) xs)
+mapped_next f old new xs i d r is has lt row =
+    is ∙ (λ j. has j ++ row j ∷ []) ∙ sym (map-append f (take i xs) (get_or xs i d ∷ [])) ∙ ap (map f) (sym (take_next xs i d lt))
 
 pub fall_at : (xs : List Coded) (i : ℕ) (e : Coded) → 1 ≤ i → i < length xs → (get_or xs i e).code ≤ (get_or xs (i - 1) e).code → HasFall xs
 fall_at xs i e least lt le =
@@ -103,13 +120,35 @@ fall_at xs i e least lt le =
           omega arith,
     )
 
-same_point : (ps : List Point) → map (λ (c : Coded). c.point) (map coded ps) ≡ ps
-same_point [] = refl
-same_point (p ∷ ps) = ap (λ l. p ∷ l) (same_point ps)
+-- the pixel that is made of a code has it
+code_with : (c : ℕ) → c < 4 ^ 12 → code_at (pixel_with c) ≡ c
+unfolding code
+code_with c lt = interleaved_gathered 12 c lt
 
-same_pixels : (ps : List Point) → map (λ (c : Coded). c.point.at) (map coded ps) ≡ map (λ p. p.at) ps
-same_pixels [] = refl
-same_pixels (p ∷ ps) = ap (λ l. p.at ∷ l) (same_pixels ps)
+-- and no other has
+pub pixel_is : (c : ℕ) (p : Pixel) → c < 4 ^ 12 → p.x < 4096 → p.y < 4096 → code_at p ≡ c → p ≡ pixel_with c
+pixel_is c p lt in_x in_y is =
+    let x = gathered_below 12 c in
+    let y = gathered_below 12 (c / 2) in
+    code_alone p (pixel_with c) in_x in_y (omega arith) (omega arith) (is ∙ sym (code_with c lt))
+
+same_point : (p : Point) → is_pixel 12 p.at ≡ true → decoded (coded p) ≡ p
+same_point p t =
+    let xy = pixel_in 12 p.at t in
+    let x = xy.0 in
+    let y = xy.1 in
+    ap (λ (a : Pixel). record { at = a; label = p.label }) (sym (pixel_is (code_at p.at) p.at (code_below p.at.x p.at.y) (omega arith) (omega arith) refl))
+
+same_points : (ps : List Point) → All (λ p. is_pixel 12 p.at ≡ true) ps → map decoded (map coded ps) ≡ ps
+same_points [] h = refl
+same_points (p ∷ ps) h =
+    ap₂ (λ (q : Point) (l : List Point). q ∷ l) (same_point p (h 0 p (omega arith))) (same_points ps (λ k d lt. h (suc k) d (omega arith)))
+
+same_pixels : (ps : List Point) → All (λ p. is_pixel 12 p.at ≡ true) ps → map (λ (c : Coded). (decoded c).at) (map coded ps) ≡ map (λ p. p.at) ps
+same_pixels [] h = refl
+same_pixels (p ∷ ps) h =
+    ap₂ (λ (a : Pixel) (l : List Pixel). a ∷ l) (ap (λ (q : Point). q.at) (same_point p (h 0 p (omega arith))))
+    (same_pixels ps (λ k d lt. h (suc k) d (omega arith)))
 
 -- elements at two places of a list differ by what tells all apart
 key_apart : {X Y : Type 0} (f : X → Y) (xs : List X) (k : ℕ) (d : X) → Apart (map f xs) → suc k < length xs → f (get_or xs k d) ≡ f (get_or xs (suc k) d) → ⊥
@@ -118,45 +157,40 @@ key_apart f (x ∷ []) k d h lt e = absurd (omega arith)
 key_apart f (x ∷ y ∷ xs) zero d h lt e = h.0 (subst (Contains (map f (y ∷ xs))) (sym e) (Contains-map f (y ∷ xs) y (Contains-here y xs)))
 key_apart f (x ∷ y ∷ xs) (suc k) d h lt e = key_apart f (y ∷ xs) k d h.1 (omega arith) e
 
-module _ (ps : List Point) (cs sorted : List Coded) (are : cs ≡ map coded ps) (p : IsPermutation cs sorted) where
+module _ (ps : List Point) (inside : All (λ q. is_pixel 12 q.at ≡ true) ps) (cs sorted : List Coded) (are : cs ≡ map coded ps) (p : IsPermutation cs sorted) where
   perm : IsPermutation (map coded ps) sorted
   perm = subst (λ (l : List Coded). IsPermutation l sorted) are p
 
-  pub points_same : (vs : List Point) → vs ≡ map (λ c. c.point) sorted → IsPermutation ps vs
+  pub points_same : (vs : List Point) → vs ≡ map decoded sorted → IsPermutation ps vs
   points_same vs is =
-      subst (IsPermutation ps) (sym is) (subst (λ (l : List Point). IsPermutation l (map (λ (c : Coded). c.point) sorted)) (same_point ps)
-      (IsPermutation-map (λ (c : Coded). c.point) (map coded ps) sorted perm))
+      subst (IsPermutation ps) (sym is)
+      (subst (λ (l : List Point). IsPermutation l (map decoded sorted)) (same_points ps inside) (IsPermutation-map decoded (map coded ps) sorted perm))
 
-  -- each has the code of its pixel
-  code_is : (c : Coded) → Contains sorted c → (q : Point) × Contains ps q × (coded q ≡ c)
-  code_is c m = Contains-map_from coded ps c ((permuted (map coded ps) sorted perm c).1 m)
+  -- each has the code of a pixel
+  below : (c : Coded) → Contains sorted c → c.code < 4 ^ 12
+  below c m =
+      let u = Contains-map_from coded ps c ((permuted (map coded ps) sorted perm c).1 m) in
+      subst (λ (z : Coded). z.code < 4 ^ 12) u.2 (code_below (u.0).at.x (u.0).at.y)
 
-  pub points_rise : IsStepwise sorted → (vs : List Point) → vs ≡ map (λ c. c.point) sorted → Rises by_code vs
+  pub all_below : All (λ c. c.code < 4 ^ 12) sorted
+  all_below = λ k d lt. below (get_or sorted k d) (member_at sorted k d lt)
+
+  pub points_rise : IsStepwise sorted → (vs : List Point) → vs ≡ map decoded sorted → Rises by_code vs
   points_rise steps vs is =
       let R : Coded → Coded → Ordering = λ c d. nat_cmp c.code d.code in
       let rises : Rises R sorted = steps_rise R (on_total (λ (c : Coded). c.code) nat_cmp_total) sorted
       (λ k d lt. nat_less (get_or sorted k d).code (get_or sorted (suc k) d).code (steps k d lt)) in
       subst (Rises by_code) (sym is)
-      (Rises-map R by_code (λ (c : Coded). c.point) sorted (λ c d mc md less.
-      let u = code_is c mc in
-      let v = code_is d md in
+      (Rises-map R by_code decoded sorted (λ c d mc md less.
       let lt = nat_less_from c.code d.code less in
-      let a : code_at c.point.at ≡ c.code = ap (λ (z : Coded). code_at z.point.at) (sym u.2) ∙ ap (λ (z : Coded). z.code) u.2 in
-      let b : code_at d.point.at ≡ d.code = ap (λ (z : Coded). code_at z.point.at) (sym v.2) ∙ ap (λ (z : Coded). z.code) v.2 in
-      nat_less (code_at c.point.at) (code_at d.point.at) (omega arith)) rises)
+      let a = code_with c.code (below c mc) in
+      let b = code_with d.code (below d md) in
+      nat_less (code_at (decoded c).at) (code_at (decoded d).at) (omega arith)) rises)
 
   -- where a sorted list does not rise two points share a pixel
-  pub no_fall : All (λ q. is_pixel 12 q.at ≡ true) ps → IsSortedByKey (λ c. c.code) nat_cmp sorted → HasFall sorted → Apart (map (λ q. q.at) ps) → ⊥
-  no_fall inside up fall apart =
+  pub no_fall : IsSortedByKey (λ c. c.code) nat_cmp sorted → HasFall sorted → Apart (map (λ q. q.at) ps) → ⊥
+  no_fall up fall apart =
       let k = fall.0 in
-      let first = (code_is (get_or sorted k start) (member_at sorted k start (let lt = fall.1 in omega arith))) in
-      let second = (code_is (get_or sorted (suc k) start) (member_at sorted (suc k) start fall.1)) in
-      let on = pixel_in 12 (first.0).at (All-contains (λ (q : Point). is_pixel 12 q.at ≡ true) ps first.0 inside first.1) in
-      let other = pixel_in 12 (second.0).at (All-contains (λ (q : Point). is_pixel 12 q.at ≡ true) ps second.0 inside second.1) in
-      let x = on.0 in
-      let y = on.1 in
-      let z = other.0 in
-      let w = other.1 in
       let le = fall.2 start in
       let ge : (get_or sorted k start).code ≤ (get_or sorted (suc k) start).code =
       ⊎_elim (λ lt. absurd (both_ways (is_lt (nat_cmp (get_or sorted (suc k) start).code (get_or sorted k start).code))
@@ -164,17 +198,15 @@ module _ (ps : List Point) (cs sorted : List Coded) (are : cs ≡ map coded ps) 
       ∙ up k start (omega arith) (let lt' = fall.1 in omega arith))
       (ap is_lt (nat_less (get_or sorted (suc k) start).code (get_or sorted k start).code lt)))) (λ h. h)
       (cases_lt (get_or sorted (suc k) start).code (get_or sorted k start).code) in
-      let a = ap (λ (c : Coded). c.code) first.2 in
-      let b = ap (λ (c : Coded). c.code) second.2 in
-      let same : (first.0).at ≡ (second.0).at = code_alone (first.0).at (second.0).at (omega arith) (omega arith) (omega arith) (omega arith) (omega arith) in
-      key_apart (λ (c : Coded). c.point.at) sorted k start
-      (Apart-permuted (map (λ (q : Point). q.at) ps) (map (λ (c : Coded). c.point.at) sorted)
-      (subst (λ (l : List Pixel). IsPermutation l (map (λ (c : Coded). c.point.at) sorted)) (same_pixels ps)
-      (IsPermutation-map (λ (c : Coded). c.point.at) (map coded ps) sorted perm)) apart)
-      fall.1 (sym (ap (λ (c : Coded). c.point.at) first.2) ∙ same ∙ ap (λ (c : Coded). c.point.at) second.2)
+      let same : (get_or sorted k start).code ≡ (get_or sorted (suc k) start).code = omega arith in
+      key_apart (λ (c : Coded). (decoded c).at) sorted k start
+      (Apart-permuted (map (λ (q : Point). q.at) ps) (map (λ (c : Coded). (decoded c).at) sorted)
+      (subst (λ (l : List Pixel). IsPermutation l (map (λ (c : Coded). (decoded c).at) sorted)) (same_pixels ps inside)
+      (IsPermutation-map (λ (c : Coded). (decoded c).at) (map coded ps) sorted perm)) apart)
+      fall.1 (ap pixel_with same)
     where
       start : Coded
-      start = record { code = 0; point = record { at = record { y = 0; x = 0 }; label = 0 } }
+      start = record { code = 0; label = 0 }
 
       next : suc fall.0 ≡ fall.0 + 1
       next = omega arith

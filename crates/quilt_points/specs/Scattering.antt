@@ -1,6 +1,7 @@
 -- What is planned of points that come at once, block by block.
-use Rattle.std.specs.Prelude.{◌≡◌, ℕ, ◌++◌, true, List, map, flat_map, take, drop, Contains, None}
+use Rattle.std.specs.Prelude.{◌≡◌, ℕ, ◌^◌, ◌++◌, true, List, map, flat_map, take, drop, Contains, None}
 use Rattle.std.specs.FinMap as finmap
+use Rattle.quilt_types.specs.declared.plane.Pixel.{Pixel}
 use Rattle.quilt_types.specs.declared.plane.Block.{Block}
 use Rattle.quilt_types.specs.declared.plane.Point.{Point}
 use Rattle.quilt_types.specs.Plane.{in_block}
@@ -9,12 +10,17 @@ use Rattle.quilt_types.specs.Facts.{Fact}
 use Rattle.quilt_record.specs.declared.record.Record.{Record}
 use Rattle.quilt_spell.specs.Apart.{Apart}
 use Rattle.quilt_point_laws.specs.Growing.{Gain, gone_in, come_in, IsGain}
+use Rattle.quilt_point_laws.specs.Spreading.{spread}
 use Rattle.quilt_points.specs.Layers.{point_entries, block_record}
 use Rattle.quilt_points.specs.Reads.{IsHeld}
 
 -- the records of facts, behind others
 abbrev pub AddsRecords : ℕ → ℕ → ℕ → List Record → List Record → List Fact → Type 0
 AddsRecords n number capacity old new fs = new ≡ old ++ map (block_record n capacity number) fs
+
+-- the records of a block with these points, or of the blocks into which they are spread where they are too many, behind others
+abbrev pub AddsSpread : ℕ → ℕ → ℕ → Block → List (Pixel × ℕ) → List Record → List Record → Type 0
+AddsSpread n number capacity b held old new = (k : ℕ) → b.side ≡ 2 ^ k → AddsRecords n number capacity old new (spread capacity k b held)
 
 -- So many of the points, the first of them on, are those in one of the layer's blocks. None of them is at a pixel that has a
 -- point, and the records that change in the block are added.

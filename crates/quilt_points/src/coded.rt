@@ -4,17 +4,17 @@ ghost use Rattle.std.specs.Ordering.{nat_cmp};
 ghost use Rattle.quilt_types.specs.Plane.{is_pixel};
 ghost use Rattle.quilt_loc.specs.Codes.{Rises};
 ghost use Rattle.quilt_spell.specs.Apart.{Apart};
-ghost use Rattle.quilt_points.specs.Coding.{by_code, coded as with_code, IsStepwise, HasFall};
+ghost use Rattle.quilt_points.specs.Coding.{by_code, coded as with_code, decoded, IsStepwise, HasFall};
 
-use quilt_loc::code_of;
+use quilt_loc::{code_of, pixel_of};
 use quilt_types::Point;
 use std::alloc::{AllocError, Global};
 
-/// A point with the code of its pixel.
+/// A point by the code of its pixel, which says where it is. It takes 8 bytes, which are sorted faster than more.
 #[derive(Clone, Copy)]
 pub(crate) struct Coded {
     pub code: u32,
-    pub point: Point,
+    pub label: u32,
 }
 
 /// The points in the order of their codes: None exactly where two of them share a pixel.
@@ -34,20 +34,20 @@ pub(crate) fn in_order(alloc: Global, points: &[Point]) -> Result<Option<Vec<Poi
     Ok(Some(points))
 }
 
-/// The points with their codes.
+/// The points by their codes.
 fn all_coded(alloc: Global, points: &[Point]) -> Result<Vec<Coded>, AllocError>
     requires { All (λ p. is_pixel 12 p.at ≡ true) points.now }
     ensures coded { IfOk result (λ v. v.items ≡ map with_code points.now) }
     ensures labels { IfOk result (λ v. All (λ p. p.label < 2 ^ 32) points.now) }
 {
-    let mut coded = Vec::new(alloc);
+    let mut coded = Vec::with_capacity(alloc, points.len())?;
     for p in points {
         coded.push(one_coded(*p))?;
     }
     Ok(coded)
 }
 
-/// A point with its code.
+/// A point by its code.
 fn one_coded(p: Point) -> Coded
     requires { is_pixel 12 p.at ≡ true }
     ensures coded { result ≡ with_code p }
@@ -55,7 +55,7 @@ fn one_coded(p: Point) -> Coded
 {
     Coded {
         code: code_of(p.at),
-        point: p,
+        label: p.label,
     }
 }
 
@@ -80,9 +80,25 @@ fn are_apart(coded: &[Coded]) -> bool
     true
 }
 
-/// The points themselves.
+/// The points made anew of their codes.
 fn points_in(alloc: Global, coded: &[Coded]) -> Result<Vec<Point>, AllocError>
-    ensures { IfOk result (λ v. v.items ≡ map (λ c. c.point) coded.now) }
+    requires { All (λ c. c.code < 4 ^ 12) coded.now }
+    ensures { IfOk result (λ v. v.items ≡ map decoded coded.now) }
 {
-    coded.iter().map(|c| c.point).collect(alloc)
+    let mut points = Vec::with_capacity(alloc, coded.len())?;
+    for c in coded {
+        points.push(one_point(*c))?;
+    }
+    Ok(points)
+}
+
+/// The point that has the code.
+fn one_point(c: Coded) -> Point
+    requires { c.code < 4 ^ 12 }
+    ensures { result ≡ decoded c }
+{
+    Point {
+        at: pixel_of(c.code),
+        label: c.label,
+    }
 }

@@ -1,11 +1,11 @@
-ghost use Rattle.std.specs.Prelude.{◌≡◌, ◌+◌, ◌++◌, ◌<◌, ◌≤◌, ◌^◌, ℕ, true, false, All, length, map, filter, take, slice_index_or, IfOk, OnOk};
+ghost use Rattle.std.specs.Prelude.{◌≡◌, ◌+◌, ◌++◌, ◌<◌, ◌≤◌, ◌^◌, ℕ, [], true, false, All, length, map, filter, take, slice_index_or, IfOk, OnOk};
 ghost use Rattle.quilt_types.specs.declared.plane.Point.{Point as AnyPoint};
 ghost use Rattle.quilt_types.specs.Plane.{is_pixel, in_block, IsBlock};
 ghost use Rattle.quilt_types.specs.Facts.{HoldsPoint};
-ghost use Rattle.quilt_loc.specs.Codes.{Rises, code_at, code_from};
-ghost use Rattle.quilt_point_laws.specs.Spreading.{held_facts, spread as spread_facts};
-ghost use Rattle.quilt_points.specs.Layers.{point_entries, block_record};
-ghost use Rattle.quilt_points.specs.Coding.{by_code};
+ghost use Rattle.quilt_point_laws.specs.Spreading.{held_facts};
+ghost use Rattle.quilt_points.specs.Layers.{point_entries};
+ghost use Rattle.quilt_points.specs.Coding.{AreInCodeOrder};
+ghost use Rattle.quilt_points.specs.Scattering.{AddsRecords, AddsSpread};
 ghost use Rattle.quilt_point_laws.specs.Growing.{gone_of, come_of};
 
 use crate::layer::PointLayer;
@@ -14,11 +14,27 @@ use quilt_record::{Record, point_record};
 use quilt_types::{Block, Point};
 use std::alloc::{AllocError, Global};
 
+/// Among more points than these it is faster to halve the list than to look at one after the other.
+const MANY_POINTS: usize = 16;
+
 /// The records that a layer has only without some points, and those that it has only with them.
 #[derive(Drop)]
 pub(crate) struct Delta {
     pub without: Vec<Record>,
     pub with: Vec<Record>,
+}
+
+/// No records yet, with room for those that come with so many points. Drawn points with one in a block make 2.2 times as many
+/// records, since blocks without a point have one too; room that is left over is not touched.
+pub(crate) fn no_records(alloc: Global, points: usize) -> Result<Delta, AllocError>
+    ensures without { IfOk result (λ delta. delta.without.items ≡ []) }
+    ensures with { IfOk result (λ delta. delta.with.items ≡ []) }
+{
+    let with = Vec::with_capacity(alloc, points.saturating_mul(5) / 2)?;
+    Ok(Delta {
+        without: Vec::new(alloc),
+        with,
+    })
 }
 
 /// Adds the records of a block that change when points come into it: `held` are the points that it has without them. Where
@@ -34,12 +50,11 @@ pub(crate) fn add_delta(
     requires block { IsBlock layer.level b }
     requires held { All (λ p. is_pixel layer.level p.at ≡ true) held.now }
     requires news { All (λ p. is_pixel layer.level p.at ≡ true) news.now }
-    requires order { layer.bucket < length news.now → Rises by_code news.now }
-    requires least { layer.bucket < length news.now → All (λ p. code_from b ≤ code_at p.at) news.now }
-    ensures without { OnOk result (delta.new.without.items ≡ delta.old.without.items
-        ++ map (block_record layer.level layer.bucket layer.number) (gone_of layer.bucket b (point_entries held.now) (point_entries news.now))) }
-    ensures with { OnOk result ((k : ℕ) → b.side ≡ 2 ^ k → delta.new.with.items ≡ delta.old.with.items
-        ++ map (block_record layer.level layer.bucket layer.number) (come_of layer.bucket k b (point_entries held.now) (point_entries news.now))) }
+    requires order { layer.bucket < length news.now → AreInCodeOrder b news.now }
+    ensures without { OnOk result (AddsRecords layer.level layer.number layer.bucket delta.old.without.items delta.new.without.items
+        (gone_of layer.bucket b (point_entries held.now) (point_entries news.now))) }
+    ensures with { OnOk result ((k : ℕ) → b.side ≡ 2 ^ k → AddsRecords layer.level layer.number layer.bucket delta.old.with.items delta.new.with.items
+        (come_of layer.bucket k b (point_entries held.now) (point_entries news.now))) }
 {
     let bucket = usize::from(layer.bucket);
     if held.len() <= bucket && news.len() <= bucket - held.len() {
@@ -66,10 +81,8 @@ fn spread_all(
     requires held { All (λ p. is_pixel layer.level p.at ≡ true) held.now }
     requires news { All (λ p. is_pixel layer.level p.at ≡ true) news.now }
     requires many { layer.bucket < length held.now + length news.now }
-    requires order { layer.bucket < length news.now → Rises by_code news.now }
-    requires least { layer.bucket < length news.now → All (λ p. code_from b ≤ code_at p.at) news.now }
-    ensures { OnOk result ((k : ℕ) → b.side ≡ 2 ^ k → records.new.items ≡ records.old.items
-        ++ map (block_record layer.level layer.bucket layer.number) (spread_facts layer.bucket k b (point_entries news.now ++ point_entries held.now))) }
+    requires order { layer.bucket < length news.now → AreInCodeOrder b news.now }
+    ensures { OnOk result (AddsSpread layer.level layer.number layer.bucket b (point_entries news.now ++ point_entries held.now) records.old.items records.new.items) }
 {
     if held.is_empty() {
         return spread_in_order(records, layer, b, news);
@@ -89,10 +102,8 @@ fn spread_in_order(
 ) -> Result<(), AllocError>
     requires block { IsBlock layer.level b }
     requires points { All (λ p. is_pixel layer.level p.at ≡ true) points.now }
-    requires order { Rises by_code points.now }
-    requires least { All (λ p. code_from b ≤ code_at p.at) points.now }
-    ensures { OnOk result ((k : ℕ) → b.side ≡ 2 ^ k → records.new.items ≡ records.old.items
-        ++ map (block_record layer.level layer.bucket layer.number) (spread_facts layer.bucket k b (point_entries points.now))) }
+    requires order { AreInCodeOrder b points.now }
+    ensures { OnOk result (AddsSpread layer.level layer.number layer.bucket b (point_entries points.now) records.old.items records.new.items) }
 {
     if points.len() <= usize::from(layer.bucket) || b.side <= 1 {
         return add_held(records, layer, b, points);
@@ -107,8 +118,24 @@ fn spread_in_order(
     Ok(())
 }
 
-/// How many of the points, the first of them on, are in the block.
+/// How many of the points, the first of them on, are in the block. They are in the order of their codes, and none of them is
+/// before the block's.
 pub(crate) fn count_in(points: &[Point], b: Block) -> usize
+    requires block { IsBlock 12 b }
+    requires points { All (λ p. is_pixel 12 p.at ≡ true) points.now }
+    requires order { AreInCodeOrder b points.now }
+    ensures most { result ≤ length points.now }
+    ensures inside { All (λ p. in_block b p.at ≡ true) (take result points.now) }
+    ensures behind { result < length points.now → (d : AnyPoint) → in_block b (slice_index_or points.now result d).at ≡ false }
+{
+    if points.len() > MANY_POINTS {
+        return points.partition_point(|p| covers(b, p.at));
+    }
+    count_first(points, b)
+}
+
+/// How many of the points, the first of them on, are in the block, found by a look at each of these and at the next one.
+fn count_first(points: &[Point], b: Block) -> usize
     requires { IsBlock 12 b }
     ensures most { result ≤ length points.now }
     ensures inside { All (λ p. in_block b p.at ≡ true) (take result points.now) }
@@ -134,8 +161,7 @@ fn spread(
 ) -> Result<(), AllocError>
     requires block { IsBlock layer.level b }
     requires points { All (λ p. is_pixel layer.level p.at ≡ true) points.now }
-    ensures { OnOk result ((k : ℕ) → b.side ≡ 2 ^ k → records.new.items ≡ records.old.items
-        ++ map (block_record layer.level layer.bucket layer.number) (spread_facts layer.bucket k b (point_entries points.now))) }
+    ensures { OnOk result (AddsSpread layer.level layer.number layer.bucket b (point_entries points.now) records.old.items records.new.items) }
 {
     if points.len() <= usize::from(layer.bucket) || b.side <= 1 {
         return add_held(records, layer, b, points);
@@ -168,8 +194,7 @@ fn add_held(
 ) -> Result<(), AllocError>
     requires block { IsBlock layer.level b }
     requires points { All (λ p. is_pixel layer.level p.at ≡ true) points.now }
-    ensures { OnOk result (records.new.items ≡ records.old.items
-        ++ map (block_record layer.level layer.bucket layer.number) (held_facts b (point_entries points.now))) }
+    ensures { OnOk result (AddsRecords layer.level layer.number layer.bucket records.old.items records.new.items (held_facts b (point_entries points.now))) }
 {
     if points.is_empty() {
         records.push(point_record(layer.number, b, layer.level, layer.bucket, None))?;
@@ -187,8 +212,8 @@ fn add_points(
 ) -> Result<(), AllocError>
     requires block { IsBlock layer.level b }
     requires points { All (λ p. is_pixel layer.level p.at ≡ true) points.now }
-    ensures { OnOk result (records.new.items ≡ records.old.items
-        ++ map (block_record layer.level layer.bucket layer.number) (map (λ e. HoldsPoint b e.0 e.1) (point_entries points.now))) }
+    ensures { OnOk result (AddsRecords layer.level layer.number layer.bucket records.old.items records.new.items
+        (map (λ e. HoldsPoint b e.0 e.1) (point_entries points.now))) }
 {
     for p in points {
         records.push(point_record(layer.number, b, layer.level, layer.bucket, Some(*p)))?;

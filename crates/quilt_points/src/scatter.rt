@@ -20,7 +20,7 @@ ghost use Rattle.quilt_points.specs.Plans.{IsPointPlan, AreNew, points_with};
 ghost use Rattle.quilt_points.specs.Scattering.{IsTaken, IsGrown};
 
 use crate::coded::in_order;
-use crate::delta::{Delta, add_delta, count_in};
+use crate::delta::{Delta, add_delta, count_in, no_records};
 use crate::layer::PointLayer;
 use crate::leaf::leaf_around;
 use crate::plan::has_point;
@@ -98,9 +98,9 @@ fn grown<S: PageStore>(
     ensures left { OnlyReads S.PageStore store.old store.new result }
     ensures reads { IfOk result (λ _. Goes (λ old new. new ≤ old + (12 + 3 * layer.bucket) * length news.now) (S.reads store.old) (S.reads store.new)) }
 {
-    let mut delta = Delta {
-        without: Vec::new(alloc),
-        with: Vec::new(alloc),
+    let mut delta = match no_records(alloc, news.len()) {
+        Err(_) => return Err(Stop::Memory),
+        Ok(delta) => delta,
     };
     let mut done = 0;
     while done < news.len() {

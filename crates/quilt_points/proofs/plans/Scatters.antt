@@ -37,7 +37,7 @@ use Rattle.quilt_point_laws.proofs.Plans.{Changes, put_valid}
 use Rattle.quilt_point_laws.proofs.Gains.{Gains, all_changed}
 use Rattle.quilt_points.specs.Layers.{point_entry, point_entries, block_record}
 use Rattle.quilt_points.specs.Plans.{IsPointPlan, AreNew, points_with}
-use Rattle.quilt_points.specs.Coding.{by_code}
+use Rattle.quilt_points.specs.Coding.{by_code, AreInCodeOrder}
 use Rattle.quilt_points.specs.Scattering.{IsTaken, IsGrown}
 use Rattle.quilt_points.proofs.Finds.{pixel_in, pixel_from}
 use Rattle.quilt_points.proofs.Shapes.{block_is}
@@ -50,11 +50,14 @@ use Rattle.quilt_points.proofs.plans.Plans as plans
 module _ (n : ℕ) (le : n ≤ 12) (points : List Point) (up : Rises by_code points) (pixels : All (λ p. is_pixel n p.at ≡ true) points) (b : Block)
     (hb : IsBlock n b) (d : Point) (on : in_block b (get_or points 0 d).at ≡ true) where
   -- none is before the block
-  pub from_block : All (λ p. code_from b ≤ code_at p.at) points
+  from_block : All (λ p. code_from b ≤ code_at p.at) points
   from_block = λ k e lt.
       let held = (code_held n b (get_or points 0 d).at hb le (Holds-from b (get_or points 0 d).at on)).0 in
       let least = first_least points d (get_or points k e) up (member_at points k e lt) in
       omega arith
+
+  pub block_order : AreInCodeOrder b points
+  block_order = record { rises = up; least = from_block }
 
   module _ (count : ℕ) (behind : count < length points → (e : Point) → in_block b (get_or points count e).at ≡ false) where
     pub some_taken : 0 < length points → 0 < count
@@ -64,7 +67,7 @@ module _ (n : ℕ) (le : n ≤ 12) (points : List Point) (up : Rises by_code poi
         (cases_lt 0 count)
 
     pub left_outside : (p : Point) → Contains (drop count points) p → in_block b p.at ≡ true → ⊥
-    left_outside p c t = both_ways (in_block b p.at) (outside n le points up pixels b hb from_block count behind p c) t
+    left_outside p c t = both_ways (in_block b p.at) (outside n le points pixels b hb block_order count behind p c) t
 
 pub pixels_up : (n : ℕ) → n ≤ 12 → (ps : List Point) → All (λ p. is_pixel n p.at ≡ true) ps → All (λ p. is_pixel 12 p.at ≡ true) ps
 pixels_up n le ps h =

@@ -5,13 +5,13 @@ use Rattle.std.proofs.lemmas.Result.{on_ok_weaker}
 use Rattle.quilt_types.specs.declared.plane.Block.{Block}
 use Rattle.quilt_types.specs.declared.plane.Point.{Point}
 use Rattle.quilt_types.specs.Plane.{in_block, is_pixel}
-use Rattle.quilt_loc.specs.Codes.{Rises, code_at, code_from}
 use Rattle.quilt_loc.proofs.Blocks.{IsBlock-up}
-use Rattle.quilt_points.specs.Coding.{by_code}
+use Rattle.quilt_points.specs.Coding.{AreInCodeOrder}
 use Rattle.quilt_points.proofs.Quarters.{quarter_at}
-use Rattle.quilt_points.proofs.Codings.{rest_is, Rises-drop, Rises-take}
+use Rattle.quilt_points.proofs.Codings.{rest_is, InOrder-take}
 use Rattle.quilt_points.proofs.plans.Deltas.{spread_next, spread_all, spread_few, part_half}
-use Rattle.quilt_points.proofs.plans.Parts.{split_none, rest_least, part_is, split_next}
+use Rattle.quilt_points.proofs.plans.Parts.{split_none, rest_order, part_is, split_next}
+use Rattle.quilt_points.proofs.plans.Scatters.{pixels_up}
 use Rattle.quilt_points.proofs.delta.+spread_in_order.Goals as goal
 use Rattle.quilt_points.proofs.delta.+spread_in_order.Goals.{then-points-from-via-then-points-from, then-points-from-via-else-points-from+then-b-le1}
 
@@ -31,15 +31,29 @@ quarters-q-items-requires-clause-valid t c = IsBlock-up c.args.layer.level 12 c.
 
 pub loop-q-init : goal.loop-q-init
 loop-q-init t c = record {
-  split = split_none c.args.b c.quarters-q-items.result c.args.points.now c.quarters-q-items.ensures.value c.requires.least;
+  split = split_none c.args.b c.quarters-q-items.result c.args.points.now c.quarters-q-items.ensures.value c.requires.order.least;
   records = λ k s. sym (append-nil c.args.records.now.items);
 }
 
-pub count_in-count-requires : goal.count_in-count-requires
-count_in-count-requires t c =
+pub count_in-count-requires-clause-block : goal.count_in-count-requires-clause-block
+count_in-count-requires-clause-block t c =
     let q = quarter_at c.args.layer.level c.args.b c.quarters-q-items.result c.loop-q.q-index
     (record { y = 0; x = 0; side = 0 }) c.requires.block c.if-b-le1.false c.quarters-q-items.ensures.value c.loop-q-test.true in
     IsBlock-up c.args.layer.level 12 _ c.args.layer.has_level.1 q.block
+
+pub count_in-count-requires-clause-points : goal.count_in-count-requires-clause-points
+count_in-count-requires-clause-points t c =
+    subst (All (λ (p : Point). is_pixel 12 p.at ≡ true)) (sym (rest_is c.loop-q.done c.args.points.now))
+    (All-drop (λ (p : Point). is_pixel 12 p.at ≡ true) c.loop-q.done c.args.points.now
+    (pixels_up c.args.layer.level c.args.layer.has_level.1 c.args.points.now c.requires.points))
+
+pub count_in-count-requires-clause-order : goal.count_in-count-requires-clause-order
+count_in-count-requires-clause-order t c =
+    let d : Block = record { y = 0; x = 0; side = 0 } in
+    subst (AreInCodeOrder (get_or c.quarters-q-items.result c.loop-q.q-index d)) (sym (rest_is c.loop-q.done c.args.points.now))
+    (rest_order c.args.layer.level c.args.layer.has_level.1 c.args.b c.requires.block c.if-b-le1.false c.quarters-q-items.result
+    c.quarters-q-items.ensures.value c.loop-q.q-index c.loop-q-test.true d c.args.points.now c.requires.order.rises c.requires.points
+    c.loop-q.done c.loop-q.invariant.split)
 
 pub spread_in_order-requires : goal.spread_in_order-requires
 spread_in_order-requires t c =
@@ -56,16 +70,11 @@ spread_in_order-requires t c =
           subst (λ (l : List Point). All (λ (p : Point). is_pixel c.args.layer.level p.at ≡ true) (take count l)) rest
               (All-take (λ (p : Point). is_pixel c.args.layer.level p.at ≡ true) count (drop c.loop-q.done c.args.points.now)
               (All-drop (λ (p : Point). is_pixel c.args.layer.level p.at ≡ true) c.loop-q.done c.args.points.now c.requires.points)),
-          (
-            subst (λ (l : List Point). Rises by_code (take count l)) rest
-                (Rises-take by_code count (drop c.loop-q.done c.args.points.now) (Rises-drop by_code c.loop-q.done c.args.points.now c.requires.order)),
-            subst (λ (l : List Point). All (λ (p : Point). code_from (get_or c.quarters-q-items.result c.loop-q.q-index d) ≤ code_at p.at) (take count l)) rest
-                (All-take (λ (p : Point). code_from (get_or c.quarters-q-items.result c.loop-q.q-index d) ≤ code_at p.at) count
-                (drop c.loop-q.done c.args.points.now)
-                (rest_least c.args.layer.level c.args.layer.has_level.1 c.args.b c.requires.block c.if-b-le1.false c.quarters-q-items.result
-                c.quarters-q-items.ensures.value c.loop-q.q-index c.loop-q-test.true d c.args.points.now c.requires.order c.requires.points
-                c.loop-q.done c.loop-q.invariant.split)),
-          ),
+          subst (λ (l : List Point). AreInCodeOrder (get_or c.quarters-q-items.result c.loop-q.q-index d) (take count l)) rest
+              (InOrder-take (get_or c.quarters-q-items.result c.loop-q.q-index d) count (drop c.loop-q.done c.args.points.now)
+              (rest_order c.args.layer.level c.args.layer.has_level.1 c.args.b c.requires.block c.if-b-le1.false c.quarters-q-items.result
+              c.quarters-q-items.ensures.value c.loop-q.q-index c.loop-q-test.true d c.args.points.now c.requires.order.rises c.requires.points
+              c.loop-q.done c.loop-q.invariant.split)),
         ),
       ),
     )
@@ -83,14 +92,14 @@ loop-q-preserved t c =
     let behind = subst (λ (l : List Point). count < length l → (e : Point) → in_block q (get_or l count e).at ≡ false) rest c.count_in-count.ensures.behind in
     record {
       split = split_next c.args.layer.level c.args.layer.has_level.1 c.args.b c.requires.block c.if-b-le1.false c.quarters-q-items.result
-          c.quarters-q-items.ensures.value c.loop-q.q-index lt d c.args.points.now c.requires.order c.requires.points
+          c.quarters-q-items.ensures.value c.loop-q.q-index lt d c.args.points.now c.requires.order.rises c.requires.points
           c.loop-q.done c.loop-q.invariant.split count most inside behind;
       records = spread_next c.args.layer.level c.args.layer.bucket c.args.layer.number c.args.points.now c.args.b c.quarters-q-items.result c.loop-q.q-index
           d (take count (take (length c.args.points.now - c.loop-q.done) (drop c.loop-q.done c.args.points.now)))
           c.args.records.now.items c.loop-q.records.items c.spread_in_order.new.records.items (omega arith)
           (ap (take count) rest
           ∙ part_is c.args.layer.level c.args.layer.has_level.1 c.args.b c.requires.block c.if-b-le1.false c.quarters-q-items.result
-          c.quarters-q-items.ensures.value c.loop-q.q-index lt d c.args.points.now c.requires.order c.requires.points
+          c.quarters-q-items.ensures.value c.loop-q.q-index lt d c.args.points.now c.requires.order.rises c.requires.points
           c.loop-q.done c.loop-q.invariant.split count most inside behind)
           (part_half c.args.layer.level c.args.b c.quarters-q-items.result c.loop-q.q-index d c.requires.block c.if-b-le1.false
           c.quarters-q-items.ensures.value lt)

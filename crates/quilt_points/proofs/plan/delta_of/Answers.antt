@@ -3,6 +3,3 @@ use Rattle.quilt_points.proofs.plan.delta_of.Goals as goal
 
 pub add_delta-requires-clause-order : goal.add_delta-requires-clause-order
 add_delta-requires-clause-order c many = absurd (let least = c.args.layer.has_bucket.0 in omega arith)
-
-pub add_delta-requires-clause-least : goal.add_delta-requires-clause-least
-add_delta-requires-clause-least c many = absurd (let least = c.args.layer.has_bucket.0 in omega arith)

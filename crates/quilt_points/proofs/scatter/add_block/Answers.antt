@@ -1,30 +1,33 @@
-use Rattle.std.proofs.Common.{◌≡◌, ◌++◌, ◌-◌, ◌≤◌, true, List, map, take, sym, ◌∙◌, ap, subst, Contains}
-use Rattle.std.proofs.lemmas.List.Elements.{All-contains, All-take}
+use Rattle.std.proofs.Common.{◌≡◌, ◌++◌, ◌-◌, true, List, map, take, sym, ◌∙◌, ap, subst, Contains}
+use Rattle.std.proofs.lemmas.List.Elements.{All-contains}
 use Rattle.quilt_types.specs.declared.plane.Point.{Point}
 use Rattle.quilt_types.specs.Codes.{depth}
 use Rattle.quilt_types.specs.Plane.{in_block}
-use Rattle.quilt_loc.specs.Codes.{code_at, code_from}
 use Rattle.quilt_loc.proofs.Blocks.{IsBlock-up}
 use Rattle.quilt_edits.proofs.Lists.{taken_there}
 use Rattle.quilt_point_laws.specs.Growing.{gone_of, come_of}
 use Rattle.quilt_point_laws.proofs.Gains.{level_is}
 use Rattle.quilt_points.specs.Layers.{point_entries, block_record}
 use Rattle.quilt_points.proofs.plans.Puts.{free_from, taken_from}
-use Rattle.quilt_points.specs.Coding.{by_code}
-use Rattle.quilt_points.proofs.Codings.{Rises-take}
-use Rattle.quilt_points.proofs.plans.Scatters.{from_block, some_taken, left_outside}
+use Rattle.quilt_points.proofs.Codings.{InOrder-take}
+use Rattle.quilt_points.proofs.plans.Scatters.{pixels_up, block_order, some_taken, left_outside}
 use Rattle.quilt_points.proofs.scatter.add_block.Goals as goal
 
-pub count_in-count-requires : goal.count_in-count-requires
-count_in-count-requires g c = IsBlock-up c.args.layer.level 12 c.in_ok-leaf.leaf.block c.args.layer.has_level.1 c.in_ok-leaf.ensures.block
+pub count_in-count-requires-clause-block : goal.count_in-count-requires-clause-block
+count_in-count-requires-clause-block g c = IsBlock-up c.args.layer.level 12 c.in_ok-leaf.leaf.block c.args.layer.has_level.1 c.in_ok-leaf.ensures.block
+
+pub count_in-count-requires-clause-points : goal.count_in-count-requires-clause-points
+count_in-count-requires-clause-points g c = pixels_up c.args.layer.level c.args.layer.has_level.1 c.args.news.now c.requires.pixels
+
+pub count_in-count-requires-clause-order : goal.count_in-count-requires-clause-order
+count_in-count-requires-clause-order g c =
+    block_order c.args.layer.level c.args.layer.has_level.1 c.args.news.now c.requires.order c.requires.pixels c.in_ok-leaf.leaf.block
+    c.in_ok-leaf.ensures.block _ c.in_ok-leaf.ensures.holds
 
 pub add_delta-requires-clause-order : goal.add_delta-requires-clause-order
-add_delta-requires-clause-order g c _ = Rises-take by_code c.count_in-count.result c.args.news.now c.requires.order
-
-pub add_delta-requires-clause-least : goal.add_delta-requires-clause-least
-add_delta-requires-clause-least g c _ =
-    All-take (λ (p : Point). code_from c.in_ok-leaf.leaf.block ≤ code_at p.at) c.count_in-count.result c.args.news.now
-    (from_block c.args.layer.level c.args.layer.has_level.1 c.args.news.now c.requires.order c.requires.pixels c.in_ok-leaf.leaf.block
+add_delta-requires-clause-order g c _ =
+    InOrder-take c.in_ok-leaf.leaf.block c.count_in-count.result c.args.news.now
+    (block_order c.args.layer.level c.args.layer.has_level.1 c.args.news.now c.requires.order c.requires.pixels c.in_ok-leaf.leaf.block
     c.in_ok-leaf.ensures.block _ c.in_ok-leaf.ensures.holds)
 
 pub returns-then-has_common-clause-taken : goal.returns-then-has_common-clause-taken

@@ -18,9 +18,9 @@ use Rattle.quilt_points.proofs.scatter.grown.Goals as goal
 pub loop-done-init : goal.loop-done-init
 loop-done-init g c = record {
   grown = λ old h.
-      subst (λ (l : List Record). IsGrown c.args.layer.level c.args.layer.number c.args.layer.bucket old [] c.args.news.now l c.new-2.result.items)
-      (sym c.new.ensures.items)
-      (subst (IsGrown c.args.layer.level c.args.layer.number c.args.layer.bucket old [] c.args.news.now []) (sym c.new-2.ensures.items)
+      subst (λ (l : List Record). IsGrown c.args.layer.level c.args.layer.number c.args.layer.bucket old [] c.args.news.now l c.in-Ok.delta.with.items)
+      (sym c.in-Ok.ensures.without)
+      (subst (IsGrown c.args.layer.level c.args.layer.number c.args.layer.bucket old [] c.args.news.now []) (sym c.in-Ok.ensures.with)
       (grown_none c.args.layer.level c.args.layer.number c.args.layer.bucket old c.args.news.now));
   most = omega arith;
   reads = reads_none ((12 + 3 * c.args.layer.bucket) * 0) _;

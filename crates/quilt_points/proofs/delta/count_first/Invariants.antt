@@ -1,6 +1,6 @@
 use Rattle.std.proofs.Common.{◌≡◌, true, take, All}
 use Rattle.quilt_types.specs.Plane.{in_block}
-use Rattle.quilt_points.proofs.delta.count_in.Given as goal
+use Rattle.quilt_points.proofs.delta.count_first.Given as goal
 
 abbrev pub invariant-loop-p : goal.invariant-loop-p
 invariant-loop-p l = record {
