@@ -34,12 +34,12 @@ cuts_of_one : (n : ℕ) (g : Grid) (q : Block) (k : ℕ) → is_uniform n g q �
 cuts_of_one n g q zero u = refl
 cuts_of_one n g q (suc k) u = ap (λ t. length (cond t (q ∷ []) (flat_map (cut (is_uniform n g) k) (quarters_of q)))) u
 
-cuts_of : (n : ℕ) (g : Grid) (q : Block) (t : Tally) (k : ℕ) → IsBlock n q → q.side ≡ side k → IsTally n g q t
+pub cuts_of : (n : ℕ) (g : Grid) (q : Block) (t : Tally) (k : ℕ) → IsBlock n q → q.side ≡ side k → IsTally n g q t
     → length (cut (is_uniform n g) k q) ≡ size_of t
 cuts_of n g q (One c) k hq s is = cuts_of_one n g q k (uniform-from_HasColour n g q c.0 hq is)
 cuts_of n g q (Many m) k hq s is = is.leaves.cut_into k s
 
-four_lengths : (us vs ws xs : List Block) → length (us ++ (vs ++ (ws ++ (xs ++ [])))) ≡ length us + length vs + length ws + length xs
+pub four_lengths : (us vs ws xs : List Block) → length (us ++ (vs ++ (ws ++ (xs ++ [])))) ≡ length us + length vs + length ws + length xs
 four_lengths us vs ws xs =
     let a = length-append us (vs ++ (ws ++ (xs ++ []))) in
     let b = length-append vs (ws ++ (xs ++ [])) in

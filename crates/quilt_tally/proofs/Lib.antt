@@ -1,2 +1,4 @@
+pub mod Few
 pub mod Joining
 pub mod Quarters
+pub mod Room

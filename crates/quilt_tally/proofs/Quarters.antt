@@ -1,5 +1,5 @@
 -- The leaves of a square, and of a block whose quarters are tallied one after another.
-use Rattle.std.proofs.Common.{◌≡◌, ℕ, ◌+◌, ◌<◌, ◌≤◌, List, length, get_or, set, Contains, ⊎_elim, sym, ◌∙◌, ap, subst, arith}
+use Rattle.std.proofs.Common.{◌≡◌, ℕ, ◌+◌, ◌<◌, ◌≤◌, List, length, get_or, set, ⊎_elim, sym, ◌∙◌, ap, subst, arith}
 use Rattle.std.proofs.lemmas.Bool.{cases_lt}
 use Rattle.std.proofs.lemmas.List.{get_or_default, get_or-set_same, get_or-set_other, length-set}
 use Rattle.quilt_types.specs.declared.plane.Block.{Block}
@@ -9,7 +9,7 @@ use Rattle.quilt_blocks.specs.Cutting.{leaves_by_code}
 use Rattle.quilt_blocks.proofs.Adding.{IsPart, part_at}
 use Rattle.quilt_tally.specs.declared.tally.Tally.{Tally}
 use Rattle.quilt_tally.specs.declared.tally.Tally.TheVariants.{Many}
-use Rattle.quilt_tally.specs.Tallies.{size_of, HasLeaves, IsTally, AreTallies}
+use Rattle.quilt_tally.specs.Tallies.{size_of, HasLeaves, HasPast, IsTally, AreTallies}
 use Rattle.quilt_tally.proofs.Joining.{part_over, list_leaves, tally_leaves}
 
 abbrev pub nowhere : Block
@@ -80,3 +80,7 @@ whole_leaves n g b t is h = tally_leaves n g t (subst (λ (q : Block). IsTally n
 pub whole_over : (n : ℕ) (g : Grid) (b : Block) (most : ℕ) → b ≡ whole n → ((k : ℕ) → HasLeaves n g b k → most < k) → most < length (leaves_by_code n g)
 whole_over n g b most is over =
     over (length (leaves_by_code n g)) (subst (λ (q : Block). HasLeaves n g q (length (leaves_by_code n g))) (sym is) (list_leaves n g))
+
+-- where a quarter has too many leaves, or the square itself, its list has
+pub past_list : (n : ℕ) (g : Grid) (b : Block) (most : ℕ) → b ≡ whole n → HasPast n g b most → most < length (leaves_by_code n g)
+past_list n g b most is past = whole_over n g b most is past.over

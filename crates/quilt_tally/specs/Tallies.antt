@@ -1,5 +1,5 @@
 -- What is known of the leaves of a block.
-use Rattle.std.specs.Prelude.{◌≡◌, ℕ, ◌+◌, ◌/◌, false, length}
+use Rattle.std.specs.Prelude.{◌≡◌, ℕ, ◌+◌, ◌/◌, ◌<◌, false, length}
 use Rattle.quilt_types.specs.declared.plane.Block.{Block}
 use Rattle.quilt_types.specs.Plane.{side}
 use Rattle.quilt_types.specs.Layers.{Grid}
@@ -22,6 +22,11 @@ pub record HasLeaves (n : ℕ) (g : Grid) (b : Block) (k : ℕ) : Type 0 where
 pub record IsMixed (n : ℕ) (g : Grid) (b : Block) (k : ℕ) : Type 0 where
   pub mixed : is_uniform n g b ≡ false
   pub leaves : HasLeaves n g b k
+
+-- the block's pixels have two colours, and it has more leaves than the most
+pub record HasPast (n : ℕ) (g : Grid) (b : Block) (most : ℕ) : Type 0 where
+  pub mixed : is_uniform n g b ≡ false
+  pub over : (k : ℕ) → HasLeaves n g b k → most < k
 
 -- the tally is that of the block in the grid of the level
 abbrev pub IsTally : ℕ → Grid → Block → Tally → Type 0

@@ -7,4 +7,4 @@ mod tally;
 
 pub use count::has_few_leaves;
 pub use pixels::Pixels;
-pub use tally::{Tally, is_few, joined};
+pub use tally::{Tally, is_few, joined, room_beside};

@@ -1,9 +1,9 @@
-ghost use Rattle.std.specs.Prelude.{◌≡◌, ◌↔◌, ℕ, ◌+◌, ◌<◌, ◌≤◌, true, IsTrue, IsNone, IfSome};
+ghost use Rattle.std.specs.Prelude.{◌≡◌, ◌↔◌, ℕ, ◌+◌, ◌-◌, ◌<◌, ◌≤◌, true, IsTrue, IsNone, IfSome};
 ghost use Rattle.quilt_types.specs.declared.plane.Block.{Block as BlockValue};
 ghost use Rattle.quilt_types.specs.declared.plane.Colour.{Colour as ColourValue};
 ghost use Rattle.quilt_types.specs.Plane.{IsBlock};
 ghost use Rattle.quilt_types.specs.Layers.{Grid};
-ghost use Rattle.quilt_tally.specs.Tallies.{size_of, IsTally, AreTallies, HasLeaves};
+ghost use Rattle.quilt_tally.specs.Tallies.{size_of, IsTally, AreTallies, HasPast};
 
 use quilt_types::Colour;
 
@@ -29,6 +29,13 @@ pub fn is_few(t: Tally, most: u32) -> bool
     ensures { IsTrue result ↔ (size_of t ≤ most) }
 {
     leaves_in(t) <= most
+}
+
+/// How many leaves there may be beside these, where there may be so many with them.
+pub fn room_beside(t: Tally, most: u32) -> u32
+    ensures { result ≡ most - size_of t }
+{
+    most.saturating_sub(leaves_in(t))
 }
 
 /// Whether it is one leaf of the colour.
@@ -57,7 +64,7 @@ pub fn joined(first: Tally, second: Tally, third: Tally, last: Tally, most: u32)
     ensures some { (n : ℕ) (g : Grid) (b : BlockValue) → n ≤ 12 → IsBlock n b → 1 < b.side → AreTallies n g b first second third last
         → IfSome result (IsTally n g b) }
     ensures none { (n : ℕ) (g : Grid) (b : BlockValue) → n ≤ 12 → IsBlock n b → 1 < b.side → AreTallies n g b first second third last
-        → IsNone result → (k : ℕ) → HasLeaves n g b k → most < k }
+        → IsNone result → HasPast n g b most }
 {
     if let Some(colour) = common_colour(first, second, third, last) {
         return Some(Tally::One(colour));

@@ -34,5 +34,6 @@ returns-clause-some g t c =
     let i = c.loop-place.invariant in c.joined.ensures.some c.args.level _ c.args.square i.few i.block i.wide (tallied_all i _ c.loop-place-test.false)
 
 pub returns-clause-none : goal.returns-clause-none
-returns-clause-none g t c =
-    let i = c.loop-place.invariant in c.joined.ensures.none c.args.level _ c.args.square i.few i.block i.wide (tallied_all i _ c.loop-place-test.false)
+returns-clause-none g t c is =
+    let i = c.loop-place.invariant in
+    (c.joined.ensures.none c.args.level _ c.args.square i.few i.block i.wide (tallied_all i _ c.loop-place-test.false) is).over

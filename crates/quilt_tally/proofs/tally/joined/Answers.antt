@@ -9,13 +9,12 @@ returns-in-Some-clause-some c n g b le hb wide ts =
     joined_one n g b hb wide c.args.first c.args.second c.args.third c.args.last ts c.in-Some.colour is.0 is.1 is.2 is.3
 
 pub returns-then-count-from-clause-none : goal.returns-then-count-from-clause-none
-returns-then-count-from-clause-none c n g b le hb wide ts none k has =
+returns-then-count-from-clause-none c n g b le hb wide ts none =
     let first = c.args.first in
     let second = c.args.second in
     let third = c.args.third in
     let last = c.args.last in
     let mixed = joined_mixed n g b hb wide first second third last ts (c.in_default.ensures.none refl) in
-    let is = joined_count n g b hb wide first second third last ts k mixed has in
     let over = c.if-count-from.true in
     let e0 : c.from.result ≡ c.leaves_in.result = c.from.ensures in
     let e1 : c.from-2.result ≡ c.leaves_in-2.result = c.from-2.ensures in
@@ -26,7 +25,7 @@ returns-then-count-from-clause-none c n g b le hb wide ts none k has =
     let s1 : c.leaves_in-2.result ≡ size_of second = c.leaves_in-2.ensures in
     let s2 : c.leaves_in-3.result ≡ size_of third = c.leaves_in-3.ensures in
     let s3 : c.leaves_in-4.result ≡ size_of last = c.leaves_in-4.ensures in
-    omega arith
+    record { mixed = mixed; over = λ k has. let is = joined_count n g b hb wide first second third last ts k mixed has in omega arith }
 
 pub returns-else-count-from-clause-some : goal.returns-else-count-from-clause-some
 returns-else-count-from-clause-some c n g b le hb wide ts =
