@@ -2,13 +2,13 @@
 use Rattle.std.proofs.Common.{◌≡◌, ℕ, zero, suc, ◌+◌, ◌/◌, ◌^◌, ◌<◌, ◌≤◌, Bool, true, false, cond, List, [], ◌∷◌, length, flat_map, refl, ap, sym, ◌∙◌, arith, pow-suc}
 use Rattle.std.proofs.Math.Nat.{pow-le-pow_right, one-le-pow}
 use Rattle.quilt_types.specs.declared.plane.Block.{Block}
-use Rattle.quilt_types.specs.Plane.{quarters_of, IsBlock}
+use Rattle.quilt_types.specs.Plane.{whole, quarters_of, IsBlock}
 use Rattle.quilt_types.specs.Layers.{Grid}
 use Rattle.quilt_types.specs.Quadtrees.{is_uniform}
 use Rattle.quilt_types.proofs.CodeLaws.{pow_same}
-use Rattle.quilt_blocks.specs.Cutting.{cut}
+use Rattle.quilt_blocks.specs.Cutting.{cut, leaves_by_code}
 use Rattle.quilt_tally.specs.Tallies.{HasLeaves, HasPast}
-use Rattle.quilt_tally.proofs.Joining.{four_lengths}
+use Rattle.quilt_tally.proofs.Joining.{four_lengths, list_leaves}
 
 either_few : (t : Bool) (b : Block) (bs : List Block) (most : ℕ) → 0 < most → length bs ≤ most → length (cond t (b ∷ []) bs) ≤ most
 either_few true b bs most pos le = let one : length (b ∷ []) ≡ 1 = refl in omega arith
@@ -46,4 +46,12 @@ never_past n g b le hb past =
     let over = past.over (length (cut (is_uniform n g) k b)) leaves in
     let few = cuts_few (is_uniform n g) k b in
     let most : 4 ^ k ≤ 4 ^ 12 = pow-le-pow_right (let p : 0 < 4 = omega arith in p) (let l : k ≤ 12 = omega arith in l) in
+    omega arith
+
+-- nor does its list have more
+pub list_few : (n : ℕ) (g : Grid) → n ≤ 12 → length (leaves_by_code n g) ≤ 16777216
+list_few n g le =
+    let cuts = (list_leaves n g).cut_into n refl in
+    let few = cuts_few (is_uniform n g) n (whole n) in
+    let most : 4 ^ n ≤ 4 ^ 12 = pow-le-pow_right (let p : 0 < 4 = omega arith in p) le in
     omega arith
