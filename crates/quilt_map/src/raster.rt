@@ -1,8 +1,5 @@
-ghost use Rattle.std.specs.Prelude.{◌≡◌, ◌≤◌, ◌<◌, ◌*◌, ℕ, true, length, List, [], IfSome, IfOk, IfErr};
+ghost use Rattle.std.specs.Prelude.{◌≡◌, ℕ, List, IfSome, IfOk, IfErr};
 ghost use Rattle.quilt_types.specs.Layers.{Grid, IsGrid, Region};
-ghost use Rattle.quilt_types.specs.Plane.{side};
-ghost use Rattle.quilt_blocks.specs.Cutting.{leaves_by_code};
-ghost use Rattle.quilt_raster.specs.Bytes.{cell_colours};
 ghost use Rattle.quilt_words.specs.Fitting.{IsRows};
 ghost use Rattle.quilt_words.specs.declared.command.Command.TheVariants as commands;
 ghost use Rattle.quilt_store.specs.Stops.{HasStopCause, IsNotDamage};
@@ -19,21 +16,12 @@ use crate::change::{is_past_quota, quota_of};
 use crate::regions::{plan_redraw, region_number};
 use crate::session::Session;
 use quilt_blocks::LeafList;
-use quilt_par::{Gate, has_few_leaves, leaves_of_par};
+use quilt_par::{Gate, few_leaves_of_par};
 use quilt_record::Edits;
 use quilt_replies::{Reply, done_text};
 use quilt_types::{Code, Name, Stop, Text};
 use quilt_world::World;
 use std::thread::Threads;
-
-/// Whether a raster is known to have more leaves than there may be records. Where it has no more pixels its leaves are not counted.
-fn has_past(colours: &[u8], level: u8, quota: u32) -> bool
-    requires most { level ≤ 12 }
-    requires all { length colours.now ≡ 2 * (side level * side level) }
-    ensures { result ≡ true → quota < length (leaves_by_code level (cell_colours colours.now)) }
-{
-    (quota as usize) < colours.len() / 2 && !has_few_leaves(colours, level, quota)
-}
 
 impl<W: World> Session<W> {
     /// Gives the work's region layer with this number the leaves of a list.
@@ -83,12 +71,11 @@ impl<W: World> Session<W> {
                 };
                 let level = self.book.head().level;
                 let colours = rows.bytes();
-                if has_past(colours, level, quota_of(&self.book)) {
-                    return Ok(Reply::No(Code::Full));
-                }
-                match leaves_of_par(rt, gate, self.alloc, colours, level) {
+                let most = quota_of(&self.book);
+                match few_leaves_of_par(rt, gate, self.alloc, colours, level, most) {
                     Err(_) => Err(Stop::Memory),
-                    Ok(list) => self.redraw(number, &list),
+                    Ok(None) => Ok(Reply::No(Code::Full)),
+                    Ok(Some(list)) => self.redraw(number, &list),
                 }
             }
         }

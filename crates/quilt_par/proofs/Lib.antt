@@ -1,2 +1,3 @@
+pub mod Corners
 pub mod Moving
 pub mod Quadrants

@@ -1,6 +1,6 @@
 -- The quadrants of a square, and parts that stand for them.
-use Rattle.std.proofs.Common.{◌≡◌, ℕ, zero, suc, ◌+◌, ◌-◌, ◌*◌, ◌/◌, ◌^◌, ◌<◌, ◌≤◌, List, [], ◌∷◌, length, get_or, sym, ◌∙◌, ap, ap₂, subst, arith}
-use Rattle.std.proofs.Common.{pow_pos, pow-suc}
+use Rattle.std.proofs.Common.{◌≡◌, ℕ, zero, suc, ◌+◌, ◌-◌, ◌*◌, ◌/◌, ◌^◌, ◌<◌, ◌≤◌, List, [], ◌∷◌, length, get_or, refl, sym, ◌∙◌, ap, ap₂, subst, arith, Option, Some, IfSome}
+use Rattle.std.proofs.Common.{pow-suc}
 use Rattle.std.proofs.lemmas.List.{get_or_default}
 use Rattle.quilt_types.specs.declared.plane.Pixel.{Pixel}
 use Rattle.quilt_types.specs.declared.plane.Block.{Block}
@@ -17,10 +17,16 @@ use Rattle.quilt_blocks.specs.Painting.{Painted, grid_by_code}
 use Rattle.quilt_blocks.proofs.Painting.{code_in, colour_at-grid_by_code}
 use Rattle.quilt_blocks.proofs.Adding.{part_at, Adds-then, Adds-change}
 use Rattle.quilt_blocks.proofs.Squares.{code_to-whole}
+use Rattle.quilt_blocks.specs.Cutting.{leaves_by_code}
 use Rattle.quilt_raster.specs.Bytes.{from_corner}
+use Rattle.quilt_tally.specs.declared.tally.Tally.TheVariants.{One}
+use Rattle.quilt_tally.specs.Tallies.{HasPast, AreTallies}
+use Rattle.quilt_tally.proofs.Joining.{part_over}
+use Rattle.quilt_tally.proofs.Quarters.{whole_over}
 use Rattle.quilt_par.specs.declared.part.Part.{Part}
+use Rattle.quilt_par.specs.declared.part.CountedPart.{CountedPart}
 use Rattle.quilt_par.specs.declared.part.Part.TheVariants.{Single, Leaves}
-use Rattle.quilt_par.specs.Parts.{width_of, moved_colour, quadrant_at, part_in, ShowsBlock, ShowAll}
+use Rattle.quilt_par.specs.Parts.{width_of, moved_colour, quadrant_at, part_in, ShowsBlock, IsCounted, ShowAll, at_corner}
 
 abbrev nowhere : Block
 nowhere = record { x = 0; y = 0; side = 0 }
@@ -99,6 +105,35 @@ Shows-pixel n g b c place is half at colour =
           colour ∙ ap (λ z. get_or g z 0) same;
     }
 
+-- a pixel, counted
+pub Counted-pixel : (n : ℕ) (g : Grid) (b : Block) (c : Colour) (place : ℕ) → n ≡ 1 → 2 * b.side ≡ side n → place ≡ 2 * b.y + b.x
+    → c.0 ≡ get_or g place 0 → IsCounted n g b (record { part = Single c; tally = One c })
+Counted-pixel n g b c place is half at colour =
+    let shows = Shows-pixel n g b c place is half at colour in
+    record { shows = shows; tally = record { each = λ p h. sym (shows.each p h) } }
+
+-- the square that lies at the corner of a quadrant is the quadrant
+pub corner_whole : (n k : ℕ) (b w : Block) → n ≡ suc k → 2 * b.side ≡ side n → w ≡ whole k → at_corner (corner b) w ≡ b
+corner_whole n k b w is half same =
+    let s = half_side n k b.side is half in
+    let x : b.x + 0 ≡ b.x = omega arith in
+    let y : b.y + 0 ≡ b.y = omega arith in
+    ap (at_corner (corner b)) same ∙ (λ i. record { x = x i; y = y i; side = sym s i })
+
+-- where a quadrant has too many leaves, the list of the raster has
+pub quadrant_past : (n i : ℕ) (g : Grid) (b : Block) (most : ℕ) → 1 ≤ n → i < 4 → b ≡ quadrant_at n i → HasPast n g b most → most < length (leaves_by_code n g)
+quadrant_past n i g b most some lt is past =
+    let q = quadrant_at n i in
+    let over = (subst (λ (r : Block). HasPast n g r most) is past).over in
+    whole_over n g (whole n) most refl (part_over n g (whole n) q most (IsBlock-whole n) (wide_side n some)
+    (i, lt, get_or_default (quarters_of (whole n)) i q nowhere lt) over)
+
+-- the tallies of all four
+pub AreTallies-four : (n : ℕ) (g : Grid) (a b c d : CountedPart) → IsCounted n g (quadrant_at n 0) a → IsCounted n g (quadrant_at n 1) b
+    → IsCounted n g (quadrant_at n 2) c → IsCounted n g (quadrant_at n 3) d → AreTallies n g (whole n) a.tally b.tally c.tally d.tally
+AreTallies-four n g a b c d ha hb hc hd =
+    record { upper_left = ha.tally; upper_right = hb.tally; lower_left = hc.tally; lower_right = hd.tally }
+
 -- the pixel's place in the raster of level 1
 pub pixel_place : (n : ℕ) (b : Block) → n ≡ 1 → IsBlock n b → 2 * b.y + b.x < side n * side n
 pixel_place n b is h =
@@ -123,6 +158,21 @@ module _ (n : ℕ) (g : Grid) (a b c d : Part) (ha : ShowsBlock n g (quadrant_at
 
   pub ShowAll-four : ShowAll n g (a ∷ b ∷ c ∷ d ∷ [])
   ShowAll-four = record { each = one_of_four }
+
+abbrev pub FourParts : Type 0
+FourParts = (CountedPart × CountedPart) × (CountedPart × CountedPart)
+
+-- four parts that are answered
+pub ShowAll-answered : (n : ℕ) (g : Grid) (o : Option FourParts) (four : FourParts) → o ≡ Some four
+    → IfSome o (λ p. IsCounted n g (quadrant_at n 0) (p.0).0) → IfSome o (λ p. IsCounted n g (quadrant_at n 1) (p.0).1)
+    → IfSome o (λ p. IsCounted n g (quadrant_at n 2) (p.1).0) → IfSome o (λ p. IsCounted n g (quadrant_at n 3) (p.1).1)
+    → ShowAll n g ((four.0).0.part ∷ (four.0).1.part ∷ (four.1).0.part ∷ (four.1).1.part ∷ [])
+ShowAll-answered n g o four is a b c d =
+    ShowAll-four n g (four.0).0.part (four.0).1.part (four.1).0.part (four.1).1.part
+    (subst (λ (r : Option FourParts). IfSome r (λ p. IsCounted n g (quadrant_at n 0) (p.0).0)) is a).shows
+    (subst (λ (r : Option FourParts). IfSome r (λ p. IsCounted n g (quadrant_at n 1) (p.0).1)) is b).shows
+    (subst (λ (r : Option FourParts). IfSome r (λ p. IsCounted n g (quadrant_at n 2) (p.1).0)) is c).shows
+    (subst (λ (r : Option FourParts). IfSome r (λ p. IsCounted n g (quadrant_at n 3) (p.1).1)) is d).shows
 
 pub ShowAll-wide : (n : ℕ) (g : Grid) (parts : List Part) → 1 ≤ n → ShowAll n g parts → (i : ℕ) → i < 4 → 2 * width_of (part_in parts i) ≡ side n
 ShowAll-wide n g parts some all i lt =

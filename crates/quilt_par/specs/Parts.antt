@@ -1,11 +1,17 @@
 -- Parts of a grid, each of which stands for one quadrant of it.
-use Rattle.std.specs.Prelude.{◌≡◌, ◌<◌, ℕ, ◌-◌, List, slice_index_or}
+use Rattle.std.specs.Prelude.{◌≡◌, ◌<◌, ℕ, ◌+◌, ◌-◌, List, slice_index_or}
 use Rattle.quilt_types.specs.declared.plane.Pixel.{Pixel}
 use Rattle.quilt_types.specs.declared.plane.Block.{Block}
 use Rattle.quilt_types.specs.Plane.{side, whole, quarters_of, Holds}
 use Rattle.quilt_types.specs.Layers.{Grid, colour_at}
+use Rattle.quilt_tally.specs.Tallies.{IsTally}
 use Rattle.quilt_par.specs.declared.part.Part.{Part}
+use Rattle.quilt_par.specs.declared.part.CountedPart.{CountedPart}
 use Rattle.quilt_par.specs.declared.part.Part.TheVariants.{Single, Leaves}
+
+-- a block of a square that lies in a raster with its upper left pixel at the corner, as one of the raster
+abbrev pub at_corner : Pixel → Block → Block
+at_corner corner b = record { x = corner.x + b.x; y = corner.y + b.y; side = b.side }
 
 -- how many pixels a part has in a row
 abbrev pub width_of : Part → ℕ
@@ -25,6 +31,11 @@ moved_colour b part p = part_colour part (record { x = p.x - b.x; y = p.y - b.y 
 pub record ShowsBlock (n : ℕ) (g : Grid) (b : Block) (part : Part) : Type 0 where
   pub wide : b.side ≡ width_of part
   pub each : (p : Pixel) → Holds b p → moved_colour b part p ≡ colour_at n g p
+
+-- the same, and the tally is that of the block
+pub record IsCounted (n : ℕ) (g : Grid) (b : Block) (counted : CountedPart) : Type 0 where
+  pub shows : ShowsBlock n g b counted.part
+  pub tally : IsTally n g b counted.tally
 
 -- the quadrants of a square by their numbers from 0 to 3
 abbrev pub quadrant_at : ℕ → ℕ → Block

@@ -8,6 +8,7 @@ ghost use Rattle.quilt_par.specs.Parts.{width_of, moved_colour, part_in, ShowAll
 
 use crate::square::quadrant;
 use quilt_blocks::{Cursor, LeafList, Maker};
+use quilt_tally::Tally;
 use quilt_types::{Block, Colour};
 use std::alloc::{AllocError, Global};
 
@@ -18,6 +19,13 @@ pub enum Part {
     Single(Colour),
     /// The leaves of a square of the level below.
     Leaves(LeafList),
+}
+
+/// What a raster has in a quadrant, and what is known of its leaves.
+#[derive(Drop)]
+pub struct CountedPart {
+    pub part: Part,
+    pub tally: Tally,
 }
 
 /// The leaves of the square whose quadrants the parts are, in the order of their codes.

@@ -1,21 +1,10 @@
-use Rattle.std.proofs.Common.{◌*◌}
-use Rattle.quilt_types.specs.Plane.{side}
+use Rattle.std.proofs.Common.{is_some, ap, arith}
+use Rattle.quilt_tally.proofs.Few.{list_few}
 use Rattle.quilt_raster.specs.Bytes.{cell_colours}
-use Rattle.quilt_raster.proofs.Bytes.{length-colours_of_bytes}
-use Rattle.quilt_par.proofs.Quadrants.{ShowAll-four, ShowAll-wide}
 use Rattle.quilt_par.proofs.join.leaves_of_par.Goals as goal
 
-pub merged-requires-clause-wide : goal.merged-requires-clause-wide
-merged-requires-clause-wide g c =
-    let n = c.args.level in
-    let grid = cell_colours c.args.colours.now in
-    let e = c.in_ok-first.ensures in
-    ShowAll-wide n grid _ c.requires.least (ShowAll-four n grid _ _ _ _ e.first e.second e.third e.fourth)
-
-pub returns : goal.returns
-returns g c =
-    let n = c.args.level in
-    let grid = cell_colours c.args.colours.now in
-    let e = c.in_ok-first.ensures in
-    c.merged.ensures grid (length-colours_of_bytes (side n * side n) c.args.colours.now c.requires.all)
-    (ShowAll-four n grid _ _ _ _ e.first e.second e.third e.fourth)
+pub unreachable-requires : goal.unreachable-requires
+unreachable-requires g c =
+    let over = c.in_ok-list.ensures.none.0 (ap is_some c.in-None.is) in
+    let few = list_few c.args.level (cell_colours c.args.colours.now) c.requires.most in
+    omega arith

@@ -1,4 +1,6 @@
-use Rattle.std.proofs.Common.{Some, refl, sym, ◌∙◌, ap}
+use Rattle.std.proofs.Common.{◌≡◌, Some, is_some, refl, sym, ◌∙◌, ap}
+use Rattle.quilt_blocks.specs.Raster.{Raster}
+use Rattle.quilt_map.proofs.plans.Planned.{some_of}
 use Rattle.quilt_types.specs.declared.code.Code.TheVariants as no
 use Rattle.quilt_words.specs.declared.command.Command.TheVariants as commands
 use Rattle.quilt_replies.specs.Answers.{Refused}
@@ -35,11 +37,11 @@ returns-in_default-clause-answer g c = λ s at.
 pub returns-in_default-clause-goes_on : goal.returns-in_default-clause-goes_on
 returns-in_default-clause-goes_on g c = goes_here {D = g.W.Disk} c.args.self.now.book
 
-pub returns-then-has_past-clause-goes_on : goal.returns-then-has_past-clause-goes_on
-returns-then-has_past-clause-goes_on g c = goes_here {D = g.W.Disk} c.args.self.now.book
+pub returns-in-Ok-None-clause-goes_on : goal.returns-in-Ok-None-clause-goes_on
+returns-in-Ok-None-clause-goes_on g c = goes_here {D = g.W.Disk} c.args.self.now.book
 
-pub returns-then-has_past-clause-answer : goal.returns-then-has_past-clause-answer
-returns-then-has_past-clause-answer g c = λ s at.
+pub returns-in-Ok-None-clause-answer : goal.returns-in-Ok-None-clause-answer
+returns-in-Ok-None-clause-answer g c = λ s at.
     let old = c.args.self.now in
     let name = c.args.name.now in
     let region =
@@ -48,14 +50,14 @@ returns-then-has_past-clause-answer g c = λ s at.
     let there = c.in-Some.is ∙ ap Some (sym c.bytes-colours.ensures) in
     let level = ap (λ (h : Head). h.level) c.head-level.ensures.work ∙ level_is {D = g.W.Disk} old s at in
     raster_answered {D = g.W.Disk} old old s name bytes c.args.rows.now region.0 (cell_colours bytes) _ region.1.got there (same_colours bytes)
-    (past_refused {D = g.W.Disk} old s at name (cell_colours bytes) c.head-level.result.level c.quota_of.result c.quota_of.ensures level
-    (c.has_past.ensures c.if-has_past.true))
+    (past_refused {D = g.W.Disk} old s at name (cell_colours bytes) c.head-level.result.level c.quota_of-most.result c.quota_of-most.ensures level
+    (c.in-Ok-None.ensures.none.0 (ap is_some c.in-Ok-None.field-0-is)))
 
-pub returns-in-Err-leaves_of_par-clause-goes_on : goal.returns-in-Err-leaves_of_par-clause-goes_on
-returns-in-Err-leaves_of_par-clause-goes_on g c = goes_here {D = g.W.Disk} c.args.self.now.book
+pub returns-in-Err-few_leaves_of_par-clause-goes_on : goal.returns-in-Err-few_leaves_of_par-clause-goes_on
+returns-in-Err-few_leaves_of_par-clause-goes_on g c = goes_here {D = g.W.Disk} c.args.self.now.book
 
-pub returns-in-Ok-leaves_of_par-clause-answer : goal.returns-in-Ok-leaves_of_par-clause-answer
-returns-in-Ok-leaves_of_par-clause-answer g c =
+pub returns-in-Ok-Some-clause-answer : goal.returns-in-Ok-Some-clause-answer
+returns-in-Ok-Some-clause-answer g c =
     if_ok _ _ c.redraw.result (λ reply p s at.
     let old = c.args.self.now in
     let name = c.args.name.now in
@@ -63,14 +65,16 @@ returns-in-Ok-leaves_of_par-clause-answer g c =
     region_in s.work at.work.numbers c.entries.result.now old.catalog name c.in-Ok.number c.entries.ensures.entries at.work.catalog c.in-Ok.ensures.found in
     let bytes = c.bytes-colours.result.now in
     let there = c.in-Some.is ∙ ap Some (sym c.bytes-colours.ensures) in
-    let list = c.in-Ok-leaves_of_par.list in
-    let same = list_grid list c.head-level.result.level bytes c.in-Ok-leaves_of_par.ensures in
+    let list = c.in-Ok-Some.list in
+    let n = c.head-level.result.level in
+    let same = list_grid list n bytes
+    (some_of (λ (l : Raster). l ≡ record { level = n; grid = cell_colours bytes }) c.in-Ok-Some.field-0 list c.in-Ok-Some.field-0-is c.in-Ok-Some.ensures.some) in
     let are = some_rows old.book.work.format old.book.last.level c.args.rows.now bytes there c.requires.rows in
     raster_answered {D = g.W.Disk} old c.redraw.new.self s name bytes c.args.rows.now region.0 list.grid reply region.1.got there same
     (p s at name region.0 region.1 (rows_at {D = g.W.Disk} old s bytes list.grid at are same))) c.redraw.ensures.redrawn
 
-pub returns-in-Ok-leaves_of_par-clause-sound : goal.returns-in-Ok-leaves_of_par-clause-sound
-returns-in-Ok-leaves_of_par-clause-sound g c =
+pub returns-in-Ok-Some-clause-sound : goal.returns-in-Ok-Some-clause-sound
+returns-in-Ok-Some-clause-sound g c =
     if_err _ _ c.redraw.result (λ e p s at.
     let old = c.args.self.now in
     let name = c.args.name.now in
@@ -78,7 +82,9 @@ returns-in-Ok-leaves_of_par-clause-sound g c =
     region_in s.work at.work.numbers c.entries.result.now old.catalog name c.in-Ok.number c.entries.ensures.entries at.work.catalog c.in-Ok.ensures.found in
     let bytes = c.bytes-colours.result.now in
     let there = c.in-Some.is ∙ ap Some (sym c.bytes-colours.ensures) in
-    let list = c.in-Ok-leaves_of_par.list in
-    let same = list_grid list c.head-level.result.level bytes c.in-Ok-leaves_of_par.ensures in
+    let list = c.in-Ok-Some.list in
+    let n = c.head-level.result.level in
+    let same = list_grid list n bytes
+    (some_of (λ (l : Raster). l ≡ record { level = n; grid = cell_colours bytes }) c.in-Ok-Some.field-0 list c.in-Ok-Some.field-0-is c.in-Ok-Some.ensures.some) in
     let are = some_rows old.book.work.format old.book.last.level c.args.rows.now bytes there c.requires.rows in
     p s at name region.0 region.1 (rows_at {D = g.W.Disk} old s bytes list.grid at are same)) c.redraw.ensures.sound
