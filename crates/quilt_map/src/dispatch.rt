@@ -102,7 +102,7 @@ impl<W: World> Session<W> {
             Command::Publish => self.publish(),
             Command::Upgrade => self.upgrade(),
             Command::Revert => self.revert(),
-            Command::Polygon { c, colour, rings } => self.polygon(c, *colour, rings),
+            Command::Polygon { a, c, rings } => self.polygon(a, *c, rings),
             Command::Rank { l, .. } => self.ask_lines(command, l),
             Command::Crossings { l, m } => self.crossings(rt, l, m),
         }

@@ -2,13 +2,13 @@ ghost use Rattle.std.specs.Prelude.{◌≡◌, ◌≤◌, ◌<◌, ◌+◌, ◌*
 ghost use Rattle.std.specs.Prelude.{IfSome};
 ghost use Rattle.std.specs.List.{list_all};
 ghost use Rattle.quilt_words.specs.Spelling.{number, is_digit, is_spelled, value_of};
-ghost use Rattle.quilt_words.specs.Table.{A_name, A_number, A_signed, Called, Number, Signed, coordinate, extent};
+ghost use Rattle.quilt_words.specs.Table.{A_name, A_number, A_signed, Called, Number, Signed, colour, coordinate, extent};
 ghost use Rattle.quilt_words.specs.Forms.{argument_value};
 ghost use Rattle.quilt_words.specs.Parsing.{ReadsOne};
 ghost use Rattle.quilt_words.specs.Fitting.{IsWithin};
 ghost use Rattle.quilt_types.specs.Layers.{colours};
 
-use quilt_types::{Code, Name};
+use quilt_types::{Code, Colour, Name};
 use std::str;
 
 /// The name that a word is.
@@ -123,6 +123,22 @@ pub fn parse_signed(word: &[u8]) -> Result<i32, Code>
         Some(n) => Ok(n as i32),
         None => Err(Code::Number),
     }
+}
+
+/// A number from 1 to `high`.
+pub fn parse_few(high: u8, word: &[u8]) -> Result<u8, Code>
+    ensures { ReadsOne Number result (argument_value (A_number 1 high) word.now) }
+{
+    let n = parse_number(1, u32::from(high), word)?;
+    Ok(n as u8)
+}
+
+/// A colour of the format.
+pub fn parse_colour(format: u8, word: &[u8]) -> Result<Colour, Code>
+    ensures { ReadsOne (λ c. Number c.0) result (argument_value (colour format) word.now) }
+{
+    let n = parse_number(0, most_colour(format), word)?;
+    Ok(Colour(n as u16))
 }
 
 /// The greatest colour of a format.

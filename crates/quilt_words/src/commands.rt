@@ -1,18 +1,17 @@
 //! The command that a word makes of the words behind it.
 ghost use Rattle.std.specs.Prelude.{◌≡◌, ◌≤◌, ◌-◌, ◌%◌, ◌==◌, true, ℕ, [], ◌∷◌, map, length, codes};
-ghost use Rattle.quilt_words.specs.Table.{Further, spelling, map_spelling, region_spelling, algebra_spelling, point_spelling, line_spelling};
+ghost use Rattle.quilt_words.specs.Table.{Further, spelling};
 ghost use Rattle.quilt_words.specs.Made.{formed, row_formed, recoloured_command, command_made, spelled_by};
 
-use crate::arguments::most_colour;
-use crate::command::{AlgebraWord, LineWord, MapWord, PointWord, RegionWord, Word};
+use crate::command::Word;
 use crate::recolour::recolour_command;
 use crate::shapes::{
-    name_id_segment, name_number, name_number_rings, name_pixel, name_pixel_number,
-    name_radius_name, name_shift_name, name_window, name_window_name, name_window_number, nothing,
-    one_name, three_names, two_names,
+    name_colour, name_colour_rings, name_few, name_id_segment, name_number, name_pixel,
+    name_pixel_colour, name_pixel_number, name_radius_name, name_shift_name, name_window,
+    name_window_colour, name_window_name, nothing, one_name, three_names, two_names,
 };
 use crate::{Command, FurtherLines};
-use quilt_types::{Code, Colour};
+use quilt_types::Code;
 
 /// The command that a word makes of the words behind it, and of what further lines spell, which goes into the command.
 pub fn command(
@@ -24,66 +23,65 @@ pub fn command(
     ensures { formed format (spelled_by further.old) (spelling word) (map (λ w. w.now) words.now) ≡ result }
 {
     match word {
-        Word::Map(word) => map_command(format, word, words),
-        Word::Region(word) => region_command(format, word, words, further),
-        Word::Algebra(word) => algebra_command(format, word, words),
-        Word::Point(word) => point_command(word, words, further),
-        Word::Line(word) => line_command(word, words),
-    }
-}
-
-fn map_command(format: u8, word: MapWord, words: &[&[u8]]) -> Result<Command, Code>
-    ensures { (more : Further) → formed format more (map_spelling word) (map (λ w. w.now) words.now) ≡ result }
-{
-    match word {
-        MapWord::Region => {
-            let (a, c) = name_number(words, 0, most_colour(format))?;
-            Ok(Command::Region {
-                a,
-                c: Colour(c as u16),
-            })
-        }
-        MapWord::Lines => {
-            let (l, t) = name_number(words, 1, 32)?;
-            Ok(Command::Lines { l, t: t as u8 })
-        }
-        MapWord::Drop => {
+        Word::Region => name_colour(format, words).map(|(a, c)| Command::Region { a, c }),
+        Word::Points => points_command(words),
+        Word::Lines => name_few(words, 32).map(|(l, t)| Command::Lines { l, t }),
+        Word::Drop => one_name(words).map(|a| Command::Drop { a }),
+        Word::Copy => two_names(words).map(|(a, b)| Command::Copy { a, b }),
+        Word::Layers => nothing(words).map(|_| Command::Layers),
+        Word::Blocks => one_name(words).map(|a| Command::Blocks { a }),
+        Word::Records => nothing(words).map(|_| Command::Records),
+        Word::Set => name_pixel_colour(format, words).map(|(a, at, c)| Command::Set { a, at, c }),
+        Word::Rect => name_window_colour(format, words).map(|(a, w, c)| Command::Rect { a, w, c }),
+        Word::Raster => {
             let a = one_name(words)?;
-            Ok(Command::Drop { a })
+            let rows = further.rows.take();
+            Ok(Command::Raster { a, rows })
         }
-        MapWord::Copy => {
-            let (a, b) = two_names(words)?;
-            Ok(Command::Copy { a, b })
+        Word::At => name_pixel(words).map(|(a, at)| Command::At { a, at }),
+        Word::Show => name_window(words).map(|(a, w)| Command::Show { a, w }),
+        Word::Leaves => one_name(words).map(|a| Command::Leaves { a }),
+        Word::Union => three_names(words).map(|(a, b, c)| Command::Union { a, b, c }),
+        Word::Inter => three_names(words).map(|(a, b, c)| Command::Inter { a, b, c }),
+        Word::Diff => three_names(words).map(|(a, b, c)| Command::Diff { a, b, c }),
+        Word::Recolour => recolour_command(format, words),
+        Word::Window => name_window_name(words).map(|(a, w, c)| Command::Window { a, w, c }),
+        Word::Shift => name_shift_name(words).map(|(a, dx, dy, c)| Command::Shift { a, dx, dy, c }),
+        Word::Buffer => name_radius_name(words).map(|(a, r, c)| Command::Buffer { a, r, c }),
+        Word::Area => name_colour(format, words).map(|(a, c)| Command::Area { a, c }),
+        Word::Perimeter => name_colour(format, words).map(|(a, c)| Command::Perimeter { a, c }),
+        Word::Put => {
+            let (p, at, label) = name_pixel_number(words, 0, u32::MAX)?;
+            Ok(Command::Put { p, at, label })
         }
-        MapWord::Blocks => {
-            let a = one_name(words)?;
-            Ok(Command::Blocks { a })
+        Word::Del => name_pixel(words).map(|(p, at)| Command::Del { p, at }),
+        Word::Scatter => {
+            let (p, _) = name_number(words, 1, 100_000)?;
+            let points = further.points.take();
+            Ok(Command::Scatter { p, points })
         }
-        MapWord::Points => points_command(words),
-        MapWord::Layers => {
-            nothing(words)?;
-            Ok(Command::Layers)
+        Word::Find => name_pixel(words).map(|(p, at)| Command::Find { p, at }),
+        Word::Within => name_window(words).map(|(p, w)| Command::Within { p, w }),
+        Word::Line => name_id_segment(words).map(|(l, id, seg)| Command::Line { l, id, seg }),
+        Word::Unline => name_number(words, 0, u32::MAX).map(|(l, id)| Command::Unline { l, id }),
+        Word::Cross => name_window(words).map(|(l, w)| Command::Cross { l, w }),
+        Word::Clip => name_window(words).map(|(l, w)| Command::Clip { l, w }),
+        Word::Nearest => name_pixel(words).map(|(l, at)| Command::Nearest { l, at }),
+        Word::Over => two_names(words).map(|(l, a)| Command::Over { l, a }),
+        Word::Edition => nothing(words).map(|_| Command::Edition),
+        Word::Publish => nothing(words).map(|_| Command::Publish),
+        Word::Upgrade => nothing(words).map(|_| Command::Upgrade),
+        Word::Revert => nothing(words).map(|_| Command::Revert),
+        Word::Polygon => {
+            let (a, c, _) = name_colour_rings(format, words)?;
+            let rings = further.rings.take();
+            Ok(Command::Polygon { a, c, rings })
         }
-        MapWord::Records => {
-            nothing(words)?;
-            Ok(Command::Records)
+        Word::Rank => {
+            let (l, at, k) = name_pixel_number(words, 1, 100_000)?;
+            Ok(Command::Rank { l, at, k })
         }
-        MapWord::Edition => {
-            nothing(words)?;
-            Ok(Command::Edition)
-        }
-        MapWord::Publish => {
-            nothing(words)?;
-            Ok(Command::Publish)
-        }
-        MapWord::Upgrade => {
-            nothing(words)?;
-            Ok(Command::Upgrade)
-        }
-        MapWord::Revert => {
-            nothing(words)?;
-            Ok(Command::Revert)
-        }
+        Word::Crossings => two_names(words).map(|(l, m)| Command::Crossings { l, m }),
     }
 }
 
@@ -91,184 +89,7 @@ fn points_command(words: &[&[u8]]) -> Result<Command, Code>
     ensures { (f : ℕ) (more : Further) → formed f more (codes "points") (map (λ w. w.now) words.now) ≡ result }
 {
     if words.len() == 1 {
-        let p = one_name(words)?;
-        return Ok(Command::Points { p, bucket: 1 });
+        return one_name(words).map(|p| Command::Points { p, bucket: 1 });
     }
-    let (p, bucket) = name_number(words, 1, 16)?;
-    Ok(Command::Points {
-        p,
-        bucket: bucket as u8,
-    })
-}
-
-fn region_command(
-    format: u8,
-    word: RegionWord,
-    words: &[&[u8]],
-    further: &mut FurtherLines,
-) -> Result<Command, Code>
-    ensures { formed format (spelled_by further.old) (region_spelling word) (map (λ w. w.now) words.now) ≡ result }
-{
-    let most = most_colour(format);
-    match word {
-        RegionWord::Set => {
-            let (a, at, c) = name_pixel_number(words, 0, most)?;
-            Ok(Command::Set {
-                a,
-                at,
-                c: Colour(c as u16),
-            })
-        }
-        RegionWord::Rect => {
-            let (a, w, c) = name_window_number(words, 0, most)?;
-            Ok(Command::Rect {
-                a,
-                w,
-                c: Colour(c as u16),
-            })
-        }
-        RegionWord::Raster => {
-            let a = one_name(words)?;
-            let rows = further.rows.take();
-            Ok(Command::Raster { a, rows })
-        }
-        RegionWord::At => {
-            let (a, at) = name_pixel(words)?;
-            Ok(Command::At { a, at })
-        }
-        RegionWord::Show => {
-            let (a, w) = name_window(words)?;
-            Ok(Command::Show { a, w })
-        }
-        RegionWord::Leaves => {
-            let a = one_name(words)?;
-            Ok(Command::Leaves { a })
-        }
-        RegionWord::Area => {
-            let (a, c) = name_number(words, 0, most)?;
-            Ok(Command::Area {
-                a,
-                c: Colour(c as u16),
-            })
-        }
-        RegionWord::Perimeter => {
-            let (a, c) = name_number(words, 0, most)?;
-            Ok(Command::Perimeter {
-                a,
-                c: Colour(c as u16),
-            })
-        }
-        RegionWord::Polygon => {
-            let (c, colour, _) = name_number_rings(words, 0, most)?;
-            let rings = further.rings.take();
-            Ok(Command::Polygon {
-                c,
-                colour: Colour(colour as u16),
-                rings,
-            })
-        }
-    }
-}
-
-fn algebra_command(format: u8, word: AlgebraWord, words: &[&[u8]]) -> Result<Command, Code>
-    ensures { (more : Further) → formed format more (algebra_spelling word) (map (λ w. w.now) words.now) ≡ result }
-{
-    match word {
-        AlgebraWord::Union => {
-            let (a, b, c) = three_names(words)?;
-            Ok(Command::Union { a, b, c })
-        }
-        AlgebraWord::Inter => {
-            let (a, b, c) = three_names(words)?;
-            Ok(Command::Inter { a, b, c })
-        }
-        AlgebraWord::Diff => {
-            let (a, b, c) = three_names(words)?;
-            Ok(Command::Diff { a, b, c })
-        }
-        AlgebraWord::Window => {
-            let (a, w, c) = name_window_name(words)?;
-            Ok(Command::Window { a, w, c })
-        }
-        AlgebraWord::Shift => {
-            let (a, dx, dy, c) = name_shift_name(words)?;
-            Ok(Command::Shift { a, dx, dy, c })
-        }
-        AlgebraWord::Buffer => {
-            let (a, r, c) = name_radius_name(words)?;
-            Ok(Command::Buffer { a, r, c })
-        }
-        AlgebraWord::Recolour => recolour_command(format, words),
-    }
-}
-
-fn point_command(
-    word: PointWord,
-    words: &[&[u8]],
-    further: &mut FurtherLines,
-) -> Result<Command, Code>
-    ensures { (f : ℕ) → formed f (spelled_by further.old) (point_spelling word) (map (λ w. w.now) words.now) ≡ result }
-{
-    match word {
-        PointWord::Put => {
-            let (p, at, label) = name_pixel_number(words, 0, u32::MAX)?;
-            Ok(Command::Put { p, at, label })
-        }
-        PointWord::Del => {
-            let (p, at) = name_pixel(words)?;
-            Ok(Command::Del { p, at })
-        }
-        PointWord::Scatter => {
-            let (p, _) = name_number(words, 1, 100_000)?;
-            let points = further.points.take();
-            Ok(Command::Scatter { p, points })
-        }
-        PointWord::Find => {
-            let (p, at) = name_pixel(words)?;
-            Ok(Command::Find { p, at })
-        }
-        PointWord::Within => {
-            let (p, w) = name_window(words)?;
-            Ok(Command::Within { p, w })
-        }
-    }
-}
-
-fn line_command(word: LineWord, words: &[&[u8]]) -> Result<Command, Code>
-    ensures { (f : ℕ) (more : Further) → formed f more (line_spelling word) (map (λ w. w.now) words.now) ≡ result }
-{
-    match word {
-        LineWord::Line => {
-            let (l, id, seg) = name_id_segment(words)?;
-            Ok(Command::Line { l, id, seg })
-        }
-        LineWord::Unline => {
-            let (l, id) = name_number(words, 0, u32::MAX)?;
-            Ok(Command::Unline { l, id })
-        }
-        LineWord::Cross => {
-            let (l, w) = name_window(words)?;
-            Ok(Command::Cross { l, w })
-        }
-        LineWord::Clip => {
-            let (l, w) = name_window(words)?;
-            Ok(Command::Clip { l, w })
-        }
-        LineWord::Nearest => {
-            let (l, at) = name_pixel(words)?;
-            Ok(Command::Nearest { l, at })
-        }
-        LineWord::Over => {
-            let (l, a) = two_names(words)?;
-            Ok(Command::Over { l, a })
-        }
-        LineWord::Rank => {
-            let (l, at, k) = name_pixel_number(words, 1, 100_000)?;
-            Ok(Command::Rank { l, at, k })
-        }
-        LineWord::Crossings => {
-            let (l, m) = two_names(words)?;
-            Ok(Command::Crossings { l, m })
-        }
-    }
+    name_few(words, 16).map(|(p, bucket)| Command::Points { p, bucket })
 }

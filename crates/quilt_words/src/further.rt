@@ -2,7 +2,7 @@
 ghost use Rattle.std.specs.Prelude.{◌≡◌, [], ◌∷◌, ◌++◌, None, IfOk, IsOk, OnOk};
 ghost use Rattle.quilt_words.specs.Made.{further_of, nothing_further, spelled_by};
 
-use crate::Item;
+use crate::{Item, Rings};
 use quilt_types::{Corner, PointList, RingList, Text};
 use std::alloc::{AllocError, Global};
 
@@ -15,7 +15,7 @@ pub struct FurtherLines {
     /// The points of list lines.
     pub points: Option<PointList>,
     /// The rings of ring lines.
-    pub rings: Option<RingList>,
+    pub rings: Rings,
 }
 
 impl FurtherLines {

@@ -1,4 +1,5 @@
-use quilt_types::{PointList, RingList, Text};
+use crate::Rings;
+use quilt_types::{PointList, Text};
 
 /// A line that asks for a reply, with what its further lines spell.
 #[derive(Drop)]
@@ -13,5 +14,5 @@ pub enum Item {
     /// A line that asks for list lines, and their points; none where a line is missing or not well formed.
     PointLines(Text, Option<PointList>),
     /// A line that asks for ring lines, and their rings; none where a line is missing or not well formed.
-    RingLines(Text, Option<RingList>),
+    RingLines(Text, Rings),
 }

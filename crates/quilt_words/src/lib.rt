@@ -15,7 +15,7 @@ mod shapes;
 mod words;
 
 pub use arguments::number_of;
-pub use command::{AlgebraWord, Command, LineWord, MapWord, PointWord, RegionWord, Word};
+pub use command::{Command, Rings, Word};
 pub use further::{FurtherLines, push_ring};
 pub use item::Item;
 pub use pairs::Pairs;

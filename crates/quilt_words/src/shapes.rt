@@ -1,11 +1,13 @@
 //! The arguments of commands, by what they are.
 ghost use Rattle.std.specs.Prelude.{◌≡◌, ◌≤◌, ◌<◌, ◌^◌, ℕ, [], ◌∷◌, map, IfOk};
-ghost use Rattle.quilt_words.specs.Table.{A_name, A_number, A_signed, Called, Number, Signed, coordinate, extent, label};
+ghost use Rattle.quilt_words.specs.Table.{A_name, A_number, A_signed, Called, Number, Signed, colour, coordinate, extent, label};
 ghost use Rattle.quilt_words.specs.Fitting.{IsWithin};
 ghost use Rattle.quilt_words.specs.Parsing.{ReadsAs, counted};
 
-use crate::arguments::{parse_coordinate, parse_extent, parse_name, parse_number, parse_signed};
-use quilt_types::{Code, Name, Pixel, Seg, Window};
+use crate::arguments::{
+    parse_colour, parse_coordinate, parse_extent, parse_few, parse_name, parse_number, parse_signed,
+};
+use quilt_types::{Code, Colour, Name, Pixel, Seg, Window};
 
 /// No arguments.
 pub fn nothing(words: &[&[u8]]) -> Result<(), Code>
@@ -34,9 +36,7 @@ pub fn two_names(words: &[&[u8]]) -> Result<(Name, Name), Code>
     let [a, b] = words else {
         return Err(Code::Count);
     };
-    let a = parse_name(a)?;
-    let b = parse_name(b)?;
-    Ok((a, b))
+    Ok((parse_name(a)?, parse_name(b)?))
 }
 
 /// Three layers.
@@ -46,23 +46,37 @@ pub fn three_names(words: &[&[u8]]) -> Result<(Name, Name, Name), Code>
     let [a, b, c] = words else {
         return Err(Code::Count);
     };
-    let a = parse_name(a)?;
-    let b = parse_name(b)?;
-    let c = parse_name(c)?;
-    Ok((a, b, c))
+    Ok((parse_name(a)?, parse_name(b)?, parse_name(c)?))
 }
 
-/// A layer and a number from `low` to `high`.
-pub fn name_number(words: &[&[u8]], low: u32, high: u32) -> Result<(Name, u32), Code>
-    ensures is { ReadsAs (λ v. Called v.0 ∷ Number v.1 ∷ []) result (counted (A_name ∷ A_number low high ∷ []) (map (λ w. w.now) words.now)) }
-    ensures within { IfOk result (λ v. IsWithin low high v.1) }
+/// A layer and a colour of the format.
+pub fn name_colour(format: u8, words: &[&[u8]]) -> Result<(Name, Colour), Code>
+    ensures { ReadsAs (λ v. Called v.0 ∷ Number v.1.0 ∷ []) result (counted (A_name ∷ colour format ∷ []) (map (λ w. w.now) words.now)) }
+{
+    let [a, c] = words else {
+        return Err(Code::Count);
+    };
+    Ok((parse_name(a)?, parse_colour(format, c)?))
+}
+
+/// A layer and a number from 1 to `high`.
+pub fn name_few(words: &[&[u8]], high: u8) -> Result<(Name, u8), Code>
+    ensures { ReadsAs (λ v. Called v.0 ∷ Number v.1 ∷ []) result (counted (A_name ∷ A_number 1 high ∷ []) (map (λ w. w.now) words.now)) }
 {
     let [a, n] = words else {
         return Err(Code::Count);
     };
-    let a = parse_name(a)?;
-    let n = parse_number(low, high, n)?;
-    Ok((a, n))
+    Ok((parse_name(a)?, parse_few(high, n)?))
+}
+
+/// A layer and a number from `low` to `high`.
+pub fn name_number(words: &[&[u8]], low: u32, high: u32) -> Result<(Name, u32), Code>
+    ensures { ReadsAs (λ v. Called v.0 ∷ Number v.1 ∷ []) result (counted (A_name ∷ A_number low high ∷ []) (map (λ w. w.now) words.now)) }
+{
+    let [a, n] = words else {
+        return Err(Code::Count);
+    };
+    Ok((parse_name(a)?, parse_number(low, high, n)?))
 }
 
 /// A layer and a pixel.
@@ -74,25 +88,34 @@ pub fn name_pixel(words: &[&[u8]]) -> Result<(Name, Pixel), Code>
         return Err(Code::Count);
     };
     let a = parse_name(a)?;
-    let x = parse_coordinate(x)?;
-    let y = parse_coordinate(y)?;
+    let (x, y) = (parse_coordinate(x)?, parse_coordinate(y)?);
     Ok((a, Pixel { x, y }))
+}
+
+/// A layer, a pixel and a colour of the format.
+pub fn name_pixel_colour(format: u8, words: &[&[u8]]) -> Result<(Name, Pixel, Colour), Code>
+    ensures { ReadsAs (λ v. Called v.0 ∷ Number v.1.x ∷ Number v.1.y ∷ Number v.2.0 ∷ []) result
+        (counted (A_name ∷ coordinate ∷ coordinate ∷ colour format ∷ []) (map (λ w. w.now) words.now)) }
+{
+    let [a, x, y, c] = words else {
+        return Err(Code::Count);
+    };
+    let a = parse_name(a)?;
+    let (x, y) = (parse_coordinate(x)?, parse_coordinate(y)?);
+    Ok((a, Pixel { x, y }, parse_colour(format, c)?))
 }
 
 /// A layer, a pixel and a number from `low` to `high`.
 pub fn name_pixel_number(words: &[&[u8]], low: u32, high: u32) -> Result<(Name, Pixel, u32), Code>
-    ensures is { ReadsAs (λ v. Called v.0 ∷ Number v.1.x ∷ Number v.1.y ∷ Number v.2 ∷ []) result
+    ensures { ReadsAs (λ v. Called v.0 ∷ Number v.1.x ∷ Number v.1.y ∷ Number v.2 ∷ []) result
         (counted (A_name ∷ coordinate ∷ coordinate ∷ A_number low high ∷ []) (map (λ w. w.now) words.now)) }
-    ensures within { IfOk result (λ v. IsWithin low high v.2) }
 {
     let [a, x, y, n] = words else {
         return Err(Code::Count);
     };
     let a = parse_name(a)?;
-    let x = parse_coordinate(x)?;
-    let y = parse_coordinate(y)?;
-    let n = parse_number(low, high, n)?;
-    Ok((a, Pixel { x, y }, n))
+    let (x, y) = (parse_coordinate(x)?, parse_coordinate(y)?);
+    Ok((a, Pixel { x, y }, parse_number(low, high, n)?))
 }
 
 /// A layer and a window.
@@ -104,29 +127,23 @@ pub fn name_window(words: &[&[u8]]) -> Result<(Name, Window), Code>
         return Err(Code::Count);
     };
     let a = parse_name(a)?;
-    let x = parse_coordinate(x)?;
-    let y = parse_coordinate(y)?;
-    let w = parse_extent(w)?;
-    let h = parse_extent(h)?;
+    let (x, y) = (parse_coordinate(x)?, parse_coordinate(y)?);
+    let (w, h) = (parse_extent(w)?, parse_extent(h)?);
     Ok((a, Window { x, y, w, h }))
 }
 
-/// A layer, a window and a number from `low` to `high`.
-pub fn name_window_number(words: &[&[u8]], low: u32, high: u32) -> Result<(Name, Window, u32), Code>
-    ensures is { ReadsAs (λ v. Called v.0 ∷ Number v.1.x ∷ Number v.1.y ∷ Number v.1.w ∷ Number v.1.h ∷ Number v.2 ∷ []) result
-        (counted (A_name ∷ coordinate ∷ coordinate ∷ extent ∷ extent ∷ A_number low high ∷ []) (map (λ w. w.now) words.now)) }
-    ensures within { IfOk result (λ v. IsWithin low high v.2) }
+/// A layer, a window and a colour of the format.
+pub fn name_window_colour(format: u8, words: &[&[u8]]) -> Result<(Name, Window, Colour), Code>
+    ensures { ReadsAs (λ v. Called v.0 ∷ Number v.1.x ∷ Number v.1.y ∷ Number v.1.w ∷ Number v.1.h ∷ Number v.2.0 ∷ []) result
+        (counted (A_name ∷ coordinate ∷ coordinate ∷ extent ∷ extent ∷ colour format ∷ []) (map (λ w. w.now) words.now)) }
 {
-    let [a, x, y, w, h, n] = words else {
+    let [a, x, y, w, h, c] = words else {
         return Err(Code::Count);
     };
     let a = parse_name(a)?;
-    let x = parse_coordinate(x)?;
-    let y = parse_coordinate(y)?;
-    let w = parse_extent(w)?;
-    let h = parse_extent(h)?;
-    let n = parse_number(low, high, n)?;
-    Ok((a, Window { x, y, w, h }, n))
+    let (x, y) = (parse_coordinate(x)?, parse_coordinate(y)?);
+    let (w, h) = (parse_extent(w)?, parse_extent(h)?);
+    Ok((a, Window { x, y, w, h }, parse_colour(format, c)?))
 }
 
 /// A layer, a window and a layer.
@@ -138,12 +155,9 @@ pub fn name_window_name(words: &[&[u8]]) -> Result<(Name, Window, Name), Code>
         return Err(Code::Count);
     };
     let a = parse_name(a)?;
-    let x = parse_coordinate(x)?;
-    let y = parse_coordinate(y)?;
-    let w = parse_extent(w)?;
-    let h = parse_extent(h)?;
-    let c = parse_name(c)?;
-    Ok((a, Window { x, y, w, h }, c))
+    let (x, y) = (parse_coordinate(x)?, parse_coordinate(y)?);
+    let (w, h) = (parse_extent(w)?, parse_extent(h)?);
+    Ok((a, Window { x, y, w, h }, parse_name(c)?))
 }
 
 /// A layer, how far to the right and down, and a layer.
@@ -155,10 +169,7 @@ pub fn name_shift_name(words: &[&[u8]]) -> Result<(Name, i32, i32, Name), Code>
         return Err(Code::Count);
     };
     let a = parse_name(a)?;
-    let x = parse_signed(x)?;
-    let y = parse_signed(y)?;
-    let c = parse_name(c)?;
-    Ok((a, x, y, c))
+    Ok((a, parse_signed(x)?, parse_signed(y)?, parse_name(c)?))
 }
 
 /// A layer, a radius and a layer.
@@ -168,25 +179,19 @@ pub fn name_radius_name(words: &[&[u8]]) -> Result<(Name, u16, Name), Code>
     let [a, r, c] = words else {
         return Err(Code::Count);
     };
-    let a = parse_name(a)?;
-    let r = parse_coordinate(r)?;
-    let c = parse_name(c)?;
-    Ok((a, r, c))
+    Ok((parse_name(a)?, parse_coordinate(r)?, parse_name(c)?))
 }
 
-/// A layer, a number from `low` to `high`, and a number of rings.
-pub fn name_number_rings(words: &[&[u8]], low: u32, high: u32) -> Result<(Name, u32, u32), Code>
-    ensures is { ReadsAs (λ v. Called v.0 ∷ Number v.1 ∷ Number v.2 ∷ []) result
-        (counted (A_name ∷ A_number low high ∷ A_number 1 1000 ∷ []) (map (λ w. w.now) words.now)) }
-    ensures within { IfOk result (λ v. IsWithin low high v.1) }
+/// A layer and a colour of the format, before a number of rings.
+pub fn name_colour_rings(format: u8, words: &[&[u8]]) -> Result<(Name, Colour, u32), Code>
+    ensures { ReadsAs (λ v. Called v.0 ∷ Number v.1.0 ∷ Number v.2 ∷ []) result
+        (counted (A_name ∷ colour format ∷ A_number 1 1000 ∷ []) (map (λ w. w.now) words.now)) }
 {
-    let [a, n, k] = words else {
+    let [a, c, k] = words else {
         return Err(Code::Count);
     };
     let a = parse_name(a)?;
-    let n = parse_number(low, high, n)?;
-    let k = parse_number(1, 1000, k)?;
-    Ok((a, n, k))
+    Ok((a, parse_colour(format, c)?, parse_number(1, 1000, k)?))
 }
 
 /// A layer, an id and the ends of a segment.
@@ -197,11 +202,8 @@ pub fn name_id_segment(words: &[&[u8]]) -> Result<(Name, u32, Seg), Code>
     let [a, id, x1, y1, x2, y2] = words else {
         return Err(Code::Count);
     };
-    let a = parse_name(a)?;
-    let id = parse_number(0, u32::MAX, id)?;
-    let x1 = parse_coordinate(x1)?;
-    let y1 = parse_coordinate(y1)?;
-    let x2 = parse_coordinate(x2)?;
-    let y2 = parse_coordinate(y2)?;
+    let (a, id) = (parse_name(a)?, parse_number(0, u32::MAX, id)?);
+    let (x1, y1) = (parse_coordinate(x1)?, parse_coordinate(y1)?);
+    let (x2, y2) = (parse_coordinate(x2)?, parse_coordinate(y2)?);
     Ok((a, id, Seg { x1, y1, x2, y2 }))
 }
