@@ -137,9 +137,13 @@ impl Lines {
             }
             Front::There(line, Asked::Nothing) => {
                 let len = rest.len().min(line + 1);
-                let command = line_command(alloc, format, &rest[..line])?;
-                self.pass(len);
-                Ok(Some(command))
+                match line_command(alloc, format, &rest[..line]) {
+                    Ok(command) => {
+                        self.pass(len);
+                        Ok(Some(command))
+                    }
+                    Err(e) => Err(e),
+                }
             }
             Front::There(line, what) => {
                 if let Some(len) = raster_len(self.level, rest, line, what, ended) {

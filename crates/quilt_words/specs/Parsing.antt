@@ -25,10 +25,10 @@ WantsMemory (Rows line rows) = IsSome rows ⊎ (8 < length (words_of line))
 WantsMemory (PointLines line points) = IsSome points ⊎ (8 < length (words_of line))
 WantsMemory (RingLines line rings) = IsSome rings ⊎ (8 < length (words_of line))
 
--- the values are what the parts of the answer are, or the code is the answer's
-abbrev pub ReadsAs : {A : Type 0} → (A → List Value) → Result A Code → Result (List Value) Code → Type 0
-ReadsAs values (Ok x) r = r ≡ Ok (values x)
-ReadsAs values (Err code) r = r ≡ Err code
+-- the answer is made of parts that have these values, or it is the code
+abbrev pub MakesOf : {A B : Type 0} → (A → List Value) → (A → B → Type 0) → Result B Code → Result (List Value) Code → Type 0
+MakesOf {A} values made (Ok y) r = (x : A) × (r ≡ Ok (values x)) × made x y
+MakesOf values made (Err code) r = r ≡ Err code
 
 -- the value is what the answer is, or the code is the answer's
 abbrev pub ReadsOne : {A : Type 0} → (A → Value) → Result A Code → Result Value Code → Type 0

@@ -6,8 +6,8 @@ use Rattle.quilt_words.proofs.Slices.{behind}
 use Rattle.quilt_lang.proofs.Commands.{given_alone, given_command, given_spelled, given_fits}
 use Rattle.quilt_lang.proofs.lines.Lines.take_command.Goals as goal
 
-pub returns-in_ok-command-in-There-default-Nothing-clause-given : goal.returns-in_ok-command-in-There-default-Nothing-clause-given
-returns-in_ok-command-in-There-default-Nothing-clause-given c =
+pub returns-in-Ok-clause-given : goal.returns-in-Ok-clause-given
+returns-in-Ok-clause-given c =
     let bytes : List ℕ = c.self.inside.bytes.items in
     let from = c.self.inside.from in
     let text : List ℕ = c.args.self.now.rest in
@@ -18,15 +18,15 @@ returns-in_ok-command-in-There-default-Nothing-clause-given c =
     let same : take (length now - from) (drop from now) ≡ text = rw c.deref.ensures.value (behind from bytes ∙ ap (λ (s : Unread). s.rest) c.self.view_is) in
     let first : IsFrontLine c.args.ended n line kinds.Nothing text =
     rw (same, level, c.in-There-default-Nothing.field-1-is) at ((rw c.in-There-default-Nothing.is at c.in_ok-progress.ensures).0) in
-    let form = rw same at c.in_ok-command-in-There-default-Nothing.ensures.form in
-    given_command c.args.ended n c.args.format c.in_ok-command-in-There-default-Nothing.command text (drop c.min-len.result text) _
-    (given_alone c.args.ended n c.args.format c.in_ok-command-in-There-default-Nothing.command text line c.min-len.result first.loud first.cuts
+    let form = rw same at (rw c.in-Ok.is at c.line_command.ensures.form) in
+    given_command c.args.ended n c.args.format c.in-Ok.command text (drop c.min-len.result text) _
+    (given_alone c.args.ended n c.args.format c.in-Ok.command text line c.min-len.result first.loud first.cuts
     (rw same at c.min-len.ensures) (first.asks.number, form n first.asks.number)).1
     c.pass.ensures.passed
 
-pub returns-in_ok-command-in-There-default-Nothing-clause-fitting : goal.returns-in_ok-command-in-There-default-Nothing-clause-fitting
-returns-in_ok-command-in-There-default-Nothing-clause-fitting c =
-    given_fits c.args.ended _ _ _ _ _ (returns-in_ok-command-in-There-default-Nothing-clause-given c)
+pub returns-in-Ok-clause-fitting : goal.returns-in-Ok-clause-fitting
+returns-in-Ok-clause-fitting c =
+    given_fits c.args.ended _ _ _ _ _ (returns-in-Ok-clause-given c)
 
 pub returns-in-Some : goal.returns-in-Some
 returns-in-Some c =
