@@ -46,6 +46,7 @@ pub fn line_command(
 }
 
 /// What the words of a line spell. It takes no memory.
+#[inline(always)]
 fn words_command(format: u8, words: &[&[u8]]) -> Result<Command, Code>
     ensures { form_of_words format nothing_further (map (λ w. w.now) words.now) ≡ result }
 {

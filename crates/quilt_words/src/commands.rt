@@ -14,6 +14,8 @@ use crate::{Command, FurtherLines};
 use quilt_types::Code;
 
 /// The command that a word makes of the words behind it, and of what further lines spell, which goes into the command.
+/// It goes into its one caller, since a command that a call gives back is copied.
+#[inline(always)]
 pub fn command(
     format: u8,
     word: Word,
