@@ -20,7 +20,7 @@ use Rattle.quilt_btree.proofs.batches.Lists.{swap_all, gone_keys}
 use Rattle.quilt_btree.proofs.batches.Whole.{asc_edited}
 use Rattle.std.proofs.lemmas.Bool.{and_parts, and_from}
 
-or_parts : (a b : Bool) → a || b ≡ false → (a ≡ false) × (b ≡ false)
+pub or_parts : (a b : Bool) → a || b ≡ false → (a ≡ false) × (b ≡ false)
 or_parts true b h = cc
 or_parts false b h = (refl, h)
 
@@ -49,13 +49,13 @@ any_each_put (a ∷ comes) r rs over =
     ap (λ b. b || has_any comes (put r rs)) (any_put a.key r rs (lt_not_eq (key_cmp r.key a.key) t.0))
     ∙ ap (λ b. list_any (has_key a.key) rs || b) (any_each_put comes r rs t.1)
 
-any_all_above : (k : Key) (ks : List Key) (rs : List Record) → list_all (is_over k) ks ≡ true
+pub any_all_above : (k : Key) (ks : List Key) (rs : List Record) → list_all (is_over k) ks ≡ true
     → list_any (has_key k) (without_all ks rs) ≡ list_any (has_key k) rs
 any_all_above k [] rs over = refl
 any_all_above k (j ∷ ks) rs over =
     let t = and_parts (is_over k j) (list_all (is_over k) ks) over in any_all_above k ks (without j rs) t.1 ∙ any_without_above j k rs t.0
 
-come_keys : (p : Key → Bool) (run : List Edit) → list_all p (edit_keys run) ≡ true → list_all (λ a. p a.key) (records_put run) ≡ true
+pub come_keys : (p : Key → Bool) (run : List Edit) → list_all p (edit_keys run) ≡ true → list_all (λ a. p a.key) (records_put run) ≡ true
 come_keys p [] h = refl
 come_keys p (edit.Remove k ∷ run) h = come_keys p run (and_parts (p k) (list_all p (edit_keys run)) h).1
 come_keys p (edit.Put r ∷ run) h =

@@ -1,9 +1,9 @@
 -- How a merge of two lists goes on.
-use Rattle.std.proofs.Common.{◌≡◌, ◌+◌, true, false, List, [], ◌∷◌, ◌++◌, drop, length, refl, sym, ◌∙◌, ap, subst, arith}
+use Rattle.std.proofs.Common.{◌≡◌, ◌+◌, true, List, [], ◌∷◌, ◌++◌, drop, refl, sym, ◌∙◌, ap, subst}
 use Rattle.std.specs.List.{list_all}
 use Rattle.std.specs.Ordering.{is_lt}
 use Rattle.std.proofs.Math.Seq.{append_snoc}
-use Rattle.std.proofs.lemmas.List.{append-nil, length-map}
+use Rattle.std.proofs.lemmas.List.{append-nil}
 use Rattle.quilt_record.specs.declared.key.Key.{Key}
 use Rattle.quilt_record.specs.declared.record.Record.{Record}
 use Rattle.quilt_record.specs.Records.{key_cmp}
@@ -13,10 +13,9 @@ use Rattle.quilt_node.specs.Nodes.{keys_of}
 use Rattle.quilt_node.proofs.Ascending.{all_follow, is_over, is_under, ascending_all, ascending_join, ascending_back, ascending_front}
 use Rattle.quilt_btree.specs.declared.edit.Edit.{Edit}
 use Rattle.quilt_btree.specs.declared.edit.Edit.TheVariants as edit
-use Rattle.quilt_btree.specs.Batches.{edit_keys, key_of, removed, records_put, more, fewer}
-use Rattle.quilt_btree.specs.Runs.{without_all, has_each, has_any}
-use Rattle.quilt_batch.specs.Merges.{IsFirstEdit, IsMerge, goes_of, comes_of}
-use Rattle.quilt_batch.proofs.Due.{due_in_turn}
+use Rattle.quilt_btree.specs.Batches.{edit_keys, key_of, removed, records_put}
+use Rattle.quilt_btree.proofs.batches.Leaves.{keys-append}
+use Rattle.quilt_batch.specs.Merges.{IsFirstEdit, goes_of, comes_of}
 use Rattle.std.proofs.lemmas.Bool.{and_parts, and_from}
 
 -- the merge of two lists has come so far: these edits are made, and these records are left of each list
@@ -29,24 +28,20 @@ pub record HasMerged (old_goes old_comes : List Record) (run : List Edit) (goes 
 pub merged_none : (goes comes : List Record) → HasMerged goes comes [] goes comes
 merged_none goes comes = record { removed_so = refl; added_so = refl; order = λ g c. (g, c) }
 
-removed_last : (run : List Edit) (e : Edit) → removed (run ++ e ∷ []) ≡ removed run ++ removed (e ∷ [])
-removed_last [] e = refl
-removed_last (edit.Remove k ∷ run) e = ap (λ ks. k ∷ ks) (removed_last run e)
-removed_last (edit.Put r ∷ run) e = removed_last run e
-removed_last (edit.Replace r ∷ run) e = ap (λ ks. r.key ∷ ks) (removed_last run e)
+pub removed-append : (xs ys : List Edit) → removed (xs ++ ys) ≡ removed xs ++ removed ys
+removed-append [] ys = refl
+removed-append (edit.Remove k ∷ xs) ys = ap (λ ks. k ∷ ks) (removed-append xs ys)
+removed-append (edit.Put r ∷ xs) ys = removed-append xs ys
+removed-append (edit.Replace r ∷ xs) ys = ap (λ ks. r.key ∷ ks) (removed-append xs ys)
 
-added_last : (run : List Edit) (e : Edit) → records_put (run ++ e ∷ []) ≡ records_put run ++ records_put (e ∷ [])
-added_last [] e = refl
-added_last (edit.Remove k ∷ run) e = added_last run e
-added_last (edit.Put r ∷ run) e = ap (λ rs. r ∷ rs) (added_last run e)
-added_last (edit.Replace r ∷ run) e = ap (λ rs. r ∷ rs) (added_last run e)
-
-keys_last : (run : List Edit) (e : Edit) → edit_keys (run ++ e ∷ []) ≡ edit_keys run ++ key_of e ∷ []
-keys_last [] e = refl
-keys_last (f ∷ run) e = ap (λ ks. key_of f ∷ ks) (keys_last run e)
+pub put-append : (xs ys : List Edit) → records_put (xs ++ ys) ≡ records_put xs ++ records_put ys
+put-append [] ys = refl
+put-append (edit.Remove k ∷ xs) ys = put-append xs ys
+put-append (edit.Put r ∷ xs) ys = ap (λ rs. r ∷ rs) (put-append xs ys)
+put-append (edit.Replace r ∷ xs) ys = ap (λ rs. r ∷ rs) (put-append xs ys)
 
 -- those that stand before a key of such a list are below it
-under_next : (ks : List Key) (k : Key) (ls : List Key) → is_ascending (ks ++ k ∷ ls) ≡ true → list_all (is_under k) ks ≡ true
+pub under_next : (ks : List Key) (k : Key) (ls : List Key) → is_ascending (ks ++ k ∷ ls) ≡ true → list_all (is_under k) ks ≡ true
 under_next [] k ls h = refl
 under_next (m ∷ ks) k ls h =
     and_from (is_under k m) (list_all (is_under k) ks) (among m ks k ls (ascending_all m (ks ++ k ∷ ls) h)) (under_next ks k ls (ascending_back (m ∷ []) (ks ++ k ∷ ls) h))
@@ -71,7 +66,7 @@ put_last ks k under h = ascending_join k ks [] under refl (ascending_front ks []
 snoc_asc : (run : List Edit) (e : Edit) (ls : List Key) → is_ascending (edit_keys run ++ key_of e ∷ ls) ≡ true
     → is_ascending (edit_keys (run ++ e ∷ []) ++ ls) ≡ true
 snoc_asc run e ls h =
-    subst (λ l. is_ascending l ≡ true) (sym (ap (λ l. l ++ ls) (keys_last run e) ∙ append_snoc (edit_keys run) (key_of e) ls)) h
+    subst (λ l. is_ascending l ≡ true) (sym (ap (λ l. l ++ ls) (keys-append run (e ∷ [])) ∙ append_snoc (edit_keys run) (key_of e) ls)) h
 
 -- a record goes
 remove_more : (og oc : List Record) (run : List Edit) (r : Record) (goes comes : List Record) → HasMerged og oc run (r ∷ goes) comes
@@ -79,8 +74,8 @@ remove_more : (og oc : List Record) (run : List Edit) (r : Record) (goes comes :
     → is_ascending (edit_keys run ++ r.key ∷ keys_of comes) ≡ true)
     → HasMerged og oc (run ++ edit.Remove r.key ∷ []) goes comes
 remove_more og oc run r goes comes m before = record {
-  removed_so = ap (λ ks. ks ++ keys_of goes) (removed_last run (edit.Remove r.key)) ∙ append_snoc (removed run) r.key (keys_of goes) ∙ m.removed_so;
-  added_so = ap (λ rs. rs ++ comes) (added_last run (edit.Remove r.key) ∙ append-nil (records_put run)) ∙ m.added_so;
+  removed_so = ap (λ ks. ks ++ keys_of goes) (removed-append run (edit.Remove r.key ∷ [])) ∙ append_snoc (removed run) r.key (keys_of goes) ∙ m.removed_so;
+  added_so = ap (λ rs. rs ++ comes) (put-append run (edit.Remove r.key ∷ []) ∙ append-nil (records_put run)) ∙ m.added_so;
   order = λ g c.
       let o = m.order g c in (
         snoc_asc run (edit.Remove r.key) (keys_of goes) o.0,
@@ -94,8 +89,8 @@ put_more : (og oc : List Record) (run : List Edit) (a : Record) (goes comes : Li
     → is_ascending (edit_keys run ++ a.key ∷ keys_of goes) ≡ true)
     → HasMerged og oc (run ++ edit.Put a ∷ []) goes comes
 put_more og oc run a goes comes m before = record {
-  removed_so = ap (λ ks. ks ++ keys_of goes) (removed_last run (edit.Put a) ∙ append-nil (removed run)) ∙ m.removed_so;
-  added_so = ap (λ rs. rs ++ comes) (added_last run (edit.Put a)) ∙ append_snoc (records_put run) a comes ∙ m.added_so;
+  removed_so = ap (λ ks. ks ++ keys_of goes) (removed-append run (edit.Put a ∷ []) ∙ append-nil (removed run)) ∙ m.removed_so;
+  added_so = ap (λ rs. rs ++ comes) (put-append run (edit.Put a ∷ [])) ∙ append_snoc (records_put run) a comes ∙ m.added_so;
   order = λ g c.
       let o = m.order g c in (
         snoc_asc run (edit.Put a) (keys_of goes) (before (under_next (edit_keys run) a.key (keys_of comes) o.1) o.0),
@@ -107,9 +102,9 @@ put_more og oc run a goes comes m before = record {
 replace_more : (og oc : List Record) (run : List Edit) (r a : Record) (goes comes : List Record) → r.key ≡ a.key
     → HasMerged og oc run (r ∷ goes) (a ∷ comes) → HasMerged og oc (run ++ edit.Replace a ∷ []) goes comes
 replace_more og oc run r a goes comes same m = record {
-  removed_so = ap (λ ks. ks ++ keys_of goes) (removed_last run (edit.Replace a)) ∙ append_snoc (removed run) a.key (keys_of goes)
+  removed_so = ap (λ ks. ks ++ keys_of goes) (removed-append run (edit.Replace a ∷ [])) ∙ append_snoc (removed run) a.key (keys_of goes)
       ∙ ap (λ k. removed run ++ k ∷ keys_of goes) (sym same) ∙ m.removed_so;
-  added_so = ap (λ rs. rs ++ comes) (added_last run (edit.Replace a)) ∙ append_snoc (records_put run) a comes ∙ m.added_so;
+  added_so = ap (λ rs. rs ++ comes) (put-append run (edit.Replace a ∷ [])) ∙ append_snoc (records_put run) a comes ∙ m.added_so;
   order = λ g c.
       let o = m.order g c in (
         snoc_asc run (edit.Replace a) (keys_of goes) (subst (λ k. is_ascending (edit_keys run ++ k ∷ keys_of goes) ≡ true) same o.0),
@@ -144,32 +139,5 @@ pub next_ascends : (og oc : List Record) (run : List Edit) (goes comes : List Re
     → is_ascending (keys_of og) ≡ true → is_ascending (keys_of oc) ≡ true → is_ascending (edit_keys run ++ key_of e ∷ []) ≡ true
 next_ascends og oc run goes comes e m f a b =
     let n = merged_more og oc run goes comes e m f in
-    subst (λ l. is_ascending l ≡ true) (keys_last run e)
+    subst (λ l. is_ascending l ≡ true) (keys-append run (e ∷ []))
     (ascending_front (edit_keys (run ++ e ∷ [])) (keys_of (drop (goes_of e) goes)) (n.order a b).0)
-
-counted : (run : List Edit) → more run + length (removed run) ≡ fewer run + length (records_put run)
-counted [] = refl
-counted (edit.Remove k ∷ run) = let h = counted run in omega arith
-counted (edit.Put r ∷ run) = let h = counted run in omega arith
-counted (edit.Replace r ∷ run) = let h = counted run in omega arith
-
--- nothing is left
-pub merged_all : (og oc : List Record) (run : List Edit) (goes comes : List Record) → HasMerged og oc run goes comes → (goes ≡ []) × (comes ≡ [])
-    → IsMerge og oc run
-merged_all og oc run (r ∷ goes) comes m none = cc
-merged_all og oc run [] (a ∷ comes) m none = cc
-merged_all og oc run [] [] m none =
-    let gone : removed run ≡ keys_of og = sym (append-nil (removed run)) ∙ m.removed_so in
-    let come : records_put run ≡ oc = sym (append-nil (records_put run)) ∙ m.added_so in
-    let n = counted run in
-    let g = ap length gone ∙ length-map og (λ (r : Record). r.key) in
-    let c = ap length come in
-    record {
-      goes = gone;
-      comes = come;
-      due = λ rs old new a each none.
-          due_in_turn run rs (subst (λ l. is_ascending l ≡ true) (append-nil (edit_keys run)) (m.order old new).0) a
-          (subst (λ ks. has_each ks rs ≡ true) (sym gone) each)
-          (subst (λ ns. has_any ns (without_all (removed run) rs) ≡ false) (sym come) (subst (λ ks. has_any oc (without_all ks rs) ≡ false) (sym gone) none));
-      counts = omega arith;
-    }

@@ -1,5 +1,5 @@
--- The first of the edits that merge two lists of records.
-use Rattle.std.specs.Prelude.{◌≡◌, ℕ, ◌+◌, true, false, List, [], ◌∷◌, length}
+-- The edits that merge two lists of records: the first of them, and all.
+use Rattle.std.specs.Prelude.{◌≡◌, ℕ, ◌+◌, true, false, List, [], ◌∷◌, ◌++◌, length, take}
 use Rattle.std.specs.Ordering.{is_lt}
 use Rattle.quilt_record.specs.declared.record.Record.{Record}
 use Rattle.quilt_record.specs.Records.{key_cmp}
@@ -7,7 +7,7 @@ use Rattle.quilt_node.specs.Pages.{is_ascending}
 use Rattle.quilt_node.specs.Nodes.{keys_of}
 use Rattle.quilt_btree.specs.declared.edit.Edit.{Edit}
 use Rattle.quilt_btree.specs.declared.edit.Edit.TheVariants as edit
-use Rattle.quilt_btree.specs.Batches.{are_due, removed, records_put, more, fewer}
+use Rattle.quilt_btree.specs.Batches.{edit_keys, are_due, removed, records_put, more, fewer}
 use Rattle.quilt_btree.specs.Runs.{without_all, has_each, has_any}
 
 -- how many of the records that go, and of those that come, an edit is about
@@ -32,6 +32,20 @@ IsFirstEdit (edit.Put p) goes [] = ⊥
 IsFirstEdit (edit.Replace p) (r ∷ goes) (a ∷ comes) = (p ≡ a) × (r.key ≡ a.key)
 IsFirstEdit (edit.Replace p) [] comes = ⊥
 IsFirstEdit (edit.Replace p) (r ∷ goes) [] = ⊥
+
+-- the run begins with the first edit of two lists; where it has none, they are what is left
+abbrev pub StartsMerge : (old new : List Record) → List Edit → (goes comes : List Record) → Type 0
+StartsMerge old new [] goes comes = (goes ≡ old) × (comes ≡ new)
+StartsMerge old new (e ∷ run) goes comes = IsFirstEdit e old new
+
+-- The first of the edits that merge two lists, and what they leave of each: they are about the records in front of that, and their keys ascend, also up to
+-- the first record that is left of each list.
+pub record IsPart (old new : List Record) (run : List Edit) (goes comes : List Record) : Type 0 where
+  pub gone : removed run ++ keys_of goes ≡ keys_of old
+  pub come : records_put run ++ comes ≡ new
+  pub starts : StartsMerge old new run goes comes
+  pub ascends : is_ascending (edit_keys run) ≡ true
+  pub border : (is_ascending (edit_keys run ++ keys_of (take 1 goes)) ≡ true) × (is_ascending (edit_keys run ++ keys_of (take 1 comes)) ≡ true)
 
 -- The edits take out the records of the first list and put in those of the second. Where both lists are in the order of their keys, each edit is due
 -- where the records that go are there, and none that comes is there without them.

@@ -3,4 +3,4 @@
 
 mod merge;
 
-pub use merge::merged;
+pub use merge::{Part, first_edits, merged};
