@@ -4,7 +4,7 @@ use Rattle.std.proofs.Common.{append_assoc, length-append}
 use Rattle.std.specs.List.{list_any, list_all}
 use Rattle.std.specs.Ordering.{is_lt}
 use Rattle.std.proofs.lemmas.Bool.{and_parts, and_from}
-use Rattle.std.proofs.lemmas.List.{append-nil, length-map, map-append}
+use Rattle.std.proofs.lemmas.List.{append-nil, length-map, map-append, nil_from_length}
 use Rattle.std.proofs.lemmas.List.Folds.{list_any-append}
 use Rattle.quilt_record.specs.declared.key.Key.{Key}
 use Rattle.quilt_record.specs.declared.record.Record.{Record}
@@ -232,14 +232,10 @@ part_whole og oc run goes comes p none =
       counts = omega arith;
     }
 
-none_of : (rs : List Record) → length rs ≡ 0 → rs ≡ []
-none_of [] h = refl
-none_of (r ∷ rs) h = absurd (omega arith)
-
 -- and so is a part of as many edits as there are records
 pub part_full : (og oc : List Record) (run : List Edit) (goes comes : List Record) (most : ℕ) → IsPart og oc run goes comes → most ≡ length og + length oc
     → NoneLeft goes comes ⊎ (length run ≡ most) → IsMerge og oc run
 part_full og oc run goes comes most p is full =
     let sizes = part_sizes og oc run goes comes p in
     let few = run_size run in
-    part_whole og oc run goes comes p (⊎_elim (λ none. none) (λ e. (none_of goes (omega arith), none_of comes (omega arith))) full)
+    part_whole og oc run goes comes p (⊎_elim (λ none. none) (λ e. (nil_from_length goes (omega arith), nil_from_length comes (omega arith))) full)

@@ -1,5 +1,6 @@
 -- What a session stands for, and what calls leave of it.
 pub mod ChangeSteps
+pub mod Edited
 pub mod Going
 pub mod HeldLayers
 pub mod Holding

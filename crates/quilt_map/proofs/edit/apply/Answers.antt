@@ -1,10 +1,7 @@
-use Rattle.std.proofs.Common.{List, refl, sym, ◌∙◌, subst}
+use Rattle.std.proofs.Common.{refl, sym, ◌∙◌}
 use Rattle.std.proofs.lemmas.Bool.{false≢true}
 use Rattle.std.proofs.lemmas.Result.{err_from_is_err_and}
-use Rattle.quilt_record.specs.declared.record.Record.{Record}
-use Rattle.quilt_btree.specs.Edits.{IsWhole}
-use Rattle.quilt_btree.specs.Batches.{removed, records_put}
-use Rattle.quilt_btree.specs.Runs.{put_all, without_all}
+use Rattle.quilt_btree.specs.Batches.{edit_all}
 use Rattle.quilt_edition.specs.Books.{work_of}
 use Rattle.quilt_map.specs.Sessions.{told_of, free_of}
 use Rattle.quilt_map.proofs.states.Going.{goes_of, goes_both, whole_as}
@@ -21,14 +18,14 @@ returns-clause-edited g c = λ rs whole.
     let a = c.args.book.now in
     let d = c.apply.new.store in
     let e = c.set_tree.new.self in
-    let run = c.args.batch.now in
     let before = whole_as (told_of a) (told_of a) (free_of a) (free_of a) a.journal.pages a.journal.pages a.work c.head-head.result rs refl refl refl
     c.head-head.ensures.work whole in
     let made = c.in_ok-apply.ensures.edited rs before in
-    let tree = record (work_of d) { root = c.apply.new.self.root; height = c.apply.new.self.height; records = c.apply.new.self.records } in
-    let after = subst (λ (l : List Record). IsWhole (told_of d) (free_of d) a.journal.pages c.apply.new.self l) (c.apply.ensures.list rs before made.0) made.1 in
-    whole_as (told_of d) (told_of e) (free_of d) (free_of e) a.journal.pages a.journal.pages tree e.work (put_all (records_put run) (without_all (removed run) rs))
-    c.set_tree.ensures.told c.set_tree.ensures.free refl c.set_tree.ensures.work after
+    let tree = record (work_of d) { root = c.apply.new.self.root; height = c.apply.new.self.height; records = c.apply.new.self.records } in (
+      made.0,
+      whole_as (told_of d) (told_of e) (free_of d) (free_of e) a.journal.pages a.journal.pages tree e.work (edit_all c.args.batch.now rs)
+          c.set_tree.ensures.told c.set_tree.ensures.free refl c.set_tree.ensures.work made.1,
+    )
 
 pub returns-in_err-apply-clause-sound : goal.returns-in_err-apply-clause-sound
 returns-in_err-apply-clause-sound g c =

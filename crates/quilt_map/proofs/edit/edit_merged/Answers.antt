@@ -1,72 +1,70 @@
-use Rattle.std.proofs.Common.{◌≡◌, ◌≤◌, true, false, List, [], ◌∷◌, length, ap, subst, arith}
-use Rattle.std.specs.Result.{OnOk}
-use Rattle.std.proofs.lemmas.Result.{IfErr-weaker}
-use Rattle.quilt_record.specs.declared.key.Key.{Key}
-use Rattle.quilt_record.specs.declared.record.Record.{Record}
-use Rattle.quilt_types.specs.declared.stop.Stop.{Stop}
-use Rattle.quilt_node.specs.Nodes.{keys_of}
-use Rattle.quilt_node.specs.Pages.{is_ascending}
-use Rattle.quilt_store.specs.Stops.{IsNotDamage}
-use Rattle.quilt_btree.specs.Edits.{IsWhole}
-use Rattle.quilt_btree.specs.declared.edit.Edit.{Edit}
-use Rattle.quilt_btree.specs.declared.edit.Edit.TheVariants as edit
-use Rattle.quilt_btree.specs.Batches.{removed, records_put, are_due, more}
-use Rattle.quilt_btree.specs.Runs.{put_all, without_all, has_each, has_any}
-use Rattle.quilt_btree.proofs.batches.Rises.{whole_rises}
-use Rattle.quilt_edition.specs.Books.{pages_of, work_of}
-use Rattle.quilt_map.specs.Sessions.{told_of, free_of, tree_in}
-use Rattle.quilt_map.proofs.states.ChangeSteps.{goes_here}
+use Rattle.std.proofs.lemmas.Result.{err_from_is_err_and}
+use Rattle.quilt_map.proofs.states.Edited.{edited_changed, edited_count, edited_left, edited_less, edited_none, edited_on, edited_room, edited_sound, edited_whole}
+use Rattle.quilt_map.proofs.states.Going.{goes_both}
 use Rattle.quilt_map.proofs.edit.edit_merged.Goals as goal
 
--- no more records come to the tree than are put in
-more_at_most : (run : List Edit) → more run ≤ length (records_put run)
-more_at_most [] = omega arith
-more_at_most (edit.Remove k ∷ run) = let h = more_at_most run in omega arith
-more_at_most (edit.Put r ∷ run) = let h = more_at_most run in omega arith
-more_at_most (edit.Replace r ∷ run) = let h = more_at_most run in omega arith
+pub loop-part-init : goal.loop-part-init
+loop-part-init g c = edited_none {D = g.W.Disk} c.args.removed.now c.args.added.now c.args.book.now
 
-pub returns-in_default-clause-goes_on : goal.returns-in_default-clause-goes_on
-returns-in_default-clause-goes_on g c = goes_here {D = g.W.Disk} c.args.book.now
-
-pub returns-in-None-clause-goes_on : goal.returns-in-None-clause-goes_on
-returns-in-None-clause-goes_on g c = goes_here {D = g.W.Disk} c.args.book.now
-
-pub returns-in-None-clause-sound : goal.returns-in-None-clause-sound
-returns-in-None-clause-sound g c = λ rs whole old new each none. absurd (c.in-Ok.ensures.none c.in-None.is old new)
+pub loop-part-preserved : goal.loop-part-preserved
+loop-part-preserved g c =
+    edited_on {D = g.W.Disk} c.args.removed.now c.args.added.now c.loop-part.goes.now c.loop-part.comes.now c.args.book.now c.loop-part.book
+    c.loop-part.invariant c.in-Some.part.batch c.in-Some.part.goes.now c.in-Some.part.comes.now (rw c.in-Some.is at c.in_ok-part.ensures.part)
+    c.apply.new.book
+    (record {
+      whole = c.in_ok-apply.ensures.edited;
+      head = c.in_ok-apply.ensures.head;
+      count = c.in_ok-apply.ensures.count;
+      goes_on = c.in_ok-apply.ensures.goes_on;
+      used = c.in_ok-apply.ensures.used;
+      changed = c.in_ok-apply.ensures.changed;
+      reads = c.in_ok-apply.ensures.reads;
+      faults = c.in_ok-apply.ensures.cause.later;
+    })
 
 pub apply-requires : goal.apply-requires
 apply-requires g c =
-    let run = c.in-Some.batch in
-    let m = rw c.in-Some.is at c.in-Ok.ensures.merge in
-    let come : records_put run ≡ c.args.added.now = m.comes in
-    let few = more_at_most run in
-    let many = ap length come in
-    let room = c.requires in
-    omega arith
+    edited_room {D = g.W.Disk} c.args.removed.now c.args.added.now c.loop-part.goes.now c.loop-part.comes.now c.args.book.now c.loop-part.book
+    c.loop-part.invariant c.in-Some.part.batch c.in-Some.part.goes.now c.in-Some.part.comes.now (rw c.in-Some.is at c.in_ok-part.ensures.part)
+    c.requires.room
 
-pub returns-in-Some-clause-edited : goal.returns-in-Some-clause-edited
-returns-in-Some-clause-edited g c =
-    let a = c.args.book.now in
-    let d = c.apply.new.book in
-    let run = c.in-Some.batch in
-    let m = rw c.in-Some.is at c.in-Ok.ensures.merge in
-    let gone : removed run ≡ keys_of c.args.removed.now = m.goes in
-    let come : records_put run ≡ c.args.added.now = m.comes in
-    subst (λ (ks : List Key). OnOk c.apply.result ((rs : List Record) → IsWhole (told_of a) (free_of a) (pages_of a) (tree_in (work_of a)) rs
-    → IsWhole (told_of d) (free_of d) (pages_of a) (tree_in (work_of d)) (put_all c.args.added.now (without_all ks rs)))) gone
-    (subst (λ (ns : List Record). OnOk c.apply.result ((rs : List Record) → IsWhole (told_of a) (free_of a) (pages_of a) (tree_in (work_of a)) rs
-    → IsWhole (told_of d) (free_of d) (pages_of a) (tree_in (work_of d)) (put_all ns (without_all (removed run) rs)))) come c.apply.ensures.edited)
+pub returns-in_err-part-clause-sound : goal.returns-in_err-part-clause-sound
+returns-in_err-part-clause-sound g c =
+    let p = err_from_is_err_and c.from_residual.result c.from_residual.ensures.1 in
+    rw (p.1, p.2) (λ rs whole old new each none.
+    let left = edited_left {D = g.W.Disk} c.args.removed.now c.args.added.now c.loop-part.goes.now c.loop-part.comes.now c.args.book.now
+    c.loop-part.book c.loop-part.invariant old new in
+    c.in_err-part.ensures.sound left.0 left.1)
 
-pub returns-in-Some-clause-sound : goal.returns-in-Some-clause-sound
-returns-in-Some-clause-sound g c =
-    let a = c.args.book.now in
-    let run = c.in-Some.batch in
-    let m = rw c.in-Some.is at c.in-Ok.ensures.merge in
-    IfErr-weaker c.apply.result
-    (λ (e : Stop). (rs : List Record) → IsWhole (told_of a) (free_of a) (pages_of a) (tree_in (work_of a)) rs → are_due run rs ≡ true → IsNotDamage e)
-    (λ (e : Stop). (rs : List Record) → IsWhole (told_of a) (free_of a) (pages_of a) (tree_in (work_of a)) rs
-    → is_ascending (keys_of c.args.removed.now) ≡ true → is_ascending (keys_of c.args.added.now) ≡ true
-    → has_each (keys_of c.args.removed.now) rs ≡ true → has_any c.args.added.now (without_all (keys_of c.args.removed.now) rs) ≡ false → IsNotDamage e)
-    (λ e sound rs whole old new each none.
-    sound rs whole (m.due rs old new (whole_rises (told_of a) (free_of a) (pages_of a) (tree_in (work_of a)) rs whole) each none))
-    c.apply.ensures.sound
+pub returns-in_err-part-clause-changed : goal.returns-in_err-part-clause-changed
+returns-in_err-part-clause-changed g c =
+    edited_changed {D = g.W.Disk} c.args.removed.now c.args.added.now c.loop-part.goes.now c.loop-part.comes.now c.args.book.now c.loop-part.book
+    c.loop-part.invariant
+
+pub returns-in_err-apply-clause-sound : goal.returns-in_err-apply-clause-sound
+returns-in_err-apply-clause-sound g c =
+    let p = err_from_is_err_and c.from_residual-in_err-apply.result c.from_residual-in_err-apply.ensures.1 in
+    rw (p.1, p.2) (λ rs whole old new each none.
+    edited_sound {D = g.W.Disk} c.args.removed.now c.args.added.now c.loop-part.goes.now c.loop-part.comes.now c.args.book.now c.loop-part.book
+    c.loop-part.invariant c.in-Some.part.batch c.in-Some.part.goes.now c.in-Some.part.comes.now (rw c.in-Some.is at c.in_ok-part.ensures.part)
+    _ c.in_err-apply.ensures.sound rs whole old each none)
+
+pub returns-in_err-apply-clause-goes_on : goal.returns-in_err-apply-clause-goes_on
+returns-in_err-apply-clause-goes_on g c =
+    goes_both {D = g.W.Disk} c.args.book.now c.loop-part.book c.apply.new.book c.loop-part.invariant.made.goes_on c.apply.ensures.goes_on
+
+pub returns-in_err-apply-clause-changed : goal.returns-in_err-apply-clause-changed
+returns-in_err-apply-clause-changed g c =
+    edited_less {D = g.W.Disk} c.args.removed.now c.args.added.now c.loop-part.goes.now c.loop-part.comes.now c.args.book.now c.loop-part.book
+    c.loop-part.invariant c.in-Some.part.batch c.in-Some.part.goes.now c.in-Some.part.comes.now (rw c.in-Some.is at c.in_ok-part.ensures.part)
+    c.apply.new.book c.apply.ensures.changed
+
+pub returns-clause-edited : goal.returns-clause-edited
+returns-clause-edited g c =
+    edited_whole {D = g.W.Disk} c.args.removed.now c.args.added.now c.loop-part.goes.now c.loop-part.comes.now c.args.book.now c.loop-part.book
+    c.loop-part.invariant (c.in_ok-part.ensures.none c.in_default.is)
+
+pub returns-clause-count : goal.returns-clause-count
+returns-clause-count g c =
+    edited_count {D = g.W.Disk} c.args.removed.now c.args.added.now c.loop-part.goes.now c.loop-part.comes.now c.args.book.now c.loop-part.book
+    c.loop-part.invariant (c.in_ok-part.ensures.none c.in_default.is)
