@@ -19,7 +19,7 @@ use Rattle.quilt_btree.specs.declared.edit.Edit.TheVariants as edit
 use Rattle.quilt_btree.specs.Batches.{edit_keys, key_of, are_due, removed, records_put, more, fewer}
 use Rattle.quilt_btree.specs.Runs.{without_all, has_each, has_any}
 use Rattle.quilt_btree.proofs.batches.Leaves.{keys-append}
-use Rattle.quilt_batch.specs.Merges.{IsFirstEdit, IsMerge, IsPart, StartsMerge}
+use Rattle.quilt_batch.specs.Merges.{IsFirstEdit, IsMerge, IsMergePart, StartsMerge}
 use Rattle.quilt_batch.proofs.Due.{any_all_above, come_keys, due_in_turn, or_parts}
 use Rattle.quilt_batch.proofs.Goings.{HasMerged, put-append, removed-append, under_next}
 
@@ -98,11 +98,11 @@ starts_more og oc [] e goes comes left coming s first =
 
 -- the merge so far is a part of it where what is left comes behind
 pub part_of : (og oc : List Record) (run : List Edit) (goes comes : List Record) → HasMerged og oc run goes comes → StartsMerge og oc run goes comes
-    → is_ascending (edit_keys run) ≡ true → ComesBehind (edit_keys run) goes comes → IsPart og oc run goes comes
+    → is_ascending (edit_keys run) ≡ true → ComesBehind (edit_keys run) goes comes → IsMergePart og oc run goes comes
 part_of og oc run goes comes m s a b = record { gone = m.removed_so; come = m.added_so; starts = s; ascends = a; border = b }
 
 -- no edit at all
-pub part_here : (goes comes : List Record) → IsPart goes comes [] goes comes
+pub part_here : (goes comes : List Record) → IsMergePart goes comes [] goes comes
 part_here goes comes = record { gone = refl; come = refl; starts = (refl, refl); ascends = refl; border = (first goes, first comes) }
   where
     first : (rs : List Record) → is_ascending (keys_of (take 1 rs)) ≡ true
@@ -127,8 +127,8 @@ goes_behind run (e ∷ part) goes comes left coming ls b s h same =
     (sym (ap (λ l. l ++ ls) (keys-append run (e ∷ part)) ∙ append_assoc (edit_keys run) (edit_keys (e ∷ part)) ls))
     (joined (edit_keys run) (key_of e) (edit_keys part ++ ls) (edit_behind (edit_keys run) e goes comes s b) h)
 
-pub part_on : (og oc goes comes left coming : List Record) (run part : List Edit) → IsPart og oc run goes comes → IsPart goes comes part left coming
-    → IsPart og oc (run ++ part) left coming
+pub part_on : (og oc goes comes left coming : List Record) (run part : List Edit) → IsMergePart og oc run goes comes → IsMergePart goes comes part left coming
+    → IsMergePart og oc (run ++ part) left coming
 part_on og oc goes comes left coming run part p q = record {
   gone = ap (λ ks. ks ++ keys_of left) (removed-append run part) ∙ append_assoc (removed run) (removed part) (keys_of left)
       ∙ ap (λ ks. removed run ++ ks) q.gone ∙ p.gone;
@@ -173,7 +173,7 @@ left_behind : (ks : List Key) (goes : List Record) → is_ascending (ks ++ keys_
 left_behind ks [] h a = h
 left_behind ks (r ∷ goes) h a = joined ks r.key (keys_of goes) h a
 
-pub part_due : (og oc : List Record) (run : List Edit) (goes comes rs : List Record) → IsPart og oc run goes comes → is_ascending (keys_of og) ≡ true
+pub part_due : (og oc : List Record) (run : List Edit) (goes comes rs : List Record) → IsMergePart og oc run goes comes → is_ascending (keys_of og) ≡ true
     → is_ascending (keys_of rs) ≡ true → has_each (keys_of og) rs ≡ true → has_any oc (without_all (keys_of og) rs) ≡ false → are_due run rs ≡ true
 part_due og oc run goes comes rs p old a each none =
     let left = ascending_back (removed run) (keys_of goes) (subst (λ l. is_ascending l ≡ true) (sym p.gone) old) in
@@ -189,7 +189,7 @@ part_due og oc run goes comes rs p old a each none =
     ∙ ap (has_any (records_put run)) (sym (without_all-append (removed run) (keys_of goes) rs)) ∙ some.0)
 
 -- what is left of lists in the order of their keys is in that order
-pub part_left : (og oc : List Record) (run : List Edit) (goes comes : List Record) → IsPart og oc run goes comes → is_ascending (keys_of og) ≡ true
+pub part_left : (og oc : List Record) (run : List Edit) (goes comes : List Record) → IsMergePart og oc run goes comes → is_ascending (keys_of og) ≡ true
     → is_ascending (keys_of oc) ≡ true → (is_ascending (keys_of goes) ≡ true) × (is_ascending (keys_of comes) ≡ true)
 part_left og oc run goes comes p old new = (
   ascending_back (removed run) (keys_of goes) (subst (λ l. is_ascending l ≡ true) (sym p.gone) old),
@@ -198,7 +198,7 @@ part_left og oc run goes comes p old new = (
 )
 
 -- how many records went, came and are left
-pub part_sizes : (og oc : List Record) (run : List Edit) (goes comes : List Record) → IsPart og oc run goes comes
+pub part_sizes : (og oc : List Record) (run : List Edit) (goes comes : List Record) → IsMergePart og oc run goes comes
     → (length (removed run) + length goes ≡ length og) × (length (records_put run) + length comes ≡ length oc)
 part_sizes og oc run goes comes p =
     let size : (rs : List Record) → length (keys_of rs) ≡ length rs = λ rs. length-map rs (λ (r : Record). r.key) in (
@@ -219,7 +219,7 @@ counted (edit.Put r ∷ run) = let h = counted run in omega arith
 counted (edit.Replace r ∷ run) = let h = counted run in omega arith
 
 -- the part behind which nothing is left is the whole merge
-pub part_whole : (og oc : List Record) (run : List Edit) (goes comes : List Record) → IsPart og oc run goes comes → NoneLeft goes comes → IsMerge og oc run
+pub part_whole : (og oc : List Record) (run : List Edit) (goes comes : List Record) → IsMergePart og oc run goes comes → NoneLeft goes comes → IsMerge og oc run
 part_whole og oc run goes comes p none =
     let sizes = part_sizes og oc run goes comes p in
     let left = ap length none.0 in
@@ -233,7 +233,7 @@ part_whole og oc run goes comes p none =
     }
 
 -- and so is a part of as many edits as there are records
-pub part_full : (og oc : List Record) (run : List Edit) (goes comes : List Record) (most : ℕ) → IsPart og oc run goes comes → most ≡ length og + length oc
+pub part_full : (og oc : List Record) (run : List Edit) (goes comes : List Record) (most : ℕ) → IsMergePart og oc run goes comes → most ≡ length og + length oc
     → NoneLeft goes comes ⊎ (length run ≡ most) → IsMerge og oc run
 part_full og oc run goes comes most p is full =
     let sizes = part_sizes og oc run goes comes p in

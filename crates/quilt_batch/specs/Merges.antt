@@ -40,7 +40,7 @@ StartsMerge old new (e ∷ run) goes comes = IsFirstEdit e old new
 
 -- The first of the edits that merge two lists, and what they leave of each: they are about the records in front of that, and their keys ascend, also up to
 -- the first record that is left of each list.
-pub record IsPart (old new : List Record) (run : List Edit) (goes comes : List Record) : Type 0 where
+pub record IsMergePart (old new : List Record) (run : List Edit) (goes comes : List Record) : Type 0 where
   pub gone : removed run ++ keys_of goes ≡ keys_of old
   pub come : records_put run ++ comes ≡ new
   pub starts : StartsMerge old new run goes comes

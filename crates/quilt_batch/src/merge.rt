@@ -4,7 +4,7 @@ ghost use Rattle.quilt_record.specs.Records.{key_cmp};
 ghost use Rattle.quilt_node.specs.Nodes.{keys_of};
 ghost use Rattle.quilt_node.specs.Pages.{is_ascending};
 ghost use Rattle.quilt_btree.specs.Batches.{key_of, edit_keys};
-ghost use Rattle.quilt_batch.specs.Merges.{IsFirstEdit, IsMerge, IsPart, goes_of, comes_of};
+ghost use Rattle.quilt_batch.specs.Merges.{IsFirstEdit, IsMerge, IsMergePart, goes_of, comes_of};
 
 use quilt_btree::{Batch, Edit};
 use quilt_record::{Key, Record};
@@ -48,7 +48,7 @@ pub fn first_edits<'a>(
     added: &'a [Record],
     most: usize,
 ) -> Result<Option<Part<'a>>, AllocError>
-    ensures part { IfOk result (λ o. IfSome o (λ p. IsPart removed.now added.now p.batch p.goes.now p.comes.now)) }
+    ensures part { IfOk result (λ o. IfSome o (λ p. IsMergePart removed.now added.now p.batch p.goes.now p.comes.now)) }
     ensures many { IfOk result (λ o. IfSome o (λ p. ((p.goes.now ≡ []) × (p.comes.now ≡ [])) ⊎ (length p.batch ≡ most))) }
     ensures most { IfOk result (λ o. IfSome o (λ p. length p.batch ≤ most)) }
     ensures none { IfOk result (λ o. o ≡ None → is_ascending (keys_of removed.now) ≡ true → is_ascending (keys_of added.now) ≡ true → ⊥) }

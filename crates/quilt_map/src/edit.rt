@@ -6,7 +6,7 @@ ghost use Rattle.quilt_node.specs.Pages.{is_ascending};
 ghost use Rattle.quilt_node.specs.Nodes.{keys_of};
 ghost use Rattle.quilt_btree.specs.Edits.{IsWhole};
 ghost use Rattle.quilt_btree.specs.Runs.{put_all, has_any, without_all, has_each};
-ghost use Rattle.quilt_batch.specs.Merges.{IsPart};
+ghost use Rattle.quilt_batch.specs.Merges.{IsMergePart};
 ghost use Rattle.quilt_btree.specs.Batches.{are_due, edit_all, more, fewer, removed as keys_that_go, records_put as records_that_come};
 ghost use Rattle.quilt_world.specs.Tale.{Goes};
 ghost use Rattle.quilt_store.specs.Stops.{HasStopCause, IsNotDamage};
@@ -100,7 +100,7 @@ fn next_edits<'a>(
     goes: &'a [Record],
     comes: &'a [Record],
 ) -> Result<Option<Part<'a>>, Stop>
-    ensures part { IfOk result (λ o. IfSome o (λ p. IsPart goes.now comes.now p.batch p.goes.now p.comes.now)) }
+    ensures part { IfOk result (λ o. IfSome o (λ p. IsMergePart goes.now comes.now p.batch p.goes.now p.comes.now)) }
     ensures fewer { IfOk result (λ o. IfSome o (λ p. length p.goes.now + length p.comes.now < length goes.now + length comes.now)) }
     ensures none { IfOk result (λ o. o ≡ None → (goes.now ≡ []) × (comes.now ≡ [])) }
     ensures sound { IfErr result (λ e. is_ascending (keys_of goes.now) ≡ true → is_ascending (keys_of comes.now) ≡ true → IsNotDamage e) }

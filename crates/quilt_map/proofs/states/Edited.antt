@@ -20,7 +20,7 @@ use Rattle.quilt_btree.proofs.batches.Leaves.{are_due-append, edit_all-append}
 use Rattle.quilt_btree.proofs.batches.Lists.{edits_are}
 use Rattle.quilt_btree.proofs.batches.Rises.{whole_rises}
 use Rattle.quilt_btree.proofs.batches.Whole.{fewer-append, more-append}
-use Rattle.quilt_batch.specs.Merges.{IsPart}
+use Rattle.quilt_batch.specs.Merges.{IsMergePart}
 use Rattle.quilt_batch.proofs.Goings.{put-append, removed-append}
 use Rattle.quilt_batch.proofs.Parts.{part_due, part_here, part_left, part_on, part_sizes, part_whole}
 use Rattle.quilt_edition.specs.declared.book.Book.{Book}
@@ -61,7 +61,7 @@ module _ {W : Type 0} {D : disk.Ghosts W} where
   -- the first edits of a merge were made, and these records are left of its lists
   pub record HasEdited (old new : List Record) (a b : Book W D) (goes comes : List Record) : Type 0 where
     pub run : List Edit
-    pub part : IsPart old new run goes comes
+    pub part : IsMergePart old new run goes comes
     pub made : HasMade a b run
 
   made_none : (a : Book W D) → HasMade a a []
@@ -119,8 +119,8 @@ module _ {W : Type 0} {D : disk.Ghosts W} where
         → (is_ascending (keys_of goes) ≡ true) × (is_ascending (keys_of comes) ≡ true)
     edited_left = part_left old new e.run goes comes e.part
 
-    module _ (part : List Edit) (left coming : List Record) (next : IsPart goes comes part left coming) where
-      both : IsPart old new (e.run ++ part) left coming
+    module _ (part : List Edit) (left coming : List Record) (next : IsMergePart goes comes part left coming) where
+      both : IsMergePart old new (e.run ++ part) left coming
       both = part_on old new goes comes left coming e.run part e.part next
 
       -- the next edits

@@ -32,21 +32,33 @@ fn say_all(turns: &mut Turns, rows: &[(&str, &str)]) -> Result<(), AllocError> {
     Ok(())
 }
 
-/// A raster command for the layer, of so many rows of pairs of pixels: 1 stands in the second pixel of a pair and in the first, row by
-/// row in turn. In the first two rows so many pairs have no 1.
-fn striped(alloc: Global, name: &str, rows: u32, empty: u32) -> Result<String, AllocError> {
+/// A raster command for the layer, of so many rows of pairs of pixels: the first pair and the second stand row by row in turn. In the
+/// first two rows so many pairs are of colour 0.
+fn paired(
+    alloc: Global,
+    name: &str,
+    rows: u32,
+    empty: u32,
+    pairs: (&str, &str),
+) -> Result<String, AllocError> {
     let mut text = format!(in alloc; "raster {name}")?;
     for y in 0..rows {
         text.push_str("; ")?;
         for pair in 0..rows / 2 {
             text.push_str(match y {
                 0 | 1 if pair < empty => "0000",
-                _ if y % 2 == 0 => "0001",
-                _ => "0100",
+                _ if y % 2 == 0 => pairs.0,
+                _ => pairs.1,
             })?;
         }
     }
     Ok(text)
+}
+
+/// A raster command for the layer, of so many rows of pairs of pixels: 1 stands in the second pixel of a pair and in the first, row by
+/// row in turn. In the first two rows so many pairs have no 1.
+fn striped(alloc: Global, name: &str, rows: u32, empty: u32) -> Result<String, AllocError> {
+    paired(alloc, name, rows, empty, ("0001", "0100"))
 }
 
 /// Adds a striped raster of 16 rows: its layer, how many of its pairs have no 1, and its reply.
@@ -105,6 +117,33 @@ fn a_layer_outgrows_the_smallest_pool(rt: HostRuntime) -> Result<(), AllocError>
         ("publish", "edition 1; ok"),
         ("blocks a", "1 4096; ok"),
         ("at a 1 0", "1; ok"),
+    ];
+    let mut turns = Turns::new(alloc);
+    say_all(&mut turns, &rows)?;
+    played(&rt, alloc, ["100", "6"], &turns);
+    Ok(())
+}
+
+/// 4,096 blocks of one pixel get other colours by one command: more edits than are made at a time, and of the blocks on both sides of
+/// where the first of them end one colour goes and another comes.
+#[test]
+fn each_block_of_a_layer_gets_another_colour(rt: HostRuntime) -> Result<(), AllocError> {
+    let alloc = rt.alloc();
+    let before = striped(alloc, "a", 64, 0)?;
+    let behind = paired(alloc, "a", 64, 0, ("0302", "0203"))?;
+    let rows = [
+        ("region a 0", "ok"),
+        (before.as_str(), "ok"),
+        (behind.as_str(), "ok"),
+        ("blocks a", "1 4096; ok"),
+        ("records", "4097 of 5888; ok"),
+        ("area a 2", "2048; ok"),
+        ("area a 3", "2048; ok"),
+        ("at a 62 31", "2; ok"),
+        ("at a 63 31", "3; ok"),
+        ("at a 0 32", "3; ok"),
+        ("at a 1 32", "2; ok"),
+        ("publish", "edition 1; ok"),
     ];
     let mut turns = Turns::new(alloc);
     say_all(&mut turns, &rows)?;

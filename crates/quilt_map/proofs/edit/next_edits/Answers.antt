@@ -2,12 +2,12 @@ use Rattle.std.proofs.Common.{◌≡◌, ◌⊎◌, ⊎_elim, ◌+◌, ◌<◌, 
 use Rattle.std.proofs.lemmas.List.{nil_from_length}
 use Rattle.quilt_record.specs.declared.record.Record.{Record}
 use Rattle.quilt_btree.specs.declared.edit.Edit.{Edit}
-use Rattle.quilt_batch.specs.Merges.{IsPart}
+use Rattle.quilt_batch.specs.Merges.{IsMergePart}
 use Rattle.quilt_batch.proofs.Parts.{part_sizes, run_size}
 use Rattle.quilt_map.proofs.edit.next_edits.Goals as goal
 
 -- where something was left, less is left behind a part
-fewer_left : (old new : List Record) (run : List Edit) (goes comes : List Record) → IsPart old new run goes comes → 1 ≤ length old + length new
+fewer_left : (old new : List Record) (run : List Edit) (goes comes : List Record) → IsMergePart old new run goes comes → 1 ≤ length old + length new
     → ((goes ≡ []) × (comes ≡ [])) ⊎ (length run ≡ 2048) → length goes + length comes < length old + length new
 fewer_left old new run goes comes p some full =
     let sizes = part_sizes old new run goes comes p in
