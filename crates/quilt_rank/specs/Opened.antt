@@ -1,5 +1,5 @@
 -- What the opening of a block does to a search for the first k.
-use Rattle.std.specs.Prelude.{◌≡◌, ℕ, ◌+◌, ◌≤◌, List, ◌++◌, map, fold, Option, Result, Ok}
+use Rattle.std.specs.Prelude.{◌≡◌, ℕ, ◌+◌, ◌<◌, ◌≤◌, List, ◌++◌, map, fold, All, Option, Result, Ok}
 use Rattle.std.specs.List.Sorted.{IsPermutation}
 use Rattle.quilt_types.specs.declared.plane.Block.{Block}
 use Rattle.quilt_types.specs.declared.plane.Pixel.{Pixel}
@@ -13,6 +13,11 @@ use Rattle.quilt_near.specs.Parts.{IsPart, PartFits, pages_for}
 use Rattle.quilt_near.specs.declared.part.Part.{Part}
 use Rattle.quilt_near.specs.declared.part.Part.TheVariants.{Split, Leaf}
 use Rattle.quilt_rank.specs.Ranks.{with_ranked}
+
+-- a block that is cut has quarters, and the segments of another have ends whose distances fit
+abbrev pub IsSmallPart : Block → Part → Type 0
+IsSmallPart b Split = 1 < b.side
+IsSmallPart b (Leaf list) = All (λ e. (e.1.x1 < 8192) × (e.1.y1 < 8192) × (e.1.x2 < 8192) × (e.1.y2 < 8192)) list
 
 -- what the opening of a block does to the queue and the first k so far
 abbrev pub AfterRanking : Pixel → ℕ → Block → Part → List (ℕ × Block) → List (ℕ × Block) → List (ℕ × Fraction) → List (ℕ × Fraction) → Type 0

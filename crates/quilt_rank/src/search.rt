@@ -13,7 +13,7 @@ ghost use Rattle.quilt_near.specs.Knowing.{Knows};
 ghost use Rattle.quilt_store.specs.Stops.{IsNotDamage};
 ghost use Rattle.quilt_rank.specs.Firsts.{AreFirst};
 ghost use Rattle.quilt_rank.specs.Ranks.{with_ranked, last_far};
-ghost use Rattle.quilt_rank.specs.Opened.{IsBlockRanked, GivesPart};
+ghost use Rattle.quilt_rank.specs.Opened.{AfterRanking, IsBlockRanked, IsSmallPart, GivesPart};
 
 use crate::firsts::Firsts;
 use crate::ranks::RankList;
@@ -33,6 +33,27 @@ fn rank_all(ranks: &mut Firsts, list: &[(u32, Seg)], p: Pixel, k: usize) -> Resu
         ranks.put(*id, square_distance(p, *s), k)?;
     }
     Ok(())
+}
+
+/// Puts the segments of a block to their places, or its quarters into the queue.
+fn take_part(
+    queue: &mut Queue,
+    ranks: &mut Firsts,
+    p: Pixel,
+    k: usize,
+    b: Block,
+    part: Part,
+) -> Result<(), AllocError>
+    requires x { p.x < 8192 }
+    requires y { p.y < 8192 }
+    requires valid { IsBlock 12 b }
+    requires small { IsSmallPart b part }
+    ensures { OnOk result (AfterRanking p k b part queue.old queue.new ranks.old ranks.new) }
+{
+    match part {
+        Part::Leaf(list) => rank_all(ranks, list.items(), p, k),
+        Part::Split => push_quarters(queue, p, b),
+    }
 }
 
 /// Opens a block: its segments are put to their places, or its quarters wait.
@@ -62,15 +83,10 @@ fn open<S: PageStore, B: SegBlocks<S>>(
     ensures looked { OnOk result (GivesPart (B.looked blocks.now b) store.old store.new) }
     ensures left { OnlyReads S.PageStore store.old store.new result }
 {
-    match blocks.part_known(alloc, store, known, b)? {
-        Part::Leaf(list) => match rank_all(ranks, list.items(), p, k) {
-            Err(_) => Err(Stop::Memory),
-            Ok(()) => Ok(()),
-        },
-        Part::Split => match push_quarters(queue, p, b) {
-            Err(_) => Err(Stop::Memory),
-            Ok(()) => Ok(()),
-        },
+    let part = blocks.part_known(alloc, store, known, b)?;
+    match take_part(queue, ranks, p, k, b, part) {
+        Err(_) => Err(Stop::Memory),
+        Ok(()) => Ok(()),
     }
 }
 

@@ -20,14 +20,14 @@ use Rattle.quilt_loc.proofs.Members.{Contains-filter_from}
 use Rattle.quilt_loc.proofs.Nesting.{side_pos}
 use Rattle.quilt_loc.proofs.Quartered.{IsBlock-whole, Holds-whole, quarters_are}
 use Rattle.quilt_near.specs.Lines.{Lines, IsLines}
-use Rattle.quilt_near.specs.Parts.{IsPart}
+use Rattle.quilt_near.specs.Parts.{IsPart, PartFits}
 use Rattle.quilt_near.specs.declared.part.Part.{Part}
 use Rattle.quilt_near.specs.declared.part.Part.TheVariants.{Split, Leaf}
 use Rattle.quilt_near.proofs.Reached.{All-at, list_any-true, list_any-from, quarter_holding, reached_whole, reached_quarter}
 use Rattle.quilt_near.proofs.Owing.{owed, owed_first, owed_left, owed_leaf, owed_split, left, left_leaf, left_split}
 use Rattle.quilt_near.proofs.Telling.{tells_same, tells_then, tells_weaker}
 use Rattle.quilt_select.specs.Shares.{shares_pixel, holds_any, meets_any}
-use Rattle.quilt_select.specs.Descents.{Waiting, quarter_with, four, with_selected, part_pages, AfterDescent, IsBlockVisited}
+use Rattle.quilt_select.specs.Descents.{Waiting, quarter_with, four, with_selected, part_pages, AfterDescent, IsBlockVisited, IsWidePart}
 use Rattle.quilt_select.proofs.Touching.{IsTouched, touched}
 use Rattle.quilt_select.proofs.Gathering.{gathers}
 use Rattle.quilt_select.proofs.Filters.{one_each, passing}
@@ -67,6 +67,11 @@ some_member (x ∷ xs) lt = (x, Contains-here x xs)
 pub some_length : (k : ℕ) → eqb k 0 ≡ false → 0 < k
 some_length zero e = absurd (true≢false e)
 some_length (suc k) e = omega arith
+
+-- a block that is cut is no pixel
+pub wide_part : (n : ℕ) (b : Block) (part : Part) → PartFits n b part → IsWidePart b part
+wide_part n b Split fits = fits
+wide_part n b (Leaf list) fits = tt
 
 no_member : {X : Type 0} (xs : List X) (x : X) → length xs ≡ 0 → Contains xs x → ⊥
 no_member xs x e c = let lt = c.1 in omega arith

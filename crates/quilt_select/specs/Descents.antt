@@ -29,6 +29,11 @@ four b near = map (quarter_with near) (quarters_of b)
 abbrev pub with_selected : List Window → List (ℕ × Seg) → ℕ × Seg → List (ℕ × Seg)
 with_selected near es e = if meets_any near e.1 then insert_entry nat_cmp es e.0 e.1 else es
 
+-- a block that is cut is no pixel
+abbrev pub IsWidePart : Block → Part → Type 0
+IsWidePart b Split = 1 < b.side
+IsWidePart b (Leaf list) = Unit {0}
+
 -- how many pages were read, where a block without windows is not opened
 abbrev pub part_pages : Option Part → ℕ
 part_pages None = 0

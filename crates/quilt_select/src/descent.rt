@@ -1,4 +1,4 @@
-ghost use Rattle.std.specs.Prelude.{◌≡◌, ℕ, ◌+◌, ◌<◌, ◌≤◌, true, ◌++◌, filter, fold, length, All, IfOk, IfErr, OnOk};
+ghost use Rattle.std.specs.Prelude.{◌≡◌, ℕ, ◌+◌, ◌<◌, ◌≤◌, true, ◌++◌, filter, fold, length, All, Some, IfOk, IfErr, OnOk};
 ghost use Rattle.std.specs.Ordering.{nat_cmp};
 ghost use Rattle.std.specs.BTreeMap.{IsOrdered};
 ghost use Rattle.std.specs.FinMap as finmap;
@@ -10,7 +10,7 @@ ghost use Rattle.quilt_near.specs.Lines.{Lines};
 ghost use Rattle.quilt_near.specs.Knowing.{Knows};
 ghost use Rattle.quilt_store.specs.Stops.{IsNotDamage};
 ghost use Rattle.quilt_select.specs.Shares.{shares_pixel as shares_of, holds_any, meets_any as meets_any_of};
-ghost use Rattle.quilt_select.specs.Descents.{four, with_selected, IsBlockVisited};
+ghost use Rattle.quilt_select.specs.Descents.{four, with_selected, AfterDescent, IsBlockVisited, IsWidePart};
 
 use crate::stack::Stack;
 use quilt_clip::crosses;
@@ -91,6 +91,26 @@ fn push_quarters(
     Ok(())
 }
 
+/// Puts the segments of a block among the found ones, or its quarters on the stack.
+fn take_part(
+    alloc: Global,
+    stack: &mut Stack,
+    found: &mut BTreeMap<u32, Seg>,
+    b: Block,
+    near: &[Window],
+    part: Part,
+) -> Result<(), AllocError>
+    requires some { 0 < length near.now }
+    requires valid { IsBlock 12 b }
+    requires wide { IsWidePart b part }
+    ensures { OnOk result (AfterDescent b near.now (Some part) stack.old stack.new found.old.entries found.new.entries) }
+{
+    match part {
+        Part::Leaf(list) => gather(found, list.items(), near),
+        Part::Split => push_quarters(alloc, stack, b, near),
+    }
+}
+
 /// Opens a block that came out: its segments are gathered, or its quarters wait. A block without windows stays shut.
 fn open<S: PageStore, B: SegBlocks<S>>(
     alloc: Global,
@@ -116,15 +136,10 @@ fn open<S: PageStore, B: SegBlocks<S>>(
     if near.is_empty() {
         return Ok(());
     }
-    match blocks.part_known(alloc, store, known, b)? {
-        Part::Leaf(list) => match gather(found, list.items(), near) {
-            Err(_) => Err(Stop::Memory),
-            Ok(()) => Ok(()),
-        },
-        Part::Split => match push_quarters(alloc, stack, b, near) {
-            Err(_) => Err(Stop::Memory),
-            Ok(()) => Ok(()),
-        },
+    let part = blocks.part_known(alloc, store, known, b)?;
+    match take_part(alloc, stack, found, b, near, part) {
+        Err(_) => Err(Stop::Memory),
+        Ok(()) => Ok(()),
     }
 }
 

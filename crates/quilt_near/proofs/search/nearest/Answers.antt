@@ -24,13 +24,6 @@ loop-distance-init g c =
           c.new-known.ensures.segs;
     }
 
-pub open-requires-clause-known : goal.open-requires-clause-known
-open-requires-clause-known g c =
-    knows_where _ (g.B.SegBlocks.shows c.args.blocks.now c.args.store.now) _ (g.B.SegBlocks.marked c.args.blocks.now c.args.store.now) _ c.loop-distance.known
-    (λ l s. g.met.B.SegBlocks.same c.args.blocks.now c.loop-distance.store c.args.store.now l (sym c.loop-distance.invariant.left.told) s)
-    (λ m s. g.met.B.SegBlocks.same_marks c.args.blocks.now c.args.store.now c.loop-distance.store m c.loop-distance.invariant.left.told s)
-    c.loop-distance.invariant.known
-
 pub open-requires-clause-block : goal.open-requires-clause-block
 open-requires-clause-block g c =
     first_valid _ c.args.p _ (g.met.B.SegBlocks.lines c.args.blocks.now c.args.store.now) (g.S.PageStore.reads c.args.store.now)
@@ -70,8 +63,9 @@ loop-distance-preserved g c =
           c.in-Some.ensures.least (sym c.is_past.ensures ∙ c.if-is_past.false) c.in_ok-best.ensures.opened;
       left = read_on _ g.met.S.PageStore.goes_on c.args.store.now c.loop-distance.store c.open.new.store i.left c.open.ensures.left;
       known = knows_where _ (g.B.SegBlocks.shows c.args.blocks.now c.loop-distance.store) _ (g.B.SegBlocks.marked c.args.blocks.now c.loop-distance.store) _ c.open.new.known
-          (λ l s. g.met.B.SegBlocks.same c.args.blocks.now c.args.store.now c.loop-distance.store l i.left.told s)
-          (λ m s. g.met.B.SegBlocks.same_marks c.args.blocks.now c.loop-distance.store c.args.store.now m (sym i.left.told) s) c.in_ok-best.ensures.known;
+          (λ l s. g.met.B.SegBlocks.same c.args.blocks.now c.open.new.store c.loop-distance.store l (sym c.open.ensures.left.told) s)
+          (λ m s. g.met.B.SegBlocks.same_marks c.args.blocks.now c.loop-distance.store c.open.new.store m c.open.ensures.left.told s)
+          c.in_ok-best.ensures.known;
     }
 
 -- at either end the best so far is the answer

@@ -20,13 +20,6 @@ loop-block-init g c =
           c.new-known.ensures.segs;
     }
 
-pub open-requires-clause-known : goal.open-requires-clause-known
-open-requires-clause-known g c =
-    knows_where _ (g.B.SegBlocks.shows c.args.blocks.now c.args.store.now) _ (g.B.SegBlocks.marked c.args.blocks.now c.args.store.now) _ c.loop-block.known
-    (λ l s. g.met.B.SegBlocks.same c.args.blocks.now c.loop-block.store c.args.store.now l (sym c.loop-block.invariant.left.told) s)
-    (λ m s. g.met.B.SegBlocks.same_marks c.args.blocks.now c.args.store.now c.loop-block.store m c.loop-block.invariant.left.told s)
-    c.loop-block.invariant.known
-
 pub open-requires-clause-block : goal.open-requires-clause-block
 open-requires-clause-block g c =
     first_valid _ c.args.windows.items c.requires (g.B.SegBlocks.shows c.args.blocks.now c.args.store.now)
@@ -73,8 +66,9 @@ loop-block-preserved g c =
           (g.S.PageStore.reads c.open.new.store)) c.deref-in-Some.ensures.value c.in_ok-open.ensures.opened);
       left = read_on _ g.met.S.PageStore.goes_on c.args.store.now c.loop-block.store c.open.new.store i.left c.open.ensures.left;
       known = knows_where _ (g.B.SegBlocks.shows c.args.blocks.now c.loop-block.store) _ (g.B.SegBlocks.marked c.args.blocks.now c.loop-block.store) _ c.open.new.known
-          (λ l s. g.met.B.SegBlocks.same c.args.blocks.now c.args.store.now c.loop-block.store l i.left.told s)
-          (λ m s. g.met.B.SegBlocks.same_marks c.args.blocks.now c.loop-block.store c.args.store.now m (sym i.left.told) s) c.in_ok-open.ensures.known;
+          (λ l s. g.met.B.SegBlocks.same c.args.blocks.now c.open.new.store c.loop-block.store l (sym c.open.ensures.left.told) s)
+          (λ m s. g.met.B.SegBlocks.same_marks c.args.blocks.now c.loop-block.store c.open.new.store m c.open.ensures.left.told s)
+          c.in_ok-open.ensures.known;
     }
 
 pub returns-clause-selected : goal.returns-clause-selected

@@ -10,8 +10,7 @@ invariant-loop-block g l = record {
   going : Going (g.B.SegBlocks.level_of l.blocks) l.fn.windows.items (g.B.SegBlocks.shows l.blocks l.fn.store) (g.S.PageStore.reads l.fn.store)
       (g.S.PageStore.reads l.store) l.stack l.found.entries;
   left : IsOnlyRead g.S.PageStore l.fn.store l.store;
-  known : Knows (g.B.SegBlocks.level_of l.blocks) (g.B.SegBlocks.shows l.blocks l.fn.store)
-      (g.B.SegBlocks.marked l.blocks l.fn.store) l.known;
+  known : Knows (g.B.SegBlocks.level_of l.blocks) (g.B.SegBlocks.shows l.blocks l.store) (g.B.SegBlocks.marked l.blocks l.store) l.known;
 }
 
 abbrev pub decreases-loop-block : goal.decreases-loop-block
