@@ -1,12 +1,12 @@
-use Rattle.std.proofs.Common.{◌≡◌, ℕ, ◌^◌, length, refl, sym, ◌∙◌, ap, subst, arith}
-use Rattle.quilt_types.specs.declared.plane.Pixel.{Pixel}
+use Rattle.std.proofs.Common.{ℕ, ◌^◌, refl, sym, ◌∙◌, ap, subst, arith}
 use Rattle.quilt_types.specs.Layers.{Grid, colour_at}
 use Rattle.quilt_types.specs.Algebra.{recoloured_by}
 use Rattle.quilt_blocks.specs.Cutting.{leaf_pair}
 use Rattle.quilt_blocks.specs.Walk.{IsLeafAt}
-use Rattle.quilt_blocks.specs.Painting.{Painted, grid_by_code}
-use Rattle.quilt_blocks.proofs.Painting.{Paints, Paints-push, Paints-all}
+use Rattle.quilt_blocks.specs.Painting.{Painted}
+use Rattle.quilt_blocks.proofs.Painting.{Paints, Paints-push}
 use Rattle.quilt_overlay.specs.Combining.{numbers_of}
+use Rattle.quilt_overlay.proofs.Finished.{finished}
 use Rattle.quilt_overlay.proofs.colours.recolour.Goals as goal
 
 pub loop-leaf-preserved : goal.loop-leaf-preserved
@@ -36,12 +36,6 @@ loop-leaf-preserved c =
 
 pub returns : goal.returns
 returns c =
-    let n = c.args.a.now.level in
-    let g = c.args.a.now.grid in
     let inv = c.loop-leaf.invariant in
-    let f : Pixel → ℕ = λ p. recoloured_by (numbers_of c.args.pairs.now) (colour_at n g p) in
-    let end : length c.loop-leaf.maker.colours ≡ 4 ^ n = sym inv.place ∙ c.in_default.ensures.whole.0 refl ∙ ap (λ (k : ℕ). 4 ^ k) inv.same_level in
-    let level = c.finish.ensures.level ∙ inv.level in
-    let grid = c.finish.ensures.value ∙ ap (λ (k : ℕ). grid_by_code k c.loop-leaf.maker.colours) inv.level
-    ∙ Paints-all n f c.loop-leaf.maker.colours c.level.ensures.raster.most end inv.paints in
-    λ i. record { level = level i; grid = grid i }
+    finished c.args.a.now.level _ c.loop-leaf.maker _ c.level.ensures.raster.most inv.level
+    (sym inv.place ∙ c.in_default.ensures.whole.0 refl ∙ ap (λ (k : ℕ). 4 ^ k) inv.same_level) inv.paints c.finish.ensures.level c.finish.ensures.value

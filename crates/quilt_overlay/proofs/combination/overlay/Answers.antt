@@ -1,13 +1,14 @@
 use Rattle.std.proofs.Common.{◌≡◌, ℕ, ◌^◌, inl, inr, ⊎_elim, length, refl, sym, ◌∙◌, ap, subst, arith}
 use Rattle.quilt_types.specs.declared.plane.Pixel.{Pixel}
 use Rattle.quilt_types.specs.Plane.{IsBlock}
-use Rattle.quilt_types.specs.Layers.{colour_at}
+use Rattle.quilt_types.specs.Layers.{Grid, colour_at}
 use Rattle.quilt_loc.specs.Codes.{code_from, code_to}
 use Rattle.quilt_loc.proofs.CodeLaws.{code_below}
-use Rattle.quilt_blocks.specs.Painting.{Painted, grid_by_code}
-use Rattle.quilt_blocks.proofs.Painting.{Paints, Paints-push, Paints-all}
+use Rattle.quilt_blocks.specs.Painting.{Painted}
+use Rattle.quilt_blocks.proofs.Painting.{Paints, Paints-push}
 use Rattle.quilt_blocks.proofs.Paired.{at_some}
 use Rattle.quilt_overlay.specs.Combining.{combined}
+use Rattle.quilt_overlay.proofs.Finished.{finished}
 use Rattle.quilt_overlay.proofs.Fronts.{step_of, colour_of, passed_first, passed_second, both_over, IsFront-at, overlaid_is}
 use Rattle.quilt_overlay.proofs.combination.overlay.Goals as goal
 
@@ -113,11 +114,7 @@ returns c =
     let ga = c.args.a.now.grid in
     let gb = c.args.b.now.grid in
     let inv = c.loop-p.invariant in
-    let colours = c.loop-p.maker.colours in
-    let f : Pixel → ℕ = λ x. combined c.args.op (colour_at n ga x) (colour_at n gb x) in
-    let end : length colours ≡ 4 ^ n = both_over n ga gb (length colours) c.loop-p.first c.loop-p.second c.loop-p.firsts c.loop-p.seconds
-    c.level.ensures.raster.most inv.firsts inv.seconds inv.starts (sym c.in_default.ensures) in
-    let level = c.finish.ensures.level ∙ inv.level in
-    let grid = c.finish.ensures.value ∙ ap (λ (k : ℕ). grid_by_code k colours) inv.level
-    ∙ Paints-all n f colours c.level.ensures.raster.most end inv.paints ∙ overlaid_is c.args.op n ga gb in
-    λ i. record { level = level i; grid = grid i }
+    finished n _ c.loop-p.maker _ c.level.ensures.raster.most inv.level
+    (both_over n ga gb (length c.loop-p.maker.colours) c.loop-p.first c.loop-p.second c.loop-p.firsts c.loop-p.seconds c.level.ensures.raster.most
+    inv.firsts inv.seconds inv.starts (sym c.in_default.ensures)) inv.paints c.finish.ensures.level c.finish.ensures.value
+    ∙ ap (λ (g : Grid). record { level = n; grid = g }) (overlaid_is c.args.op n ga gb)
