@@ -1,30 +1,8 @@
-ghost use Rattle.std.specs.Prelude.{◌≤◌};
-
 use crate::drawing::{drawn_segs, is_layer, points_at_zero};
 use crate::plain::all_pairs;
-use quilt_join::{PairList, crossings};
+use quilt_join::crossings;
 use quilt_types::Seg;
-use std::alloc::{AllocError, Global};
 use std::test::Fail;
-use std::thread::Threads;
-
-/// The crossings of two lists that are layers of the level, and none of others.
-fn found<R: Threads + Sync>(
-    rt: &R,
-    alloc: Global,
-    level: u8,
-    a: &[(u32, Seg)],
-    b: &[(u32, Seg)],
-) -> Result<Option<PairList>, AllocError>
-    requires least { 1 ≤ level }
-    requires most { level ≤ 12 }
-{
-    if is_layer(level, a) && is_layer(level, b) {
-        crossings(rt, alloc, level, a, b)
-    } else {
-        Ok(None)
-    }
-}
 
 /// A segment from (x1, y1) to (x2, y2).
 fn seg(x1: u16, y1: u16, x2: u16, y2: u16) -> Seg {
@@ -39,11 +17,13 @@ fn worked_rows(rt: HostRuntime) -> Result<(), Fail> {
         (3, seg(4, 0, 6, 0)),
     ];
     let m = [(5, seg(0, 7, 7, 0)), (6, seg(3, 7, 7, 7))];
-    let Some(both) = found(&rt, rt.alloc(), 3, &l, &m)? else {
+    assert!(rt; is_layer(3, &l));
+    assert!(rt; is_layer(3, &m));
+    let Some(both) = crossings(&rt, rt.alloc(), 3, &l, &m)? else {
         return Err(Fail::from("a list"));
     };
     assert!(rt; both.items() == [(1, 5), (1, 6), (2, 5), (2, 6)].as_slice());
-    let Some(own) = found(&rt, rt.alloc(), 3, &l, &l)? else {
+    let Some(own) = crossings(&rt, rt.alloc(), 3, &l, &l)? else {
         return Err(Fail::from("a list"));
     };
     assert!(rt; own.items() == [(1, 1), (2, 2), (3, 3)].as_slice());
@@ -54,12 +34,13 @@ fn worked_rows(rt: HostRuntime) -> Result<(), Fail> {
 fn the_most_pairs(rt: HostRuntime) -> Result<(), Fail> {
     let thousand = points_at_zero(rt.alloc(), 1000)?;
     let one_more = points_at_zero(rt.alloc(), 1001)?;
-    let Some(list) = found(&rt, rt.alloc(), 1, thousand.items(), thousand.items())? else {
+    assert!(rt; is_layer(1, thousand.items()));
+    assert!(rt; is_layer(1, one_more.items()));
+    let Some(list) = crossings(&rt, rt.alloc(), 1, thousand.items(), thousand.items())? else {
         return Err(Fail::from("a list"));
     };
     assert_eq!(rt; list.items().len(), 1_000_000);
-    assert!(rt; is_layer(1, one_more.items()));
-    assert!(rt; found(&rt, rt.alloc(), 1, one_more.items(), thousand.items())?.is_none());
+    assert!(rt; crossings(&rt, rt.alloc(), 1, one_more.items(), thousand.items())?.is_none());
     Ok(())
 }
 
@@ -70,7 +51,9 @@ fn drawn_layers(rt: HostRuntime) -> Result<(), Fail> {
         for seed in 0..334_u64 {
             let a = drawn_segs(rt.alloc(), level, 30, 2 * seed + 100 * level as u64)?;
             let b = drawn_segs(rt.alloc(), level, 40, 2 * seed + 1 + 100 * level as u64)?;
-            let Some(list) = found(&rt, rt.alloc(), level, a.items(), b.items())? else {
+            assert!(rt; is_layer(level, a.items()));
+            assert!(rt; is_layer(level, b.items()));
+            let Some(list) = crossings(&rt, rt.alloc(), level, a.items(), b.items())? else {
                 return Err(Fail::from("a list"));
             };
             let plain = all_pairs(rt.alloc(), a.items(), b.items())?;
