@@ -1,6 +1,4 @@
-ghost use Rattle.std.specs.Prelude.{◌≡◌, ◌≤◌, true, All};
-ghost use Rattle.std.specs.Bool.{OnTrue};
-ghost use Rattle.quilt_types.specs.Layers.{is_in_square};
+ghost use Rattle.std.specs.Prelude.{◌≤◌};
 
 use quilt_types::Seg;
 
@@ -37,26 +35,4 @@ pub fn drawn_seg(state: u64, level: u8) -> Seg
         _ => (x1, y1, x2, y2),
     };
     Seg { x1, y1, x2, y2 }
-}
-
-/// Whether the ends of the segment are pixels of the level.
-fn is_within(level: u8, s: Seg) -> bool
-    requires { level ≤ 12 }
-    ensures { result ≡ is_in_square level s }
-{
-    let side = 1_u16 << level;
-    s.x1 < side && s.y1 < side && s.x2 < side && s.y2 < side
-}
-
-/// Whether the ends of the segments are pixels of the level.
-pub fn are_in_square(level: u8, list: &[(u32, Seg)]) -> bool
-    requires { level ≤ 12 }
-    ensures { OnTrue result (All (λ e. is_in_square level e.1 ≡ true) list.now) }
-{
-    for (_, s) in list {
-        if !is_within(level, *s) {
-            return false;
-        }
-    }
-    true
 }
