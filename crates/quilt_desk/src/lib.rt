@@ -3,6 +3,7 @@
 
 mod calls;
 mod calm;
+mod choice;
 mod copies;
 mod desk;
 mod events;
@@ -12,4 +13,5 @@ mod path;
 mod source;
 
 pub use calm::Calm;
+pub use choice::choices;
 pub use desk::Desk;

@@ -1,8 +1,6 @@
-ghost use Rattle.std.specs.Prelude.{◌≡◌, length, IfOk, IfSome};
-ghost use Rattle.quilt_journal.specs.Beginning.{NoneFree};
+ghost use Rattle.std.specs.Prelude.{◌≡◌, length, IfOk};
 
-use quilt_desk::Desk;
-use quilt_world::{Attached, Disk, Image, World};
+use quilt_world::Image;
 use std::alloc::{AllocError, Global};
 
 /// A map file of 16 home pages, of which page i is filled with the byte i.
@@ -30,16 +28,4 @@ pub fn foreign_file(alloc: Global, gate: u8, listed: u8) -> Result<Image, AllocE
     image.set_page(2, &directory);
     image.set_page(19, &[77; 4096]);
     Ok(image)
-}
-
-/// A desk that has opened this file, and of which the call of this number fails.
-pub fn opened(alloc: Global, file: Image, failing: u64) -> Result<Option<Desk>, AllocError>
-    ensures none { IfOk result (λ o. IfSome o (λ d. IfSome (⟦<Desk as Disk>⟧.told d) NoneFree)) }
-{
-    let mut desk = Desk::new(alloc, "m", Some(file), b"")?;
-    desk.fail_at(failing)?;
-    match desk.attach("m") {
-        Ok(Attached::Ready) => Ok(Some(desk)),
-        _ => Ok(None),
-    }
 }

@@ -3,7 +3,7 @@ ghost use Rattle.quilt_journal.specs.Kept.{IsIdle, IsKept};
 ghost use Rattle.quilt_journal.specs.declared.journal.State.TheVariants.{Idle};
 
 use crate::calls::{crashed, events_of};
-use crate::files::{map_file, opened};
+use crate::files::map_file;
 use quilt_desk::Desk;
 use quilt_journal::{Begun, Journal};
 use quilt_world::{Disk, Fault, Image};
@@ -42,11 +42,12 @@ fn publish_three<D: Disk>(journal: &mut Journal, disk: &mut D, byte: u8) -> Resu
 
 /// Publishes the pages 0, 5 and 15 of a new map file, filled with 9, where the call of this number fails. It gives the answer, if
 /// the journal was opened, and the desk as that leaves it.
+#[tactic(auto, using(quilt_journal::proofs::Begins::none_free_fresh))]
 pub fn published(
     alloc: Global,
     failing: u64,
 ) -> Result<Option<(Option<Result<(), Fault>>, Desk)>, AllocError> {
-    let Some(mut desk) = opened(alloc, map_file(alloc)?, failing)? else {
+    let Some(mut desk) = Desk::opened(alloc, map_file(alloc)?, failing)? else {
         return Ok(None);
     };
     let answer = match Journal::begin(&mut desk) {
@@ -57,8 +58,9 @@ pub fn published(
 }
 
 /// The marks of a file that is opened again.
+#[tactic(auto, using(quilt_journal::proofs::Begins::none_free_fresh))]
 pub fn reopened(alloc: Global, file: Image) -> Result<Option<[u8; 16]>, AllocError> {
-    let Some(mut desk) = opened(alloc, file, 0)? else {
+    let Some(mut desk) = Desk::opened(alloc, file, 0)? else {
         return Ok(None);
     };
     match Journal::begin(&mut desk) {
@@ -68,6 +70,7 @@ pub fn reopened(alloc: Global, file: Image) -> Result<Option<[u8; 16]>, AllocErr
 }
 
 /// The desk that has opened the journal of what a stop after so many events leaves.
+#[tactic(auto, using(quilt_journal::proofs::Begins::none_free_fresh))]
 pub fn begun_after(
     alloc: Global,
     desk: &Desk,
@@ -77,7 +80,7 @@ pub fn begun_after(
     let Some(file) = crashed(desk, events, choice)? else {
         return Ok(None);
     };
-    let Some(mut again) = opened(alloc, file, 0)? else {
+    let Some(mut again) = Desk::opened(alloc, file, 0)? else {
         return Ok(None);
     };
     match Journal::begin(&mut again) {

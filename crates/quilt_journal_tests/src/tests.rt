@@ -1,24 +1,12 @@
 use crate::calls::{events_of, is_torn, pages_of, torn_writes};
 use crate::files::foreign_file;
 use crate::steps::{begun_after, published, reopened, stops};
+use quilt_desk::choices;
 use std::test::Fail;
 
 const OLD: [u8; 16] = [0, 1, 2, 3, 4, 5, 6, 7, 8, 9, 10, 11, 12, 13, 14, 15];
 
 const NEW: [u8; 16] = [9, 1, 2, 3, 4, 9, 6, 7, 8, 9, 10, 11, 12, 13, 14, 9];
-
-// The choices of a stop: all alike for the first three, and mixed ones after them.
-fn choice(k: u8) -> [u8; 35] {
-    let mut choice = [if k == 2 { 7 } else { k % 2 }; 35];
-    if k > 2 {
-        let mut next = k;
-        for page in &mut choice {
-            next = next.wrapping_mul(5).wrapping_add(k);
-            *page = next / 16 % 3;
-        }
-    }
-    choice
-}
 
 // A publish of three pages writes each to its slot, the directory, the gate, each to its home, and the gate.
 const WRITES: u32 = 9;
@@ -31,9 +19,9 @@ fn each_stop_leaves_old_or_new(rt: HostRuntime) -> Result<(), Fail> {
     };
     assert_eq!(rt; answer, Some(Ok(())));
     assert!(rt; pages_of(&desk) == 35);
-    assert_eq!(rt; torn_writes(&desk, &choice(2))?, WRITES);
+    assert_eq!(rt; torn_writes(&desk, &choices::<35>(2))?, WRITES);
     for k in 0..23 {
-        let all = stops(rt.alloc(), &desk, &choice(k))?;
+        let all = stops(rt.alloc(), &desk, &choices(k))?;
         assert_eq!(rt; all.len(), 14, "choice {k}");
         for marks in &all {
             assert!(rt; *marks == Some(OLD) || *marks == Some(NEW), "choice {k}");
@@ -52,13 +40,13 @@ fn second_stop_leaves_new(rt: HostRuntime) -> Result<(), Fail> {
     assert_eq!(rt; answer, Some(Ok(())));
     assert!(rt; pages_of(&desk) == 35 && events_of(&desk) == 13);
     for k in 0..5 {
-        let Some(again) = begun_after(rt.alloc(), &desk, 8, &choice(k))? else {
+        let Some(again) = begun_after(rt.alloc(), &desk, 8, &choices(k))? else {
             panic!(rt; "no journal");
         };
         assert!(rt; pages_of(&again) == 35);
         // The three pages are carried home, and the gate is closed.
-        assert_eq!(rt; torn_writes(&again, &choice(2))?, 4);
-        for marks in &stops(rt.alloc(), &again, &choice(k))? {
+        assert_eq!(rt; torn_writes(&again, &choices::<35>(2))?, 4);
+        for marks in &stops(rt.alloc(), &again, &choices(k))? {
             assert_eq!(rt; *marks, Some(NEW), "choice {k}");
         }
     }
@@ -75,7 +63,7 @@ fn each_fault_leaves_old_or_new(rt: HostRuntime) -> Result<(), Fail> {
         };
         assert!(rt; answer != Some(Ok(())), "call {failing}");
         assert!(rt; pages_of(&desk) == 35);
-        for marks in &stops(rt.alloc(), &desk, &choice(2))? {
+        for marks in &stops(rt.alloc(), &desk, &choices(2))? {
             assert!(rt;
                 *marks == Some(OLD) || *marks == Some(NEW),
                 "call {failing}"

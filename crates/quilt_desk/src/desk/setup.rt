@@ -1,4 +1,4 @@
-ghost use Rattle.std.specs.Prelude.{◌≡◌, ◌≤◌, [], ◌∷◌, ◌++◌, Some, is_some, OnOk, OnErr, IfOk, IfSome};
+ghost use Rattle.std.specs.Prelude.{◌≡◌, ◌≤◌, [], ◌∷◌, ◌++◌, Some, None, is_some, OnOk, OnErr, IfOk, IfSome};
 ghost use Rattle.std.specs.Option.{option_copied};
 ghost use Rattle.quilt_world.specs.Tale.{put_bytes};
 ghost use Rattle.quilt_world.specs.declared.disk.Door.TheVariants as doors;
@@ -8,7 +8,7 @@ use super::Desk;
 use crate::calls::Calls;
 use crate::copies::Copies;
 use crate::input::Input;
-use quilt_world::{Disk, Door, Event, Image};
+use quilt_world::{Attached, Disk, Door, Event, Image, World};
 use std::alloc::{AllocError, Global};
 
 impl Desk {
@@ -51,6 +51,24 @@ impl Desk {
             writes: 0,
             calls: Calls::new(alloc),
         })
+    }
+
+    /// A world without input that has opened this file, and of which the call of this number fails. The call that opens the file is the
+    /// first, and there is no such world where that one fails.
+    pub fn opened(alloc: Global, file: Image, failing: u64) -> Result<Option<Desk>, AllocError>
+        ensures none { IfOk result (λ o. o ≡ None → failing ≡ 1) }
+        ensures door { IfOk result (λ o. IfSome o (λ d. ⟦<Desk as Disk>⟧.door d ≡ doors.Ready)) }
+        ensures log { IfOk result (λ o. IfSome o (λ d. IfSome (⟦<Desk as Disk>⟧.told d) (λ t. t.log ≡ []))) }
+        ensures file { IfOk result (λ o. IfSome o (λ d. file_of d ≡ Some file)) }
+        ensures calls { IfOk result (λ o. IfSome o (λ d. calls_of d ≡ 1)) }
+        ensures failing { IfOk result (λ o. IfSome o (λ d. failing_of d ≡ failing ∷ [])) }
+    {
+        let mut desk = Desk::new(alloc, "m", Some(file), b"")?;
+        desk.fail_at(failing)?;
+        match desk.attach("m") {
+            Ok(Attached::Ready) => Ok(Some(desk)),
+            _ => Ok(None),
+        }
     }
 
     /// Lets the call of this number fail, counted from 1 over all calls of a disk and a world but `pages`. Several may fail. A
