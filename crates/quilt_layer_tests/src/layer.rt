@@ -1,7 +1,6 @@
 ghost use Rattle.std.specs.Prelude.{◌≡◌, ◌≤◌, true, All};
 ghost use Rattle.std.specs.Bool.{OnTrue};
-ghost use Rattle.quilt_types.specs.Plane.{is_pixel, is_window};
-ghost use Rattle.quilt_types.specs.Layers.{is_in_square as is_seg_in_square};
+ghost use Rattle.quilt_types.specs.Plane.{is_pixel};
 ghost use Rattle.quilt_btree.specs.Trees.{IsRooted};
 
 use quilt_batch::merged;
@@ -11,6 +10,7 @@ use quilt_lines as lines;
 use quilt_lines::LineView;
 use quilt_loc::whole_square;
 use quilt_near::{SegList, nearest};
+use quilt_plain::{is_in_square, is_window};
 use quilt_points as points;
 use quilt_record::{Edits, Key, Record, read_point, region_record};
 use quilt_region as regions;
@@ -57,27 +57,6 @@ fn has_points(level: u8, points: &[Point]) -> bool
     ensures { OnTrue result (All (λ p. is_pixel level p.at ≡ true) points.now) }
 {
     points.iter().all(|p| has_pixel(level, p.at))
-}
-
-/// Whether the ends of the segment are pixels of the square.
-fn has_segment(level: u8, s: Seg) -> bool
-    requires { level ≤ 12 }
-    ensures { result ≡ is_seg_in_square level s }
-{
-    let side = 1_u16 << level;
-    (s.x1 < side && s.y1 < side) && (s.x2 < side && s.y2 < side)
-}
-
-/// Whether the window lies in the square and has a pixel.
-fn has_window(level: u8, w: Window) -> bool
-    requires { level ≤ 12 }
-    ensures { result ≡ is_window level w }
-{
-    let side = 1_u32 << level;
-    1 <= w.w
-        && 1 <= w.h
-        && u32::from(w.x) + u32::from(w.w) <= side
-        && u32::from(w.y) + u32::from(w.h) <= side
 }
 
 impl Layer {
@@ -208,7 +187,7 @@ impl Layer {
 
     /// The points in the window.
     pub fn within(&mut self, rt: &impl Abort, alloc: Global, w: Window) -> Result<PointList, Stop> {
-        assert!(rt; has_window(self.level, w));
+        assert!(rt; is_window(self.level, w));
         points::within(
             alloc,
             &mut self.store,
@@ -311,7 +290,7 @@ impl Layer {
         alloc: Global,
         w: Window,
     ) -> Result<LeafList, Stop> {
-        assert!(rt; has_window(self.level, w));
+        assert!(rt; is_window(self.level, w));
         regions::read_window(
             alloc,
             &mut self.store,
@@ -336,7 +315,7 @@ impl Layer {
         w: Window,
         c: Colour,
     ) -> Result<Edits, Stop> {
-        assert!(rt; has_window(self.level, w));
+        assert!(rt; is_window(self.level, w));
         regions::plan_rect(
             alloc,
             &mut self.store,
@@ -394,7 +373,7 @@ impl Layer {
         id: u32,
         s: Seg,
     ) -> Result<Option<Edits>, Stop> {
-        assert!(rt; has_segment(self.level, s));
+        assert!(rt; is_in_square(self.level, s));
         lines::plan_add(
             alloc,
             &mut self.store,
