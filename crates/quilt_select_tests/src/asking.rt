@@ -1,9 +1,9 @@
 //! The questions on lines, asked of a layer in memory. Each fails where its conditions do not hold, and promises nothing, so
 //! that the tests need no facts and are proved in short time.
-use crate::drawing::is_window;
 use quilt_blocks::LeafList;
 use quilt_clip::Frac;
 use quilt_near::{Even, SegList, nearest};
+use quilt_plain::is_window;
 use quilt_rank::{RankList, ranked};
 use quilt_select::{ClipList, clipped, cross, over};
 use quilt_store::MemStore;

@@ -1,5 +1,4 @@
-ghost use Rattle.std.specs.Prelude.{◌≡◌, ◌≤◌};
-ghost use Rattle.quilt_types.specs.Plane.{is_window as is_window_of};
+ghost use Rattle.std.specs.Prelude.{◌≤◌};
 
 use quilt_near::{Even, SegList};
 use quilt_plain::{are_in_square, drawn_coordinate, drawn_seg, next_state};
@@ -76,15 +75,6 @@ pub fn drawn_pixel(state: u64, level: u8) -> Pixel
         x: drawn_coordinate(state, 0, level).min(8191),
         y: drawn_coordinate(state, 1, level).min(8191),
     }
-}
-
-/// Whether the window lies in the square of the level.
-pub fn is_window(level: u8, w: Window) -> bool
-    requires { level ≤ 12 }
-    ensures { result ≡ is_window_of level w }
-{
-    let side = 1_u32 << level;
-    0 < w.w && 0 < w.h && w.x as u32 + w.w as u32 <= side && w.y as u32 + w.h as u32 <= side
 }
 
 /// A window of the square of the level.
