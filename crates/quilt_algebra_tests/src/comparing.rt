@@ -1,10 +1,10 @@
 //! Calls of the map algebra without contracts: each fails where its conditions do not hold, and promises nothing, so that the
 //! tests need no facts and are proved in short time.
-use crate::windows::is_window;
 use quilt_blocks::{Cursor, Leaf, LeafList};
 use quilt_buffer::buffer;
 use quilt_measure::{area, histogram, perimeter};
 use quilt_overlay::{Op, overlay, recolour};
+use quilt_plain::is_window;
 use quilt_raster::{leaves_of, render};
 use quilt_types::{Colour, Pixel, Text, Window};
 use quilt_window::{shift, window};

@@ -1,18 +1,8 @@
-ghost use Rattle.std.specs.Prelude.{◌≡◌, ◌≤◌};
-ghost use Rattle.quilt_types.specs.Plane.{is_window as is_window_of};
+ghost use Rattle.std.specs.Prelude.{◌≤◌};
 
 use quilt_plain::Dice;
 use quilt_types::Window;
 use std::process::Abort;
-
-/// Whether the window lies in the square of the level.
-pub fn is_window(level: u8, w: Window) -> bool
-    requires { level ≤ 12 }
-    ensures { result ≡ is_window_of level w }
-{
-    let side = 1_u32 << level;
-    0 < w.w && 0 < w.h && w.x as u32 + w.w as u32 <= side && w.y as u32 + w.h as u32 <= side
-}
 
 /// A drawn window of the square of the level.
 pub fn drawn_window(rt: &impl Abort, dice: &mut Dice, level: u8) -> Window
