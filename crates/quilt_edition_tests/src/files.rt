@@ -1,8 +1,6 @@
-ghost use Rattle.std.specs.Prelude.{◌≡◌, ◌<◌, length, IfOk, IfSome};
-ghost use Rattle.quilt_journal.specs.Beginning.{NoneFree};
+ghost use Rattle.std.specs.Prelude.{◌≡◌, ◌<◌, length, IfOk};
 
-use quilt_desk::Desk;
-use quilt_world::{Attached, Disk, Image, World};
+use quilt_world::Image;
 use std::alloc::{AllocError, Global};
 
 /// The bytes of a home page that was written as this version of the page.
@@ -68,16 +66,4 @@ pub fn foreign_file(alloc: Global, gate: u8, torn: bool) -> Result<Image, AllocE
         put_page(&mut image, 11, &[170; 4096]);
     }
     Ok(image)
-}
-
-/// A desk that has opened this file, and of which the call of this number fails.
-pub fn attached(alloc: Global, file: Image, failing: u64) -> Result<Option<Desk>, AllocError>
-    ensures none { IfOk result (λ o. IfSome o (λ d. IfSome (⟦<Desk as Disk>⟧.told d) NoneFree)) }
-{
-    let mut desk = Desk::new(alloc, "m", Some(file), b"")?;
-    desk.fail_at(failing)?;
-    match desk.attach("m") {
-        Ok(Attached::Ready) => Ok(Some(desk)),
-        _ => Ok(None),
-    }
 }

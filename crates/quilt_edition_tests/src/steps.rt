@@ -1,5 +1,5 @@
 use crate::edition::{Edition, edition_of, nth_page};
-use crate::files::{attached, map_file, page_bytes};
+use crate::files::{map_file, page_bytes};
 use quilt_desk::Desk;
 use quilt_edition::{Book, Started};
 use quilt_store::{PageStore, StoreErr};
@@ -16,6 +16,7 @@ pub enum Opening {
 }
 
 /// What opening this file as a book gives, over a pool of so many pages, where the call of this number fails.
+#[tactic(auto, using(quilt_journal::proofs::Begins::none_free_fresh))]
 fn started(
     alloc: Global,
     file: Image,
@@ -25,7 +26,7 @@ fn started(
     if pool < 8 || 4096 < pool {
         return Ok(None);
     }
-    match attached(alloc, file, failing)? {
+    match Desk::opened(alloc, file, failing)? {
         Some(desk) => Ok(Some(Book::begin(alloc, desk, pool))),
         None => Ok(None),
     }

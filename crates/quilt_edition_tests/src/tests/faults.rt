@@ -1,6 +1,6 @@
-use super::choice;
 use crate::edition::{first_edition, next_edition};
 use crate::steps::{Opening, pages_of, publish_over, reopened_now, stops};
+use quilt_desk::choices;
 use quilt_types::Stop;
 use std::test::Fail;
 
@@ -26,7 +26,7 @@ fn each_failing_call_leaves_old_or_new(rt: HostRuntime) -> Result<(), Fail> {
         assert!(rt; found == Some(old) || found == Some(new), "call {failing}");
         assert!(rt; pages_of(&desk) == 99);
         for k in [0, 1, 2, 4] {
-            let all = stops(rt.alloc(), &desk, &choice(k))?;
+            let all = stops(rt.alloc(), &desk, &choices(k))?;
             for found in &all {
                 assert!(rt;
                     *found == old || *found == new,

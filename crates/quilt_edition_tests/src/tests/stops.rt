@@ -1,6 +1,6 @@
-use super::choice;
 use crate::edition::{first_edition, next_edition};
 use crate::steps::{Opening, events_of, pages_of, publish_over, reopened_now, second_stops, stops};
+use quilt_desk::choices;
 use std::alloc::Global;
 use std::process::Abort;
 use std::test::Fail;
@@ -42,7 +42,7 @@ fn stop_everywhere(rt: &impl Abort, alloc: Global, pool: u32, count: u32) -> Res
     assert!(rt; pages_of(&desk) == 99);
     let synced = (count as usize).saturating_add(5);
     for k in 0..7 {
-        let all = stops(alloc, &desk, &choice(k))?;
+        let all = stops(alloc, &desk, &choices(k))?;
         assert_eq!(rt;
             all.len(),
             (count as usize).saturating_add(5).saturating_mul(2)
@@ -84,7 +84,7 @@ fn each_second_stop_leaves_new(rt: HostRuntime) -> Result<(), Fail> {
         for events in open {
             for k in [0, 1, 2, 4] {
                 assert!(rt; events <= events_of(&desk));
-                let all = second_stops(rt.alloc(), &desk, events, &choice(k))?;
+                let all = second_stops(rt.alloc(), &desk, events, &choices(k))?;
                 assert_eq!(rt;
                     all.len(),
                     count as usize + 5,

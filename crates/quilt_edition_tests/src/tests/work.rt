@@ -1,10 +1,9 @@
-use super::choice;
 use crate::edition::{edition_of, first_edition, next_edition, nth_page};
 use crate::steps::{
     Opening, desk_of, fresh, give_page, is_ready_after, pages_of, publish, reopened_now, stops,
     write_first,
 };
-use quilt_desk::Desk;
+use quilt_desk::{Desk, choices};
 use quilt_edition::Book;
 use std::process::Abort;
 use std::test::Fail;
@@ -56,7 +55,7 @@ fn a_page_leaves_the_pool_twice(rt: HostRuntime) -> Result<(), Fail> {
     let old = Opening::Ready(first_edition());
     let new = Opening::Ready(next_edition(20, 3));
     for k in 0..4 {
-        let all = stops(rt.alloc(), &desk, &choice(k))?;
+        let all = stops(rt.alloc(), &desk, &choices(k))?;
         for found in &all {
             assert!(rt; *found == old || *found == new, "choice {k}");
         }
