@@ -3,6 +3,7 @@ ghost use Rattle.std.specs.Prelude.{◌≤◌};
 
 use crate::grown::Grown;
 use quilt_btree::{Edit, Tree};
+use quilt_plain_pages::put_page;
 use quilt_record::{Key, Record};
 use quilt_store::{MemStore, PageStore};
 use quilt_types::Stop;
@@ -99,21 +100,6 @@ fn inner(height: u8, child: u32, n: usize, first: u32, span: u32) -> [u8; 4096]
     page
 }
 
-/// Puts a page at the first place that is free.
-fn put(store: &mut MemStore, bytes: &[u8; 4096]) -> Result<(), Fail> {
-    if store.free_pages() == 0 {
-        return Err(Fail::from("no page is free"));
-    }
-    let page = store.take_page();
-    if page == 0 || page >= store.pages() {
-        return Err(Fail::from("a page"));
-    }
-    if store.write(page, bytes).is_err() {
-        return Err(Fail::from("a store in memory"));
-    }
-    Ok(())
-}
-
 /// Spoils the bytes of a page.
 fn change(bytes: &mut [u8; 4096], how: Spoil) {
     match how {
@@ -154,7 +140,7 @@ fn put_leaves(store: &mut MemStore, count: u32, n: usize) -> Result<(), Fail>
 {
     let mut first = 0;
     for _ in 0..count {
-        put(store, &leaf(first, n))?;
+        put_page(store, &leaf(first, n)).ok_or("a leaf")?;
         first = first.wrapping_add(576);
     }
     Ok(())
@@ -167,7 +153,7 @@ impl Spoilt {
             return Err(Fail::from("1 to 144 records"));
         }
         let mut store = MemStore::new(alloc, 16)?;
-        put(&mut store, &inner(2, 2, 3, 0, 576))?;
+        put_page(&mut store, &inner(2, 2, 3, 0, 576)).ok_or("the root")?;
         put_leaves(&mut store, 3, n as usize)?;
         spoil_page(&mut store, page, how)?;
         let tree = Tree {
@@ -182,9 +168,9 @@ impl Spoilt {
     /// on are leaves of 72 records.
     pub fn of_three_levels(alloc: Global, page: u32, how: Spoil) -> Result<Spoilt, Fail> {
         let mut store = MemStore::new(alloc, 300)?;
-        put(&mut store, &inner(3, 2, 2, 0, 73152))?;
-        put(&mut store, &inner(2, 4, 127, 0, 576))?;
-        put(&mut store, &inner(2, 131, 127, 73152, 576))?;
+        put_page(&mut store, &inner(3, 2, 2, 0, 73152)).ok_or("the root")?;
+        put_page(&mut store, &inner(2, 4, 127, 0, 576)).ok_or("page 2")?;
+        put_page(&mut store, &inner(2, 131, 127, 73152, 576)).ok_or("page 3")?;
         put_leaves(&mut store, 254, 72)?;
         spoil_page(&mut store, page, how)?;
         let tree = Tree {

@@ -8,12 +8,14 @@ mod maps;
 mod nodes;
 mod points;
 mod regions;
+mod stores;
 mod walk;
 
 pub use blocks::{Span, blank, paint, size};
 pub use bytes::{Page, byte, offset, record, short, word};
 pub use lines::{Line, LineLayer};
-pub use maps::is_map;
+pub use maps::{entry, is_map};
 pub use points::PointLayer;
 pub use regions::RegionLayer;
+pub use stores::put_page;
 pub use walk::{Flaw, Walk, walk_tree};

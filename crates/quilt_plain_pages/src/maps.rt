@@ -1,7 +1,7 @@
 use crate::lines::LineLayer;
 use crate::points::PointLayer;
 use crate::regions::RegionLayer;
-use quilt_record::Record;
+use quilt_record::{Key, Record};
 use std::alloc::{AllocError, Global};
 
 /// Whether the byte may stand in a name behind its first letter.
@@ -33,6 +33,20 @@ fn fits(kind: u8, beside: u8, format: u8) -> bool {
         2 => beside == 0 || (format == 2 && 2 <= beside && beside <= 16),
         3 => 1 <= beside && beside <= 32,
         _ => false,
+    }
+}
+
+/// The record of the catalog for the layer of this number, whose name is one letter, with its kind and the number beside that.
+pub fn entry(number: u32, letter: u8, kind: u8, beside: u8) -> Record {
+    Record {
+        key: Key {
+            layer: 0,
+            part: 0,
+            code: 0,
+            depth: 0,
+            item: number,
+        },
+        value: [letter, 0, 0, 0, 0, 0, 0, 0, 0, 0, 0, 0, kind, beside, 0, 0],
     }
 }
 

@@ -1,6 +1,5 @@
 use super::drawing::{Draw, Tally, answered, changed, rise};
-use super::planted::entry;
-use quilt_plain_pages::{PointLayer, blank};
+use quilt_plain_pages::{PointLayer, blank, entry};
 use quilt_record::Record;
 use std::alloc::{AllocError, Global};
 use std::process::Abort;
@@ -29,9 +28,7 @@ fn disturb(draw: &mut Draw, round: u32, records: &mut Vec<Record>) {
 
 /// The record of the catalog for points, with the byte beside the kind.
 fn entry_of(bucket: u8) -> Record {
-    let mut first = entry(1, b'p', 2);
-    first.value[13] = if bucket == 1 { 0 } else { bucket };
-    first
+    entry(1, b'p', 2, if bucket == 1 { 0 } else { bucket })
 }
 
 /// Draws a layer and disturbs it, and compares what an audit answers.

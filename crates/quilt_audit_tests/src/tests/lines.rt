@@ -1,4 +1,5 @@
-use super::planted::{NO_MAP, entry, map_of, refusal_of, spell_maps, spell_no_map};
+use super::planted::{NO_MAP, map_of, refusal_of, spell_maps, spell_no_map};
+use quilt_plain_pages::entry;
 use quilt_record::{Key, Record};
 use quilt_types::Kind;
 use std::alloc::Global;
@@ -6,9 +7,7 @@ use std::test::Fail;
 
 /// The record of the catalog for lines, with a threshold.
 pub fn lines(threshold: u8) -> Record {
-    let mut r = entry(1, b'l', 3);
-    r.value[13] = threshold;
-    r
+    entry(1, b'l', 3, threshold)
 }
 
 /// The record of a block of the layer 1 that the segment meets. Blocks of side 1 have the depth 1.
@@ -140,8 +139,7 @@ fn of_layer(layer: u16, mut r: Record) -> Record {
 
 #[test]
 fn layers_behind_each_other(rt: HostRuntime) -> Result<(), Fail> {
-    let mut second = entry(2, b'm', 3);
-    second.value[13] = 2;
+    let second = entry(2, b'm', 3, 2);
     let s = segment(7, 0, 1, 1, 0);
     let both = [lines(1), second, met(0, 0, 7), s, of_layer(2, bare(0, 0))];
     spell_maps(&rt, rt.alloc(), 2, &[&both])?;

@@ -1,6 +1,7 @@
-use super::planted::{BLANK, Said, entry, leaf_page, spell_no_map, stored, surveyed};
+use super::planted::{BLANK, Said, leaf_page, spell_no_map, stored, surveyed};
 use quilt_audit::{Survey, audit};
 use quilt_node::{Head, InnerPage};
+use quilt_plain_pages::entry;
 use quilt_record::{Key, Record};
 use quilt_types::Stop;
 use std::alloc::Global;
@@ -8,11 +9,11 @@ use std::test::Fail;
 
 #[test]
 fn records_that_are_no_catalog(rt: HostRuntime) -> Result<(), Fail> {
-    let twice = [entry(1, b'a', 1), entry(2, b'a', 1)];
-    let nought = [entry(0, b'a', 1)];
-    let points = [entry(1, b'a', 2)];
-    let lines = [entry(1, b'a', 3)];
-    let alone = [entry(1, b'a', 1)];
+    let twice = [entry(1, b'a', 1, 0), entry(2, b'a', 1, 0)];
+    let nought = [entry(0, b'a', 1, 0)];
+    let points = [entry(1, b'a', 2, 0)];
+    let lines = [entry(1, b'a', 3, 0)];
+    let alone = [entry(1, b'a', 1, 0)];
     let lists: [&[Record]; 5] = [&twice, &nought, &points, &lines, &alone];
     spell_no_map(&rt, rt.alloc(), 1, &lists)
 }
@@ -63,7 +64,7 @@ fn named(
 fn leaf_of_72(alloc: Global) -> Result<[u8; 4096], Fail> {
     let mut records = Vec::new(alloc);
     for number in 0..72 {
-        records.push(entry(number, b'a', 1))?;
+        records.push(entry(number, b'a', 1, 0))?;
     }
     if records.len() > 144 {
         return Err(Fail::from("72 records"));
@@ -80,7 +81,7 @@ fn twice(k: &Key) -> [u8; 4096] {
 fn damaged_pages(rt: HostRuntime) -> Result<(), Fail> {
     let root = Some(Stop::Damaged { page: 1 });
     assert_eq!(rt; named(rt.alloc(), &BLANK, &BLANK, 1, 1)?, root);
-    let inner = twice(&entry(0, b'a', 1).key);
+    let inner = twice(&entry(0, b'a', 1, 0).key);
     let two = leaf_of_72(rt.alloc())?;
     let leaf = Some(Stop::Damaged { page: 2 });
     assert_eq!(rt; named(rt.alloc(), &inner, &two, 2, 144)?, leaf);

@@ -3,7 +3,8 @@ ghost use Rattle.quilt_node.specs.Pages.{IsHead};
 
 use quilt_audit::{Survey, audit};
 use quilt_node::Head;
-use quilt_record::{Key, Record, key_bytes};
+use quilt_plain_pages::put_page;
+use quilt_record::{Record, key_bytes};
 use quilt_store::{MemStore, PageStore};
 use quilt_types::Stop;
 use std::alloc::Global;
@@ -30,30 +31,13 @@ pub fn leaf_page(records: &[Record]) -> [u8; 4096]
     page
 }
 
-/// Puts a page into the store, at the first place that is free.
-fn put(store: &mut MemStore, bytes: &[u8; 4096]) -> Result<(), Fail>
-    ensures { ⟦<MemStore as PageStore>⟧.size store.new ≡ ⟦<MemStore as PageStore>⟧.size store.old }
-{
-    if store.free_pages() == 0 {
-        return Err(Fail::from("no page is free"));
-    }
-    let page = store.take_page();
-    if page == 0 || page >= store.pages() {
-        return Err(Fail::from("a page"));
-    }
-    if store.write(page, bytes).is_err() {
-        return Err(Fail::from("a store in memory"));
-    }
-    Ok(())
-}
-
 /// A store of 16 pages with these as the pages 1 and 2.
 pub fn stored(alloc: Global, one: &[u8; 4096], two: &[u8; 4096]) -> Result<MemStore, Fail>
     ensures { IfOk result (λ s. ⟦<MemStore as PageStore>⟧.size s ≡ 16) }
 {
     let mut store = MemStore::new(alloc, 16)?;
-    put(&mut store, one)?;
-    put(&mut store, two)?;
+    put_page(&mut store, one).ok_or("page 1")?;
+    put_page(&mut store, two).ok_or("page 2")?;
     Ok(store)
 }
 
@@ -93,20 +77,6 @@ fn head_of(said: Said) -> Option<Head>
         height,
         records,
     })
-}
-
-/// The record of a layer of the catalog with a name of one letter.
-pub fn entry(number: u32, letter: u8, kind: u8) -> Record {
-    Record {
-        key: Key {
-            layer: 0,
-            part: 0,
-            code: 0,
-            depth: 0,
-            item: number,
-        },
-        value: [letter, 0, 0, 0, 0, 0, 0, 0, 0, 0, 0, 0, kind, 0, 0, 0],
-    }
 }
 
 /// What an audit answers of a file with these as the pages 1 and 2.

@@ -1,5 +1,6 @@
 use super::lines::has_kind;
-use super::planted::{NO_MAP, entry, refusal, refusal_of, spell_maps, spell_no_map};
+use super::planted::{NO_MAP, refusal, refusal_of, spell_maps, spell_no_map};
+use quilt_plain_pages::entry;
 use quilt_record::{Key, Record};
 use quilt_types::{Kind, Stop};
 use std::test::Fail;
@@ -33,9 +34,7 @@ fn bare(code: u32, depth: u8) -> Record {
 
 /// The record of the catalog for points, with the byte beside the kind.
 fn points(bucket: u8) -> Record {
-    let mut r = entry(1, b'p', 2);
-    r.value[13] = bucket;
-    r
+    entry(1, b'p', 2, bucket)
 }
 
 #[test]
@@ -75,7 +74,7 @@ fn capacities_that_are_none(rt: HostRuntime) -> Result<(), Fail> {
         spell_no_map(&rt, rt.alloc(), 2, &[&[points(bucket), bare(0, 0)]])?;
     }
     spell_no_map(&rt, rt.alloc(), 1, &[&[points(2), bare(0, 0)]])?;
-    spell_no_map(&rt, rt.alloc(), 2, &[&[entry(1, b'l', 3), bare(0, 0)]])
+    spell_no_map(&rt, rt.alloc(), 2, &[&[entry(1, b'l', 3, 0), bare(0, 0)]])
 }
 
 #[test]

@@ -1,4 +1,5 @@
-use super::planted::{NO_MAP, entry, map_of, refusal_of, spell_maps, spell_no_map};
+use super::planted::{NO_MAP, map_of, refusal_of, spell_maps, spell_no_map};
+use quilt_plain_pages::entry;
 use quilt_record::{Entry, Key, Record};
 use quilt_types::Kind;
 use std::alloc::Global;
@@ -46,7 +47,7 @@ fn has_one_region(rt: &impl Abort, alloc: Global, records: &[Record]) -> Result<
 #[test]
 fn a_region_of_four_pixels(rt: HostRuntime) -> Result<(), Fail> {
     let records = [
-        entry(1, b'a', 1),
+        entry(1, b'a', 1, 0),
         pixel(0, 0, 0),
         pixel(1, 0, 0),
         pixel(2, 0, 0),
@@ -60,7 +61,7 @@ fn a_region_of_four_pixels(rt: HostRuntime) -> Result<(), Fail> {
 
 #[test]
 fn blocks_that_are_no_layer(rt: HostRuntime) -> Result<(), Fail> {
-    let a = entry(1, b'a', 1);
+    let a = entry(1, b'a', 1, 0);
     let same = [
         a,
         pixel(0, 0, 0),

@@ -1,10 +1,8 @@
-ghost use Rattle.std.specs.Prelude.{◌≡◌};
-
 use super::tally::Tally;
 use super::writing::{Tree, put};
 use quilt_audit::{Survey, audit};
 use quilt_node::header_of;
-use quilt_plain_pages::{Page, Walk, is_map, walk_tree};
+use quilt_plain_pages::{Page, Walk, is_map, put_page, walk_tree};
 use quilt_record::Record;
 use quilt_store::{MemStore, PageStore};
 use quilt_types::Stop;
@@ -100,23 +98,6 @@ fn header(tree: &Tree, claim: Claim) -> Page {
     page
 }
 
-/// Takes the next page of the store, which is the one with this number, and writes it.
-fn write_page(store: &mut MemStore, number: usize, bytes: &Page) -> Result<(), Fail>
-    ensures { ⟦<MemStore as PageStore>⟧.size store.new ≡ ⟦<MemStore as PageStore>⟧.size store.old }
-{
-    if store.free_pages() == 0 {
-        return Err(Fail::from("no page is free"));
-    }
-    let page = store.take_page();
-    if page == 0 || page >= store.pages() || page as usize != number {
-        return Err(Fail::from("another page is free"));
-    }
-    if store.write(page, bytes).is_err() {
-        return Err(Fail::from("a store in memory"));
-    }
-    Ok(())
-}
-
 /// A store of these pages, of which none is free.
 fn stored(alloc: Global, pages: &[Page]) -> Result<MemStore, Fail> {
     let count = u32::try_from(pages.len()).unwrap_or(0);
@@ -125,7 +106,10 @@ fn stored(alloc: Global, pages: &[Page]) -> Result<MemStore, Fail> {
     }
     let mut store = MemStore::new(alloc, count)?;
     for (i, bytes) in pages.iter().enumerate().skip(1) {
-        write_page(&mut store, i, bytes)?;
+        let page = put_page(&mut store, bytes).ok_or("a page that is free")?;
+        if page as usize != i {
+            return Err(Fail::from("another page is free"));
+        }
     }
     Ok(store)
 }

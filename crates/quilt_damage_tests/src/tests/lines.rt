@@ -1,8 +1,8 @@
 use super::drawing::Draw;
 use super::layers::drawn_lines;
 use super::tally::Tally;
-use super::trial::{Chart, drawn_level, entry, try_chart};
-use quilt_plain_pages::LineLayer;
+use super::trial::{Chart, drawn_level, try_chart};
+use quilt_plain_pages::{LineLayer, entry};
 use std::alloc::{AllocError, Global};
 use std::test::Fail;
 

@@ -1,8 +1,8 @@
 use super::drawing::Draw;
 use super::layers::{drawn_quarters, drawn_region};
 use super::tally::Tally;
-use super::trial::{Chart, drawn_level, entry, try_chart};
-use quilt_plain_pages::RegionLayer;
+use super::trial::{Chart, drawn_level, try_chart};
+use quilt_plain_pages::{RegionLayer, entry};
 use quilt_record::Record;
 use std::alloc::{AllocError, Global};
 use std::test::Fail;

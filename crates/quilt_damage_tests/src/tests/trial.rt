@@ -3,7 +3,7 @@ use super::drawing::Draw;
 use super::judging::{Claim, judge};
 use super::tally::Tally;
 use super::writing::write_tree;
-use quilt_record::{Key, Record};
+use quilt_record::Record;
 use std::alloc::Global;
 use std::process::Abort;
 use std::test::Fail;
@@ -14,20 +14,6 @@ pub struct Chart {
     pub format: u8,
     pub level: u8,
     pub records: Vec<Record>,
-}
-
-/// The record of a layer of the catalog with a name of one letter.
-pub fn entry(number: u32, letter: u8, kind: u8, beside: u8) -> Record {
-    Record {
-        key: Key {
-            layer: 0,
-            part: 0,
-            code: 0,
-            depth: 0,
-            item: number,
-        },
-        value: [letter, 0, 0, 0, 0, 0, 0, 0, 0, 0, 0, 0, kind, beside, 0, 0],
-    }
 }
 
 /// The height of most trees of the round: one in ten is 3, and of the others one in three is 1.
