@@ -1,5 +1,5 @@
 //! The layers that drawn texts speak of.
-use quilt_plain::{PlainPoints, PlainSegments};
+use quilt_plain::{PlainPoints, PlainSegments, paint};
 use quilt_types::Window;
 use std::alloc::{AllocError, Global};
 
@@ -70,15 +70,5 @@ impl Layers {
 pub fn fill(colours: &mut [u16], side: u32, w: Window, colour: u16) {
     let columns = u32::from(w.x)..u32::from(w.x).wrapping_add(u32::from(w.w));
     let rows = u32::from(w.y)..u32::from(w.y).wrapping_add(u32::from(w.h));
-    let (mut x, mut y) = (0_u32, 0_u32);
-    for c in colours {
-        if columns.contains(&x) && rows.contains(&y) {
-            *c = colour;
-        }
-        x = x.wrapping_add(1);
-        if x == side {
-            x = 0;
-            y = y.wrapping_add(1);
-        }
-    }
+    paint(colours, side, columns, rows, colour);
 }

@@ -2,6 +2,7 @@ ghost use Rattle.std.specs.Prelude.{◌<◌, ◌≤◌};
 
 use quilt_types::Colour;
 use std::alloc::{AllocError, Global};
+use std::ops::Range;
 
 /// Pseudo-random numbers by a linear congruence.
 #[derive(Drop)]
@@ -55,26 +56,18 @@ pub fn drawn(alloc: Global, dice: &mut Dice, side: u32) -> Result<Vec<u16>, Allo
         let corner = (dice.below(side), dice.below(side));
         let size = (dice.below(side), dice.below(side));
         let colour = colour_of(dice.below(4));
-        paint(&mut colours, side, unit, corner, size, colour);
+        let columns = rounded_range(corner.0, size.0, unit);
+        let rows = rounded_range(corner.1, size.1, unit);
+        paint(&mut colours, side, columns, rows, colour);
     }
     Ok(colours)
 }
 
-/// Gives the pixels of a rectangle the colour. The rectangle's corner, columns and rows are rounded down to the unit.
-fn paint(
-    colours: &mut [u16],
-    side: u32,
-    unit: u32,
-    corner: (u32, u32),
-    size: (u32, u32),
-    colour: u16,
-) {
-    let (left, top) = (rounded(corner.0, unit), rounded(corner.1, unit));
-    let right = left.wrapping_add(rounded(size.0, unit)).wrapping_add(unit);
-    let bottom = top.wrapping_add(rounded(size.1, unit)).wrapping_add(unit);
+/// Gives the pixels of these columns and rows the colour.
+pub fn paint(colours: &mut [u16], side: u32, columns: Range<u32>, rows: Range<u32>, colour: u16) {
     let (mut x, mut y) = (0_u32, 0_u32);
     for c in colours {
-        if left <= x && x < right && top <= y && y < bottom {
+        if columns.contains(&x) && rows.contains(&y) {
             *c = colour;
         }
         x = x.wrapping_add(1);
@@ -83,6 +76,12 @@ fn paint(
             y = y.wrapping_add(1);
         }
     }
+}
+
+/// So many numbers from the first on, both rounded down to the unit, and one unit of them more.
+fn rounded_range(first: u32, count: u32, unit: u32) -> Range<u32> {
+    let from = rounded(first, unit);
+    from..from.wrapping_add(rounded(count, unit)).wrapping_add(unit)
 }
 
 /// The greatest multiple of the unit up to the number.

@@ -11,7 +11,7 @@ mod segments;
 mod squares;
 
 pub use algebra::{plain_buffer, plain_overlay, plain_recolour, plain_shift, plain_window};
-pub use drawing::{Dice, colour_of, drawn, drawn_distance, drawn_pairs};
+pub use drawing::{Dice, colour_of, drawn, drawn_distance, drawn_pairs, paint};
 pub use drawn_segments::{drawn_coordinate, drawn_seg, next_state};
 pub use measures::{plain_area, plain_histogram, plain_perimeter};
 pub use pixel_maps::map_of;
