@@ -18,7 +18,7 @@ use Rattle.quilt_btree.specs.Arrivals.{Arrives}
 use Rattle.quilt_btree.specs.Lists.{value_at_key, floor_of, range_of, is_from_to}
 use Rattle.quilt_btree.specs.Looks.{AddsFrom}
 use Rattle.quilt_btree.specs.Searches.{AreOf}
-use Rattle.quilt_btree.specs.Spots.{HoldsKeys, IsLeafFrom, IsSpot, IsAtSpot}
+use Rattle.quilt_btree.specs.Spots.{HoldsKeys, IsLeafFrom, IsAtSpot}
 use Rattle.quilt_btree.specs.declared.spot.Spot.{Spot}
 use Rattle.quilt_btree.specs.Trees.{IsTree, LeadsToLeaf, Before, is_past}
 use Rattle.quilt_btree.proofs.cursors.Fingers.{floor_is_near, under_past}
@@ -136,16 +136,22 @@ widened_from {told} {t} {bytes} r some are first f = λ rs is.
       bound = s.bound;
     }
 
+-- what is added of a page behind a look that wrote nothing
+pub added_along : {told now : Option (List (List ℕ))} {page : ℕ} {low high : Key} {most : ℕ} {old new : List Record} → now ≡ told
+    → AddsFrom now page low high most old new → AddsFrom told page low high most old new
+added_along {page = page} {low = low} {high = high} {most = most} {old = old} {new = new} same a =
+    subst (λ o. AddsFrom o page low high most old new) same a
+
 -- the records of a range in the leaf are the range so far
-module _ {told now : Option (List (List ℕ))} {t : Tree} {page : ℕ} {from : Key} {up : Option Key} {low high : Key} {most : ℕ}
+module _ {told : Option (List (List ℕ))} {t : Tree} {page : ℕ} {from : Key} {up : Option Key} {low high : Key} {most : ℕ}
     {old new : List Record} (f : IsLeafFrom told t page from up) (le : is_le (key_cmp from low) ≡ true) (below : is_below up low ≡ true)
-    (same : now ≡ told) (a : AddsFrom now page low high most old new) (none : old ≡ []) where
+    (a : AddsFrom told page low high most old new) (none : old ≡ []) where
   so_far : (rs : List Record) → IsTree told t rs
       → (own : List Record) × (l : LeadsToLeaf low rs own None up) × (new ≡ range_of low high most (l.before ++ own))
   so_far rs is =
       let s = f rs is in
       let l = led_from low s le below in
-      let leaf = s.is_leaf a.bytes (subst (λ o. AreOf o page a.bytes) same a.are) in (
+      let leaf = s.is_leaf a.bytes a.are in (
         s.own,
         l,
         range_first low high most rs s.own new None up l
@@ -184,11 +190,6 @@ module _ {told now : Option (List (List ℕ))} {t : Tree} {page : ℕ} {from : K
   spot_rest {next = next} last along up_is g rs is =
       subst (λ o. (l : Key) (rs : List Record) → IsTree o t rs → Before o t l high most next rs new → last ≡ range_of l high most rs) along g
       low rs is (goes_on next up_is rs is)
-
--- and the spot for all keys from the leaf's first on is in the tree
-pub wide_spot : {told now : Option (List (List ℕ))} {t : Tree} (s wide : Spot) → now ≡ told → 1 ≤ t.height
-    → ((t : Tree) → 1 ≤ t.height → IsSpot now t s → IsSpot now t wide) → IsSpot told t s → IsSpot told t wide
-wide_spot {t = t} s wide same some f is = subst (λ o. IsSpot o t wide) same (f t some (subst (λ o. IsSpot o t s) (sym same) is))
 
 -- a key of the leaf is below the one that begins the next
 pub under_next : (k next : Key) (high : Option Key) → is_below high k ≡ true → high ≡ Some next → is_lt (key_cmp k next) ≡ true

@@ -1,8 +1,10 @@
+pub mod Additions
 pub mod Below
 pub mod Costs
 pub mod Leaves
 pub mod Lists
 pub mod Made
 pub mod Plans
+pub mod Puts
 pub mod Rises
 pub mod Whole

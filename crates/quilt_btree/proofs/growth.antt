@@ -6,5 +6,7 @@ pub mod InnerGrowth
 pub mod KeptPages
 pub mod LeafGrowth
 pub mod NewChild
+pub mod NewLeaf
+pub mod OneRecord
 pub mod TreeGrowth
 pub mod UnderGrowth

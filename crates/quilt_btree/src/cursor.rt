@@ -9,7 +9,6 @@ ghost use Rattle.quilt_btree.specs.Damage.{NamesBad};
 ghost use Rattle.quilt_btree.specs.Stops.{NamesPage};
 
 use crate::lower::{lower_under, place_from};
-use crate::pages::stop_of;
 use crate::step::leaf_for;
 use crate::tree::Tree;
 use quilt_node::{rec_in, records_in};
@@ -44,14 +43,13 @@ impl Tree {
         ensures left { OnlyReads S.PageStore store.old store.new result }
         ensures reads { Goes (λ old new. new ≤ old + 3) (S.reads store.old) (S.reads store.new) }
     {
-        let found = leaf_for(store, self, k)?;
-        match store.page(found.page) {
-            Err(e) => Err(stop_of(e)),
-            Ok(bytes) => Ok(Cursor {
+        match leaf_for(store, self, k) {
+            Err(e) => Err(e),
+            Ok((bytes, high)) => Ok(Cursor {
                 bytes: *bytes,
                 place: place_from(bytes, k),
                 count: records_in(bytes),
-                high: found.high,
+                high,
             }),
         }
     }
@@ -70,14 +68,13 @@ impl Tree {
         ensures left { OnlyReads S.PageStore store.old store.new result }
         ensures reads { Goes (λ old new. new ≤ old + 3) (S.reads store.old) (S.reads store.new) }
     {
-        let found = leaf_for(store, self, k)?;
-        match store.page(found.page) {
-            Err(e) => Err(stop_of(e)),
-            Ok(bytes) => {
+        match leaf_for(store, self, k) {
+            Err(e) => Err(e),
+            Ok((bytes, high)) => {
                 c.bytes = *bytes;
                 c.place = 0;
                 c.count = records_in(bytes);
-                c.high = found.high;
+                c.high = high;
                 Ok(())
             }
         }

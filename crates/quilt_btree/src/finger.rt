@@ -10,7 +10,6 @@ ghost use Rattle.quilt_btree.specs.Stops.{NamesPage};
 ghost use Rattle.quilt_btree.specs.Trees.{IsRooted, IsTree};
 
 use crate::balance::is_under;
-use crate::pages::stop_of;
 use crate::search::floor_in;
 use crate::step::leaf_for;
 use crate::tree::Tree;
@@ -76,13 +75,12 @@ impl Tree {
         ensures left { OnlyReads S.PageStore store.old store.new result }
         ensures reads { Goes (λ old new. new ≤ old + 3) (S.reads store.old) (S.reads store.new) }
     {
-        let found = leaf_for(store, self, k)?;
-        match store.page(found.page) {
-            Err(e) => Err(stop_of(e)),
-            Ok(bytes) => {
+        match leaf_for(store, self, k) {
+            Err(e) => Err(e),
+            Ok((bytes, high)) => {
                 *finger = Some(Finger {
                     bytes: *bytes,
-                    high: found.high,
+                    high,
                 });
                 Ok(())
             }

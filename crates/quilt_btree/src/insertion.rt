@@ -192,7 +192,7 @@ pub fn put_child<S: PageStore>(
 /// damaged where the bytes are no inner page, and page 0 where they are one of another height. It stands by itself so that the page is copied only where
 /// a child was split.
 #[inline(never)]
-fn put_in_page<S: PageStore>(
+pub fn put_in_page<S: PageStore>(
     store: &mut S,
     page: u32,
     height: u8,

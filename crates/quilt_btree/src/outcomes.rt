@@ -8,6 +8,13 @@ pub enum Inserted {
     Split { key: Key, right: u32 },
 }
 
+/// What became of a subtree when a record was put in, and how many of those behind it came with it.
+#[derive(Clone, Copy, Debug, PartialEq, Eq)]
+pub struct Placed {
+    pub outcome: Inserted,
+    pub more: usize,
+}
+
 /// What became of a subtree when the record of a key was taken out: there was none, it is out, the page has one too
 /// few, the leaf has none left (and was not written), or the page has one child left (and was not written).
 #[derive(Clone, Copy, Debug, PartialEq, Eq)]

@@ -162,6 +162,7 @@ pub fn read_path<S: PageStore>(
     ensures stands { IfOk result (λ w. HasChild (S.size store.old) bytes.new w.child) }
     ensures path { IfOk result (λ w. (inner : Inner) → inner_of (S.size store.old) bytes.new ≡ Some inner
         → IsPath (S.told store.old) page k.now w.place w.child inner) }
+    ensures range { IfOk result (λ w. w.place < 254) }
     ensures here { OnOk result ((height : ℕ) (rs : List Record) → 1 ≤ height → height ≢ 1 → SpellsSubtree (S.told store.old) page height rs
         → IsHigh (S.size store.old) bytes.new height) }
     ensures sound { IfErr result (λ e. (height : ℕ) (rs : List Record) → 1 ≤ height → height ≢ 1 → SpellsSubtree (S.told store.old) page height rs → IsNotDamage e) }

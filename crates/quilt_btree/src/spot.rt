@@ -1,4 +1,6 @@
-ghost use Rattle.std.specs.Prelude.{◌≡◌, ℕ, ◌+◌, ◌*◌, ◌<◌, ◌≤◌, true, IfOk, IfErr, IfSome, OnOk, List, Option, Some, None, vec_len};
+ghost use Rattle.std.specs.Prelude.{◌≡◌, ℕ, ◌+◌, ◌*◌, ◌<◌, ◌≤◌, true, IfOk, IfErr, IfSome, OnOk, List, Option, Some, None, [], slice_index_or, vec_len};
+ghost use Rattle.std.specs.Borrow.{sem};
+ghost use Rattle.std.specs.Io.BufRead.{Rests};
 ghost use Rattle.std.specs.Ordering.{is_le};
 ghost use Rattle.quilt_record.specs.declared.record.Record.{Record};
 ghost use Rattle.quilt_record.specs.Records.{key_cmp};
@@ -7,7 +9,6 @@ ghost use Rattle.quilt_store.specs.Stops.{IsNotDamage};
 ghost use Rattle.quilt_world.specs.Tale.{Goes};
 ghost use Rattle.quilt_btree.specs.Damage.{NamesBad};
 ghost use Rattle.quilt_btree.specs.Lists.{value_at_key, floor_of, range_of};
-ghost use Rattle.quilt_btree.specs.Looks.{LooksAt, AddsFrom};
 ghost use Rattle.quilt_btree.specs.Searches.{AreOf};
 ghost use Rattle.quilt_btree.specs.Spots.{IsSpot, IsSpotIf, IsAtSpot, IsAtKey, LeadsFrom, LooksFrom, RangesFrom, FitsRange, StopsAtBad};
 ghost use Rattle.quilt_btree.specs.Stops.{NamesPage};
@@ -77,10 +78,9 @@ impl Tree {
         if self.height == 0 {
             return Ok(None);
         }
-        let found = self.spot_for(store, spot, k)?;
-        match store.page(found.page) {
-            Err(e) => Err(stop_of(e)),
-            Ok(bytes) => {
+        match leaf_from(store, self, spot, k) {
+            Err(e) => Err(e),
+            Ok((bytes, found)) => {
                 *spot = Some(found.widened(bytes));
                 Ok(value_in(bytes, k))
             }
@@ -133,10 +133,9 @@ impl Tree {
         ensures left { OnlyReads S.PageStore store.old store.new result }
         ensures reads { Goes (λ old new. new ≤ old + 3) (S.reads store.old) (S.reads store.new) }
     {
-        let found = self.spot_for(store, spot, k)?;
-        match store.page(found.page) {
-            Err(e) => Err(stop_of(e)),
-            Ok(bytes) => {
+        match leaf_from(store, self, spot, k) {
+            Err(e) => Err(e),
+            Ok((bytes, found)) => {
                 *spot = Some(found.widened(bytes));
                 Ok(floor_in(bytes, k))
             }
@@ -171,9 +170,14 @@ impl Tree {
         if self.height == 0 {
             return Ok(records);
         }
-        let found = self.spot_for(store, spot, low)?;
-        let wide = add_in(store, &found, &mut records, low, high, most)?;
-        *spot = Some(wide);
+        let (bytes, found) = match leaf_from(store, self, spot, low) {
+            Err(e) => return Err(e),
+            Ok(leaf) => leaf,
+        };
+        if add_leaf(&mut records, bytes, low, high, most).is_err() {
+            return Err(Stop::Memory);
+        }
+        *spot = Some(found.widened(bytes));
         if records.len() == most as usize {
             return Ok(records);
         }
@@ -218,6 +222,37 @@ impl Tree {
     }
 }
 
+/// The leaf to which a key leads, where it lies, and the spot at it. It reads at most 3 pages, and one where the key is one of the
+/// spot's.
+fn leaf_from<'a, S: PageStore>(
+    store: &'a mut S,
+    tree: &Tree,
+    spot: &Option<Spot>,
+    k: &Key,
+) -> Result<(&'a [u8; 4096], Spot), Stop>
+    requires rooted { IsRooted (S.size store.old) tree.now }
+    requires some { 1 ≤ tree.now.height }
+    requires spot { IsSpotIf (S.told store.old) tree.now spot.now }
+    ensures bytes { IfOk result (λ leaf. IfSome (S.told store.old) (λ pages. leaf.0.now ≡ slice_index_or pages leaf.1.page [])) }
+    ensures spot { IfOk result (λ leaf. IsSpot (S.told store.old) tree.now leaf.1) }
+    ensures key { IfOk result (λ leaf. IsAtKey (S.size store.old) k.now leaf.1) }
+    ensures here { IsAtSpot (S.size store.old) spot.now k.now → IfOk result (λ leaf. spot.now ≡ Some leaf.1) }
+    ensures sound { IfErr result (λ e. (rs : List Record) → IsTree (S.told store.old) tree.now rs → IsNotDamage e) }
+    ensures names { IfErr result (NamesPage (S.size store.old)) }
+    ensures bad { IfErr result (NamesBad (S.told store.old) tree.now.height tree.now.root) }
+    ensures* left { sem 𝓛 (Rests S.row store.entry (λ new. OnlyReads S.PageStore store.old new result
+        × Goes (λ old new. new ≤ old + 3) (S.reads store.old) (S.reads new)
+        × (IsAtSpot (S.size store.old) spot.now k.now → Goes (λ old new. new ≤ old + 1) (S.reads store.old) (S.reads new)))) }
+{
+    match tree.spot_for(store, spot, k) {
+        Err(e) => Err(e),
+        Ok(found) => match store.page(found.page) {
+            Err(e) => Err(stop_of(e)),
+            Ok(bytes) => Ok((bytes, found)),
+        },
+    }
+}
+
 /// The spot where the key is one of its keys, and its page one of a store of so many.
 fn at_spot(spot: &Option<Spot>, pages: u32, k: &Key) -> Option<Spot>
     ensures here { IfSome result (λ s. (spot.now ≡ Some s) × IsAtKey pages k.now s) }
@@ -231,36 +266,6 @@ fn at_spot(spot: &Option<Spot>, pages: u32, k: &Key) -> Option<Spot>
             } else {
                 None
             }
-        }
-    }
-}
-
-/// Adds the records of a spot's leaf with keys from `low` to `high`, until the list has `most`. The answer is the spot for all keys
-/// from the leaf's first on.
-fn add_in<S: PageStore>(
-    store: &mut S,
-    spot: &Spot,
-    records: &mut Vec<Record>,
-    low: &Key,
-    high: &Key,
-    most: u32,
-) -> Result<Spot, Stop>
-    requires page { (1 ≤ spot.now.page) × (spot.now.page < S.size store.old) }
-    requires room { vec_len records.old ≤ most }
-    ensures adds { OnOk result (AddsFrom (S.told store.old) spot.now.page low.now high.now most records.old.items records.new.items) }
-    ensures wide { IfOk result (λ s. (t : AnyTree) → 1 ≤ t.height → IsSpot (S.told store.old) t spot.now → IsSpot (S.told store.old) t s) }
-    ensures same { IfOk result (λ s. (s.page ≡ spot.now.page) × (s.high ≡ spot.now.high) × (is_le (key_cmp s.low spot.now.low) ≡ true)) }
-    ensures sound { IfErr result (λ e. IsNotDamage e) }
-    ensures looks { LooksAt S.PageStore spot.now.page store.old store.new result }
-{
-    match store.page(spot.page) {
-        Err(e) => Err(stop_of(e)),
-        Ok(bytes) => {
-            let wide = spot.widened(bytes);
-            if add_leaf(records, bytes, low, high, most).is_err() {
-                return Err(Stop::Memory);
-            }
-            Ok(wide)
         }
     }
 }

@@ -1,3 +1,5 @@
+ghost use Rattle.std.specs.Borrow.{sem};
+ghost use Rattle.std.specs.Io.BufRead.{Rests};
 ghost use Rattle.std.specs.Prelude.{◌≡◌, ℕ, ◌+◌, ◌-◌, ◌*◌, ◌<◌, ◌≤◌, true, IfOk, IfErr, IfSome, MatchOption, List, Some, None};
 ghost use Rattle.quilt_types.specs.declared.stop.Stop.TheVariants.{Damaged};
 ghost use Rattle.quilt_record.specs.declared.record.Record.{Record};
@@ -14,6 +16,7 @@ ghost use Rattle.quilt_btree.specs.Trees.{IsRooted, IsTree, SpellsSubtree};
 
 use crate::balance::precedes;
 use crate::lent::step_at;
+use crate::pages::stop_of;
 use crate::search::path_in;
 use crate::tree::Tree;
 use quilt_node::{child_count_in, separator_in};
@@ -90,18 +93,26 @@ pub fn leaf_at<S: PageStore>(
     leaf_at(store, step.child, height - 1, k, &step.high)
 }
 
-/// The leaf to which a key leads in a tree. The pages above it are looked at where they lie; the leaf itself is not.
-pub fn leaf_for<S: PageStore>(store: &mut S, tree: &Tree, k: &Key) -> Result<Found, Stop>
+/// The leaf to which a key leads in a tree, where it lies, and the bound below which its keys stay. It reads at most 3 pages.
+pub fn leaf_for<'a, S: PageStore>(
+    store: &'a mut S,
+    tree: &Tree,
+    k: &Key,
+) -> Result<(&'a [u8; 4096], Option<Key>), Stop>
     requires rooted { IsRooted (S.size store.old) tree.now }
     requires some { 1 ≤ tree.now.height }
-    ensures arrives { IfOk result (λ found. (bytes : List ℕ) → AreOf (S.told store.old) found.page bytes
-        → Arrives (S.told store.old) tree.now.root tree.now.height k.now None bytes found.high) }
-    ensures range { IfOk result (λ found. (1 ≤ found.page) × (found.page < S.size store.old)) }
+    ensures arrives { IfOk result (λ leaf. Arrives (S.told store.old) tree.now.root tree.now.height k.now None leaf.0.now leaf.1) }
     ensures sound { IfErr result (λ e. (rs : List Record) → IsTree (S.told store.old) tree.now rs → IsNotDamage e) }
     ensures names { IfErr result (NamesPage (S.size store.old)) }
     ensures bad { IfErr result (NamesBad (S.told store.old) tree.now.height tree.now.root) }
-    ensures left { OnlyReads S.PageStore store.old store.new result }
-    ensures reads { Goes (λ old new. new ≤ old + 2) (S.reads store.old) (S.reads store.new) }
+    ensures* left { sem 𝓛 (Rests S.row store.entry (λ new. OnlyReads S.PageStore store.old new result
+        × Goes (λ old new. new ≤ old + 3) (S.reads store.old) (S.reads new))) }
 {
-    leaf_at(store, tree.root, tree.height, k, &None)
+    match leaf_at(store, tree.root, tree.height, k, &None) {
+        Err(e) => Err(e),
+        Ok(found) => match store.page(found.page) {
+            Err(e) => Err(stop_of(e)),
+            Ok(bytes) => Ok((bytes, found.high)),
+        },
+    }
 }

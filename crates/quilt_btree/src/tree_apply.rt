@@ -85,11 +85,12 @@ impl Tree {
         }
     }
 
-    /// Makes the first edit of a run.
+    /// Makes the first edit of a run, and further ones where they put records in behind it that make a leaf of their own.
     fn apply_first<S: PageStore>(&mut self, store: &mut S, run: &[Edit]) -> Result<usize, Stop>
         requires rooted { IsRooted (S.size store.old) self.old }
         requires room { self.old.records + more run.now ≤ quota (S.size store.old) }
         requires some { 1 ≤ length run.now }
+        requires order { is_ascending (edit_keys run.now) ≡ true }
         ensures counts { CountsFirst (S.size store.old) run.now self.old self.new result }
         ensures edited { IfOk result (λ n. (rs : List Record) → IsWhole (S.told store.old) (S.free store.old) (S.size store.old) self.old rs
             → (are_due (take n run.now) rs ≡ true)
@@ -100,8 +101,13 @@ impl Tree {
         ensures bad { IfErr result (λ e. e ≢ Damaged 0 → NamesBad (S.told store.old) self.old.height self.old.root e) }
         ensures left { EditsFirst S.PageStore 1 3 run.now store.old store.new result }
     {
-        self.apply_one(store, &run[0])?;
-        Ok(1)
+        match &run[0] {
+            Edit::Put { record } if self.height != 0 => self.place(store, record, &run[1..]),
+            first => {
+                self.apply_one(store, first)?;
+                Ok(1)
+            }
+        }
     }
 
     /// Makes one edit, and splits or rebalances pages for it. A record in the place of another comes here only over a tree

@@ -19,122 +19,164 @@ fn named(stop: Option<Stop>) -> u32 {
     }
 }
 
-/// Each call names the page.
-fn by_all(page: u32) -> [u32; 7] {
-    [page; 7]
+/// Which of the seven calls of `Spoilt::stops` name a page.
+#[derive(Clone, Copy)]
+enum Calls {
+    /// Each call.
+    All,
+    /// Those that edit. The others answer something.
+    Edits,
+    /// The removals: they have to look at the page above the leaf, and at the one beside it.
+    Removals,
+    /// The insertions, which split a leaf.
+    Splits,
 }
 
-/// The calls that read alone answer something, and those that edit name the page.
-fn by_edits(page: u32) -> [u32; 7] {
-    [NONE, NONE, NONE, page, page, page, page]
+impl Calls {
+    /// Whether the call is one of these.
+    fn has(self, call: usize) -> bool {
+        match self {
+            Calls::All => true,
+            Calls::Edits => call > 2,
+            Calls::Removals => call == 4 || call == 6,
+            Calls::Splits => call == 3 || call == 5,
+        }
+    }
 }
 
-/// The removals alone name the page: they have to look at the one above the leaf, and at the one beside it. They name page 0
-/// for what two pages have wrong together.
-fn by_removals(page: u32) -> [u32; 7] {
-    [NONE, NONE, NONE, NONE, page, NONE, page]
+/// A page that is spoilt, in which way, an item, and the page that these calls at the item name. The others name none.
+type Row = (u32, Spoil, u32, Calls, u32);
+
+/// Trees of height 2 whose leaves have 72 records. What two pages have wrong together names page 0.
+static TWO_LEVELS: [Row; 20] = [
+    // A child that is no page is named by its parent.
+    (1, Spoil::Byte(15, 0), 656, Calls::All, 1),
+    (1, Spoil::Byte(15, 16), 656, Calls::All, 1),
+    (1, Spoil::Byte(15, 255), 656, Calls::All, 1),
+    // A root that is no inner page is named.
+    (1, Spoil::Byte(2, 255), 656, Calls::All, 1),
+    (1, Spoil::Ones, 656, Calls::All, 1),
+    (1, Spoil::Leaf, 656, Calls::All, 1),
+    // A root with a byte behind its keys is named by what writes it.
+    (1, Spoil::Byte(4095, 1), 656, Calls::Removals, 1),
+    // A page that is no leaf is named by edits.
+    (3, Spoil::Byte(354, 0), 656, Calls::Edits, 3),
+    (3, Spoil::Byte(2, 255), 656, Calls::Edits, 3),
+    (3, Spoil::Byte(4095, 1), 656, Calls::Edits, 3),
+    (3, Spoil::Ones, 656, Calls::Edits, 3),
+    (3, Spoil::Inner, 656, Calls::Edits, 3),
+    // It is named by removals beside it.
+    (3, Spoil::Byte(354, 0), 80, Calls::Removals, 3),
+    (3, Spoil::Byte(2, 255), 80, Calls::Removals, 3),
+    (3, Spoil::Byte(4095, 1), 80, Calls::Removals, 3),
+    (3, Spoil::Ones, 80, Calls::Removals, 3),
+    (3, Spoil::Inner, 80, Calls::Removals, 3),
+    // A leaf of one record, one out of its bounds and one that is listed twice stop removals.
+    (3, Spoil::First, 576, Calls::Removals, 0),
+    (3, Spoil::Byte(2062, 5), 656, Calls::Removals, 0),
+    (1, Spoil::Byte(15, 2), 80, Calls::Removals, 0),
+];
+
+/// A tree of height 2 whose leaves are full: a root with a byte behind its keys is named by what writes it.
+static FULL: [Row; 1] = [(1, Spoil::Byte(4095, 1), 656, Calls::Splits, 1)];
+
+/// Trees of height 3.
+static THREE_LEVELS: [Row; 13] = [
+    // A page below the root that is no inner page is named.
+    (3, Spoil::Byte(23, 0), 74960, Calls::All, 3),
+    (3, Spoil::Byte(22, 2), 74960, Calls::All, 3),
+    (3, Spoil::Byte(2, 255), 74960, Calls::All, 3),
+    (3, Spoil::Ones, 74960, Calls::All, 3),
+    (3, Spoil::Leaf, 74960, Calls::All, 3),
+    (3, Spoil::Byte(4095, 1), 74960, Calls::Removals, 3),
+    // A leaf of one record, one out of its bounds and one that is listed twice stop removals.
+    (134, Spoil::First, 74880, Calls::Removals, 0),
+    (134, Spoil::Byte(2062, 53), 74960, Calls::Removals, 0),
+    (3, Spoil::Byte(23, 133), 74384, Calls::Removals, 0),
+    // A page that is no leaf is named by edits.
+    (134, Spoil::Byte(354, 0), 74960, Calls::Edits, 134),
+    (134, Spoil::Byte(4095, 1), 74960, Calls::Edits, 134),
+    (134, Spoil::Ones, 74960, Calls::Edits, 134),
+    (134, Spoil::Inner, 74960, Calls::Edits, 134),
+];
+
+/// A tree of height 2 with leaves of `n` records, or of height 3 where that is 0, with one page spoilt.
+fn spoilt(alloc: Global, n: u8, page: u32, how: Spoil) -> Result<Spoilt, Fail> {
+    if n == 0 {
+        Spoilt::of_three_levels(alloc, page, how)
+    } else {
+        Spoilt::of_two_levels(alloc, n, page, how)
+    }
 }
 
-/// Tries each call at an item of a tree of height 2 with leaves of `n` records: which page it names.
-fn try_two(
-    rt: &impl Abort,
-    alloc: Global,
-    n: u32,
-    spoilt: (u32, Spoil),
-    item: u32,
-    expected: [u32; 7],
-) -> Result<(), Fail> {
+/// Tries each call of a row, over a tree of its own: which page it names.
+fn tries(rt: &impl Abort, alloc: Global, n: u8, row: &Row) -> Result<(), Fail> {
+    let (page, how, item, calls, wanted) = *row;
     for call in 0..7_usize {
-        let mut tree = Spoilt::of_two_levels(alloc, n, spoilt.0, spoilt.1)?;
-        assert_eq!(rt; named(tree.stops(alloc, call, item)), expected[call]);
+        let mut tree = spoilt(alloc, n, page, how)?;
+        let expected = if calls.has(call) { wanted } else { NONE };
+        let found = named(tree.stops(alloc, call, item));
+        assert!(rt;
+            found == expected,
+            "page {page}, item {item}, call {call}: {found}"
+        );
     }
     Ok(())
 }
 
-/// Tries each call at an item of a tree of height 3: which page it names.
-fn try_three(
-    rt: &impl Abort,
-    alloc: Global,
-    spoilt: (u32, Spoil),
-    item: u32,
-    expected: [u32; 7],
-) -> Result<(), Fail> {
-    for call in 0..7_usize {
-        let mut tree = Spoilt::of_three_levels(alloc, spoilt.0, spoilt.1)?;
-        assert_eq!(rt; named(tree.stops(alloc, call, item)), expected[call]);
-    }
-    Ok(())
-}
-
-/// Tries edits of a tree of height 2 at an item that is under none of the pages that are spoilt.
-fn try_beside(rt: &impl Abort, alloc: Global, page: u32, how: Spoil, n: u32) -> Result<(), Fail> {
-    Spoilt::of_two_levels(alloc, 72, page, how)?.edits(rt, n)?;
-    Spoilt::of_two_levels(alloc, 72, page, how)?.runs(rt, alloc, n, n.wrapping_add(1))
-}
-
-#[test]
-fn a_child_that_is_no_page_is_named_by_its_parent(rt: HostRuntime) -> Result<(), Fail> {
-    for child in [0, 16, 255_u8] {
-        let how = Spoil::Byte(15, child);
-        try_two(&rt, rt.alloc(), 72, (1, how), 656, by_all(1))?;
-        try_beside(&rt, rt.alloc(), 1, how, 81)?;
+/// Tries each call of each of the rows.
+fn try_all(rt: &impl Abort, alloc: Global, n: u8, rows: &[Row]) -> Result<(), Fail> {
+    for row in rows {
+        tries(rt, alloc, n, row)?;
     }
     Ok(())
 }
 
 #[test]
-fn a_root_that_is_no_inner_page_is_named(rt: HostRuntime) -> Result<(), Fail> {
-    for how in [Spoil::Byte(2, 255), Spoil::Ones, Spoil::Leaf] {
-        try_two(&rt, rt.alloc(), 72, (1, how), 656, by_all(1))?;
+fn calls_name_the_page_that_is_spoilt(rt: HostRuntime) -> Result<(), Fail> {
+    try_all(&rt, rt.alloc(), 72, &TWO_LEVELS)?;
+    try_all(&rt, rt.alloc(), 144, &FULL)?;
+    try_all(&rt, rt.alloc(), 0, &THREE_LEVELS)
+}
+
+/// Pages that are spoilt in trees of height 2 with leaves of 72 records, in which way, and an item that is not under them.
+static BESIDE: [(u32, Spoil, u32); 12] = [
+    (1, Spoil::Byte(15, 0), 81),
+    (1, Spoil::Byte(15, 16), 81),
+    (1, Spoil::Byte(15, 255), 81),
+    (1, Spoil::Byte(4095, 1), 81),
+    (1, Spoil::Byte(15, 2), 1233),
+    (3, Spoil::Byte(354, 0), 81),
+    (3, Spoil::Byte(2, 255), 81),
+    (3, Spoil::Byte(4095, 1), 81),
+    (3, Spoil::Ones, 81),
+    (3, Spoil::Inner, 81),
+    (3, Spoil::First, 81),
+    (3, Spoil::Byte(2062, 5), 81),
+];
+
+/// The ways in which a leaf of a tree of height 3 is spoilt.
+static LEAVES: [Spoil; 4] = [
+    Spoil::Byte(354, 0),
+    Spoil::Byte(4095, 1),
+    Spoil::Ones,
+    Spoil::Inner,
+];
+
+/// Makes edits at an item of a tree of height 2, and of two items at once.
+fn edits_beside(rt: &impl Abort, alloc: Global, row: &(u32, Spoil, u32)) -> Result<(), Fail> {
+    let (page, how, item) = *row;
+    Spoilt::of_two_levels(alloc, 72, page, how)?.edits(rt, item)?;
+    Spoilt::of_two_levels(alloc, 72, page, how)?.runs(rt, alloc, item, item.wrapping_add(1))
+}
+
+#[test]
+fn edits_beside_a_page_that_is_spoilt_are_made(rt: HostRuntime) -> Result<(), Fail> {
+    for row in &BESIDE {
+        edits_beside(&rt, rt.alloc(), row)?;
     }
-    Ok(())
-}
-
-#[test]
-fn a_page_that_is_no_leaf_is_named_by_edits(rt: HostRuntime) -> Result<(), Fail> {
-    for how in [
-        Spoil::Byte(354, 0),
-        Spoil::Byte(2, 255),
-        Spoil::Byte(4095, 1),
-        Spoil::Ones,
-        Spoil::Inner,
-    ] {
-        try_two(&rt, rt.alloc(), 72, (3, how), 656, by_edits(3))?;
-        try_beside(&rt, rt.alloc(), 3, how, 81)?;
-    }
-    Ok(())
-}
-
-#[test]
-fn a_leaf_of_one_record_stops_its_removal(rt: HostRuntime) -> Result<(), Fail> {
-    try_two(&rt, rt.alloc(), 72, (3, Spoil::First), 576, by_removals(0))?;
-    try_beside(&rt, rt.alloc(), 3, Spoil::First, 81)
-}
-
-#[test]
-fn a_leaf_out_of_its_bounds_stops_removals(rt: HostRuntime) -> Result<(), Fail> {
-    let how = Spoil::Byte(2062, 5);
-    try_two(&rt, rt.alloc(), 72, (3, how), 656, by_removals(0))?;
-    try_beside(&rt, rt.alloc(), 3, how, 81)
-}
-
-#[test]
-fn a_leaf_that_is_listed_twice_stops_removals(rt: HostRuntime) -> Result<(), Fail> {
-    let how = Spoil::Byte(15, 2);
-    try_two(&rt, rt.alloc(), 72, (1, how), 80, by_removals(0))?;
-    try_beside(&rt, rt.alloc(), 1, how, 1233)
-}
-
-#[test]
-fn a_page_that_is_no_leaf_is_named_by_removals_beside_it(rt: HostRuntime) -> Result<(), Fail> {
-    for how in [
-        Spoil::Byte(354, 0),
-        Spoil::Byte(2, 255),
-        Spoil::Byte(4095, 1),
-        Spoil::Ones,
-        Spoil::Inner,
-    ] {
-        try_two(&rt, rt.alloc(), 72, (3, how), 80, by_removals(3))?;
+    for how in &LEAVES {
+        Spoilt::of_three_levels(rt.alloc(), 134, *how)?.edits(&rt, 81)?;
     }
     Ok(())
 }
@@ -143,7 +185,7 @@ fn a_page_that_is_no_leaf_is_named_by_removals_beside_it(rt: HostRuntime) -> Res
 fn count_by_edits(
     rt: &impl Abort,
     alloc: Global,
-    n: u32,
+    n: u8,
     spoilt: (u32, Spoil),
     item: u32,
 ) -> Result<u32, Fail> {
@@ -163,7 +205,7 @@ fn count_by_edits(
 fn count_at_items(
     rt: &impl Abort,
     alloc: Global,
-    n: u32,
+    n: u8,
     spoilt: (u32, Spoil),
 ) -> Result<u32, Fail> {
     let mut count = 0_u32;
@@ -183,82 +225,32 @@ fn count_at_pages(rt: &impl Abort, alloc: Global, how: Spoil) -> Result<u32, Fai
     Ok(count)
 }
 
-#[test]
-fn edits_name_the_page_that_is_spoilt_or_page_0(rt: HostRuntime) -> Result<(), Fail> {
-    for how in [
-        Spoil::Byte(2, 255),
-        Spoil::Byte(354, 0),
-        Spoil::Byte(4095, 1),
-        Spoil::Ones,
-        Spoil::Inner,
-    ] {
-        assert!(rt; count_at_pages(&rt, rt.alloc(), how)? > 0);
-    }
-    for how in [Spoil::Byte(2062, 5), Spoil::First, Spoil::Leaf] {
-        let _ = count_at_pages(&rt, rt.alloc(), how)?;
-    }
-    Ok(())
-}
+/// Ways in which a page is spoilt, and whether some edit names it then.
+static COUNTED: [(Spoil, bool); 8] = [
+    (Spoil::Byte(2, 255), true),
+    (Spoil::Byte(354, 0), true),
+    (Spoil::Byte(4095, 1), true),
+    (Spoil::Ones, true),
+    (Spoil::Inner, true),
+    (Spoil::Byte(2062, 5), false),
+    (Spoil::First, false),
+    (Spoil::Leaf, false),
+];
 
 #[test]
-fn a_root_with_a_byte_behind_its_keys_is_named_by_what_writes_it(
-    rt: HostRuntime,
-) -> Result<(), Fail> {
-    let how = Spoil::Byte(4095, 1);
-    try_two(&rt, rt.alloc(), 72, (1, how), 656, by_removals(1))?;
-    let splits = [NONE, NONE, NONE, 1, NONE, 1, NONE];
-    try_two(&rt, rt.alloc(), 144, (1, how), 656, splits)?;
-    try_beside(&rt, rt.alloc(), 1, how, 81)
+fn edits_name_the_page_that_is_spoilt_or_page_0(rt: HostRuntime) -> Result<(), Fail> {
+    for (how, names) in &COUNTED {
+        let count = count_at_pages(&rt, rt.alloc(), *how)?;
+        assert!(rt; count > 0 || !*names);
+    }
+    Ok(())
 }
 
 #[test]
 fn a_range_names_a_leaf_that_adds_nothing_where_it_is_none(rt: HostRuntime) -> Result<(), Fail> {
     let mut ones = Spoilt::of_two_levels(rt.alloc(), 72, 3, Spoil::Ones)?;
-    assert_eq!(rt; named(ones.range(rt.alloc(), 80, 1300)), 3);
+    assert!(rt; named(ones.range(rt.alloc(), 80, 1300)) == 3);
     let mut twice = Spoilt::of_two_levels(rt.alloc(), 72, 1, Spoil::Byte(15, 2))?;
-    assert_eq!(rt; named(twice.range(rt.alloc(), 80, 1300)), 0);
-    Ok(())
-}
-
-#[test]
-fn a_page_below_the_root_of_three_levels_is_named(rt: HostRuntime) -> Result<(), Fail> {
-    for how in [
-        Spoil::Byte(23, 0),
-        Spoil::Byte(22, 2),
-        Spoil::Byte(2, 255),
-        Spoil::Ones,
-        Spoil::Leaf,
-    ] {
-        try_three(&rt, rt.alloc(), (3, how), 74960, by_all(3))?;
-    }
-    try_three(
-        &rt,
-        rt.alloc(),
-        (3, Spoil::Byte(4095, 1)),
-        74960,
-        by_removals(3),
-    )
-}
-
-#[test]
-fn a_leaf_of_three_levels_stops_removals(rt: HostRuntime) -> Result<(), Fail> {
-    try_three(&rt, rt.alloc(), (134, Spoil::First), 74880, by_removals(0))?;
-    let out_of_bounds = Spoil::Byte(2062, 53);
-    try_three(&rt, rt.alloc(), (134, out_of_bounds), 74960, by_removals(0))?;
-    let twice = Spoil::Byte(23, 133);
-    try_three(&rt, rt.alloc(), (3, twice), 74384, by_removals(0))
-}
-
-#[test]
-fn a_leaf_of_three_levels_is_named_by_edits(rt: HostRuntime) -> Result<(), Fail> {
-    for how in [
-        Spoil::Byte(354, 0),
-        Spoil::Byte(4095, 1),
-        Spoil::Ones,
-        Spoil::Inner,
-    ] {
-        try_three(&rt, rt.alloc(), (134, how), 74960, by_edits(134))?;
-        Spoilt::of_three_levels(rt.alloc(), 134, how)?.edits(&rt, 81)?;
-    }
+    assert!(rt; named(twice.range(rt.alloc(), 80, 1300)) == 0);
     Ok(())
 }

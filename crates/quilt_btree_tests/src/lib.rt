@@ -2,7 +2,11 @@
 #![tactic(auto)]
 
 #[cfg(test)]
+mod bytes;
+#[cfg(test)]
 mod damaged;
+#[cfg(test)]
+mod full_leaves;
 #[cfg(test)]
 mod grown;
 #[cfg(test)]

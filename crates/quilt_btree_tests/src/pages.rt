@@ -1,12 +1,13 @@
 ghost use Rattle.std.specs.Prelude.{◌≡◌, ◌+◌, ◌-◌, ◌*◌, ◌≤◌, ◌<◌, map, replicate};
 ghost use Rattle.std.specs.List.{range_with_len};
 
+use crate::bytes;
+use crate::bytes::{laid, lay, swap};
 use quilt_node::{
     Head, InnerPage, LeafPage, child_count_in, child_in, find_in, header_bytes, header_of,
     inner_of, is_inner, is_leaf, leaf_of, place_in, rec_in, records_in,
 };
 use quilt_record::{Key, Record};
-use std::test::Fail;
 
 const CATALOG: Key = Key {
     layer: 0,
@@ -24,43 +25,91 @@ const BLOCK: Key = Key {
     item: 0,
 };
 
-/// The header at the start of a file of so many pages, with another number of the format.
-fn header_with(page: &[u8; 4096], format: [u8; 2], pages: u32) -> Option<Head> {
+const HEAD: Head = Head {
+    format: 1,
+    edition: 258,
+    level: 3,
+    root: 17,
+    height: 1,
+    records: 2,
+};
+
+/// The bytes of that header.
+static HEADER: [u8; 25] = *b"QHDR\0\0\0\x01\0\0\x01\x02\x03\x01\0\0\0\0\0\x11\0\0\0\x02\0";
+
+/// Numbers of a format, how many pages a file has, and the format that its header is then read with, if it is read.
+static FORMATS: [([u8; 2], u32, Option<u8>); 6] = [
+    ([0, 1], 18, Some(1)),
+    ([0, 1], 17, None),
+    ([0, 2], 18, Some(2)),
+    ([0, 3], 18, None),
+    ([0, 0], 18, None),
+    ([1, 1], 18, None),
+];
+
+/// Whether the page is read as the header with another format, or as none.
+fn reads_head(page: &[u8; 4096], pages: u32, format: Option<u8>) -> bool {
+    match (header_of(page, pages), format) {
+        (Some(head), Some(format)) => head == Head { format, ..HEAD },
+        (None, None) => true,
+        _ => false,
+    }
+}
+
+/// Whether the page is the header's, and is read as the table says with other numbers of the format.
+fn is_header(page: &[u8; 4096]) -> bool {
     let mut other = *page;
-    other[6] = format[0];
-    other[7] = format[1];
-    header_of(&other, pages)
+    for (number, pages, format) in &FORMATS {
+        lay(&mut other, 6, number);
+        if !reads_head(&other, *pages, *format) {
+            return false;
+        }
+    }
+    page.starts_with(&HEADER)
 }
 
 #[test]
-fn header_byte_by_byte(rt: HostRuntime) -> Result<(), Fail> {
-    let head = Head {
-        format: 1,
-        edition: 258,
-        level: 3,
-        root: 17,
-        height: 1,
-        records: 2,
-    };
-    let page = header_bytes(&head);
-    assert_eq!(rt;
-        &page[..14],
-        b"QHDR\0\0\0\x01\0\0\x01\x02\x03\x01".as_slice()
-    );
-    assert_eq!(rt; &page[14..25], b"\0\0\0\0\0\x11\0\0\0\x02\0".as_slice());
-    assert_eq!(rt; header_with(&page, [0, 1], 18), Some(head));
-    assert_eq!(rt; header_with(&page, [0, 1], 17), None);
-    let second = Head { format: 2, ..head };
-    assert_eq!(rt; header_with(&page, [0, 2], 18), Some(second));
-    for format in [[0, 3], [0, 0], [1, 1]] {
-        assert_eq!(rt; header_with(&page, format, 18), None);
-    }
-    Ok(())
+fn header_byte_by_byte(rt: HostRuntime) {
+    let page = header_bytes(&HEAD);
+    assert!(rt; is_header(&page));
 }
 
-/// The bytes of a leaf.
-fn bytes_of(leaf: &LeafPage) -> [u8; 4096] {
-    *leaf.bytes()
+/// A record of the catalog, and one of a block.
+const NAME: Record = Record {
+    key: CATALOG,
+    value: *b"a\0\0\0\0\0\0\0\0\0\0\0\x01\0\0\0",
+};
+
+const COLOUR: Record = Record {
+    key: BLOCK,
+    value: *b"\x07\0\0\0\0\0\0\0\0\0\0\0\0\0\0\0",
+};
+
+/// The bytes of the leaf of these two that are not zero: those of its head, and of each key and value.
+static LEAF: [(usize, u8); 11] = [
+    (0, 1),
+    (1, 1),
+    (3, 2),
+    (75, 1),
+    (76, b'a'),
+    (88, 1),
+    (93, 1),
+    (94, 1),
+    (98, 25),
+    (99, 3),
+    (104, 7),
+];
+
+/// The leaf of these two.
+fn two_records() -> LeafPage {
+    let mut leaf = LeafPage::one(&NAME);
+    leaf.insert(1, &COLOUR);
+    leaf
+}
+
+/// Whether a leaf has these bytes.
+fn is_spelled(leaf: &LeafPage, page: &[u8; 4096]) -> bool {
+    leaf.bytes() == page
 }
 
 /// Where a key is in a leaf, or where it would be put.
@@ -77,7 +126,7 @@ fn record_at(leaf: &LeafPage, i: usize) -> Option<Record> {
     }
 }
 
-/// Whether a record could be taken out of a leaf, in which another one stays.
+/// Takes a record out of a leaf, in which another one has to stay.
 fn takes_out(leaf: &mut LeafPage, i: usize) -> bool {
     let n = leaf.len();
     if 1 < n && i < n {
@@ -94,32 +143,21 @@ fn reads_leaf(page: &[u8; 4096]) -> bool {
 }
 
 #[test]
-fn leaf_byte_by_byte(rt: HostRuntime) -> Result<(), Fail> {
-    let catalog = Record {
-        key: CATALOG,
-        value: *b"a\0\0\0\0\0\0\0\0\0\0\0\x01\0\0\0",
-    };
-    let block = Record {
-        key: BLOCK,
-        value: *b"\x07\0\0\0\0\0\0\0\0\0\0\0\0\0\0\0",
-    };
-    let mut leaf = LeafPage::one(&catalog);
-    leaf.insert(1, &block);
-    let mut page = [0; 4096];
-    page[..4].copy_from_slice(&[1, 1, 0, 2]);
-    page[64..76].copy_from_slice(b"\0\0\0\0\0\0\0\0\0\0\0\x01");
-    page[76..92].copy_from_slice(&catalog.value);
-    page[92..104].copy_from_slice(b"\0\x01\x01\0\0\0\x19\x03\0\0\0\0");
-    page[104..120].copy_from_slice(&block.value);
-    assert_eq!(rt; bytes_of(&leaf), page);
-    assert_eq!(rt; place_of(&leaf, &BLOCK), Ok(1));
-    assert_eq!(rt; record_at(&leaf, 1), Some(block));
+fn leaf_byte_by_byte(rt: HostRuntime) {
+    let mut leaf = two_records();
+    assert!(rt; is_spelled(&leaf, &laid(&LEAF)));
+    assert!(rt; place_of(&leaf, &BLOCK) == Ok(1));
+    assert!(rt; record_at(&leaf, 1) == Some(COLOUR));
     assert!(rt; takes_out(&mut leaf, 0));
-    assert_eq!(rt; place_of(&leaf, &CATALOG), Err(0));
+    assert!(rt; place_of(&leaf, &CATALOG) == Err(0));
+}
+
+#[test]
+fn leaf_is_read(rt: HostRuntime) {
+    let mut page = laid(&LEAF);
     assert!(rt; reads_leaf(&page));
-    page[4095] = 1;
+    swap(&mut page, 4095, 1);
     assert!(rt; !reads_leaf(&page));
-    Ok(())
 }
 
 /// The bytes of an inner page.
@@ -146,18 +184,23 @@ fn reads_inner(page: &[u8; 4096], pages: u32) -> bool {
     inner_of(page, pages).is_some()
 }
 
-#[test]
-fn inner_page_with_two_children(rt: HostRuntime) -> Result<(), Fail> {
+/// The inner page of the children 5, 7 and 6.
+fn three_children() -> InnerPage {
     let mut inner = InnerPage::pair(2, 5, &CATALOG, 6);
     inner.insert(1, &BLOCK, 7);
-    assert_eq!(rt; third_of(&inner), Some((7, BLOCK)));
-    assert_eq!(rt; under(&inner, &BLOCK), 2);
+    inner
+}
+
+#[test]
+fn inner_page_with_two_children(rt: HostRuntime) {
+    let inner = three_children();
+    assert!(rt; third_of(&inner) == Some((7, BLOCK)));
+    assert!(rt; under(&inner, &BLOCK) == 2);
     let mut page = inner_bytes(&inner);
     assert!(rt; reads_inner(&page, 8));
     assert!(rt; !reads_inner(&page, 7));
-    page[1] = 4;
+    swap(&mut page, 1, 4);
     assert!(rt; !reads_inner(&page, 8));
-    Ok(())
 }
 
 /// The key of a segment.
@@ -198,28 +241,13 @@ fn leaf_from(first: u32, n: u32) -> LeafPage
 }
 
 /// The bytes of that leaf.
-fn leaf_spelled(first: usize, n: usize) -> [u8; 4096]
-    requires { (n ≤ 144) × (first ≤ 1000) }
-{
-    let mut page = [0; 4096];
-    page[0] = 1;
-    page[1] = 1;
-    page[3] = n as u8;
-    for i in 0..n {
-        let at = 64 + 28 * i;
-        let item = 2 * (first + i);
-        page[at + 1] = 1;
-        page[at + 2] = 4;
-        page[at + 10] = (item / 256) as u8;
-        page[at + 11] = (item % 256) as u8;
-        page[at + 12..at + 28].fill(7);
-    }
-    page
+fn leaf_spelled(first: u32, n: u8) -> [u8; 4096] {
+    bytes::leaf(first.wrapping_mul(2), 2, n)
 }
 
 /// Whether a leaf has those bytes.
-fn spells_leaf(leaf: &LeafPage, first: usize, n: usize) -> bool {
-    n <= 144 && first <= 1000 && *leaf.bytes() == leaf_spelled(first, n)
+fn spells_leaf(leaf: &LeafPage, first: u32, n: u8) -> bool {
+    is_spelled(leaf, &leaf_spelled(first, n))
 }
 
 /// The inner page of the `n` children behind the page `first`, with twice the number of each child but the last as the
@@ -241,35 +269,17 @@ fn inner_from(first: u32, n: u32) -> InnerPage
 }
 
 /// The bytes of that inner page.
-fn inner_spelled(first: usize, n: usize) -> [u8; 4096]
-    requires { (n ≤ 254) × (first ≤ 1000) }
-{
-    let mut page = [0; 4096];
-    page[0] = 2;
-    page[1] = 2;
-    page[3] = n as u8;
-    for i in 0..n {
-        let child = first + 1 + i;
-        page[4 * i + 10] = (child / 256) as u8;
-        page[4 * i + 11] = (child % 256) as u8;
-        if i + 1 < n {
-            let at = 1024 + 12 * i;
-            page[at + 1] = 1;
-            page[at + 2] = 4;
-            page[at + 10] = (2 * child / 256) as u8;
-            page[at + 11] = (2 * child % 256) as u8;
-        }
-    }
-    page
+fn inner_spelled(first: u32, n: u8) -> [u8; 4096] {
+    bytes::inner(2, first.wrapping_add(1), n, first.wrapping_mul(2), 2)
 }
 
 /// Whether an inner page has those bytes.
-fn spells_inner(inner: &InnerPage, first: usize, n: usize) -> bool {
-    n <= 254 && first <= 1000 && *inner.bytes() == inner_spelled(first, n)
+fn spells_inner(inner: &InnerPage, first: u32, n: u8) -> bool {
+    *inner.bytes() == inner_spelled(first, n)
 }
 
 #[test]
-fn a_full_leaf_is_split(rt: HostRuntime) -> Result<(), Fail> {
+fn a_full_leaf_is_split(rt: HostRuntime) {
     let mut low = leaf_from(1, 144);
     let high = low.insert_split(0, &row(0));
     assert!(rt; spells_leaf(&low, 0, 72));
@@ -278,31 +288,28 @@ fn a_full_leaf_is_split(rt: HostRuntime) -> Result<(), Fail> {
     let high = low.insert_split(144, &row(288));
     assert!(rt; spells_leaf(&low, 0, 72));
     assert!(rt; spells_leaf(&high, 72, 73));
-    Ok(())
 }
 
 #[test]
-fn a_record_goes_from_a_leaf(rt: HostRuntime) -> Result<(), Fail> {
+fn a_record_goes_from_a_leaf(rt: HostRuntime) {
     let mut leaf = leaf_from(0, 3);
     leaf.remove(2);
     assert!(rt; spells_leaf(&leaf, 0, 2));
     leaf.remove(0);
     assert!(rt; spells_leaf(&leaf, 1, 1));
-    Ok(())
 }
 
 #[test]
-fn leaves_are_joined(rt: HostRuntime) -> Result<(), Fail> {
+fn leaves_are_joined(rt: HostRuntime) {
     let mut leaf = leaf_from(0, 71);
     let right = leaf_from(71, 72);
     leaf.join(&right);
     assert!(rt; spells_leaf(&leaf, 0, 143));
     assert!(rt; spells_leaf(&right, 71, 72));
-    Ok(())
 }
 
 #[test]
-fn leaves_lend_a_record(rt: HostRuntime) -> Result<(), Fail> {
+fn leaves_lend_a_record(rt: HostRuntime) {
     let mut leaf = leaf_from(0, 71);
     let mut right = leaf_from(71, 73);
     leaf.from_right(&mut right);
@@ -313,11 +320,10 @@ fn leaves_lend_a_record(rt: HostRuntime) -> Result<(), Fail> {
     leaf.from_left(&mut left);
     assert!(rt; spells_leaf(&left, 0, 72));
     assert!(rt; spells_leaf(&leaf, 72, 72));
-    Ok(())
 }
 
 #[test]
-fn children_come_and_go(rt: HostRuntime) -> Result<(), Fail> {
+fn children_come_and_go(rt: HostRuntime) {
     let mut inner = InnerPage::pair(2, 1, &key(4), 3);
     inner.insert(0, &key(2), 2);
     assert!(rt; spells_inner(&inner, 0, 3));
@@ -325,71 +331,65 @@ fn children_come_and_go(rt: HostRuntime) -> Result<(), Fail> {
     assert!(rt; spells_inner(&inner, 0, 2));
     inner.set_key(0, &key(3));
     let mut page = inner_spelled(0, 2);
-    page[1035] = 3;
+    swap(&mut page, 1035, 3);
     assert!(rt; inner_bytes(&inner) == page);
-    Ok(())
 }
 
 #[test]
-fn a_full_inner_page_is_split(rt: HostRuntime) -> Result<(), Fail> {
+fn a_full_inner_page_is_split(rt: HostRuntime) {
     let mut inner = inner_from(0, 254);
     let (separator, right) = inner.insert_split(253, &key(508), 255);
-    assert_eq!(rt; separator, key(254));
+    assert!(rt; separator == key(254));
     assert!(rt; spells_inner(&inner, 0, 127));
     assert!(rt; spells_inner(&right, 127, 128));
-    Ok(())
 }
 
 #[test]
-fn a_full_inner_page_is_split_at_its_start(rt: HostRuntime) -> Result<(), Fail> {
+fn a_full_inner_page_is_split_at_its_start(rt: HostRuntime) {
     let mut inner = inner_from(1, 254);
     let (separator, right) = inner.insert_split(0, &key(2), 1);
-    assert_eq!(rt; separator, key(254));
+    assert!(rt; separator == key(254));
     let mut page = inner_spelled(0, 127);
-    page[11] = 2;
-    page[15] = 1;
+    swap(&mut page, 11, 2);
+    swap(&mut page, 15, 1);
     assert!(rt; inner_bytes(&inner) == page);
     assert!(rt; spells_inner(&right, 127, 128));
-    Ok(())
 }
 
 #[test]
-fn a_full_inner_page_is_split_at_its_middle(rt: HostRuntime) -> Result<(), Fail> {
+fn a_full_inner_page_is_split_at_its_middle(rt: HostRuntime) {
     let mut inner = inner_from(0, 254);
     let (separator, right) = inner.insert_split(126, &key(253), 255);
-    assert_eq!(rt; separator, key(253));
+    assert!(rt; separator == key(253));
     assert!(rt; spells_inner(&inner, 0, 127));
     let mut page = inner_spelled(126, 128);
-    page[11] = 255;
+    swap(&mut page, 11, 255);
     assert!(rt; inner_bytes(&right) == page);
-    Ok(())
 }
 
 #[test]
-fn inner_pages_are_joined(rt: HostRuntime) -> Result<(), Fail> {
+fn inner_pages_are_joined(rt: HostRuntime) {
     let mut inner = inner_from(0, 127);
     let right = inner_from(127, 127);
     inner.join(&key(254), &right);
     assert!(rt; spells_inner(&inner, 0, 254));
     assert!(rt; spells_inner(&right, 127, 127));
-    Ok(())
 }
 
 #[test]
-fn inner_pages_lend_a_child(rt: HostRuntime) -> Result<(), Fail> {
+fn inner_pages_lend_a_child(rt: HostRuntime) {
     let mut inner = inner_from(0, 126);
     let mut right = inner_from(126, 128);
     let separator = inner.from_right(&key(252), &mut right);
-    assert_eq!(rt; separator, key(254));
+    assert!(rt; separator == key(254));
     assert!(rt; spells_inner(&inner, 0, 127));
     assert!(rt; spells_inner(&right, 127, 127));
     let mut left = inner_from(0, 128);
     let mut inner = inner_from(128, 126);
     let separator = inner.from_left(&key(256), &mut left);
-    assert_eq!(rt; separator, key(254));
+    assert!(rt; separator == key(254));
     assert!(rt; spells_inner(&left, 0, 127));
     assert!(rt; spells_inner(&inner, 127, 127));
-    Ok(())
 }
 
 const ABOVE_ALL: Key = Key {
@@ -409,15 +409,6 @@ fn item_key(item: u32) -> Key {
         depth: 0,
         item,
     }
-}
-
-/// A leaf of three records with these items.
-fn leaf_with(first: u8, second: u8, third: u8) -> [u8; 4096] {
-    let mut page = zeros_with([1, 1, 0, 3]);
-    page[75] = first;
-    page[103] = second;
-    page[131] = third;
-    page
 }
 
 /// Whether the keys with these items are, or would be put, at these places of a leaf.
@@ -463,152 +454,147 @@ fn child_at(page: &[u8; 4096], i: usize) -> Option<u32> {
     }
 }
 
-/// A page of zeros behind its first bytes.
-fn zeros_with(first: [u8; 4]) -> [u8; 4096] {
-    let mut page = [0; 4096];
-    page[..4].copy_from_slice(&first);
-    page
-}
+/// A leaf by its bytes that are not zero, the number of its records, and keys by their items with the places at which they are, or
+/// would be put.
+type Leaf = (
+    &'static [(usize, u8)],
+    usize,
+    &'static [(u32, Result<usize, usize>)],
+);
 
-/// An inner page with this count of children, and the bytes of the children 4, 5 and 6 and of the keys 5 and 9.
-fn inner_with(count: u8) -> [u8; 4096] {
-    let mut page = zeros_with([2, 2, 0, count]);
-    page[11] = 4;
-    page[15] = 5;
-    page[19] = 6;
-    page[1035] = 5;
-    page[1047] = 9;
-    page
+static LEAVES: [Leaf; 4] = [
+    // A leaf of three records.
+    (
+        &[(0, 1), (1, 1), (3, 3), (75, 5), (103, 7), (131, 9)],
+        3,
+        &[
+            (4, Err(0)),
+            (5, Ok(0)),
+            (7, Ok(1)),
+            (8, Err(2)),
+            (10, Err(3)),
+        ],
+    ),
+    // Keys out of order.
+    (
+        &[(0, 1), (1, 1), (3, 3), (75, 9), (103, 5), (131, 7)],
+        3,
+        &[(5, Ok(1)), (9, Err(3)), (4, Err(0))],
+    ),
+    // A count beyond a leaf is cut.
+    (&[(0, 1), (1, 1), (3, 145)], 144, &[(1, Err(144))]),
+    (&[(0, 1), (1, 1)], 0, &[(0, Err(0))]),
+];
+
+#[test]
+fn leaves_are_searched(rt: HostRuntime) {
+    for (bytes, records, places) in &LEAVES {
+        let page = laid(bytes);
+        assert!(rt; count(&page) == *records);
+        assert!(rt; finds(&page, places));
+    }
 }
 
 #[test]
-fn a_leaf_is_searched(rt: HostRuntime) -> Result<(), Fail> {
-    let page = leaf_with(5, 7, 9);
-    assert_eq!(rt; count(&page), 3);
-    let at = [
-        (4, Err(0)),
-        (5, Ok(0)),
-        (7, Ok(1)),
-        (8, Err(2)),
-        (10, Err(3)),
-    ];
-    assert!(rt; finds(&page, &at));
-    assert_eq!(rt; key_at(&page, 2), Some(item_key(9)));
-    assert_eq!(rt; key_at(&page, 143), Some(item_key(0)));
-    Ok(())
+fn keys_of_a_leaf_are_read(rt: HostRuntime) {
+    let page = laid(LEAVES[0].0);
+    assert!(rt; key_at(&page, 2) == Some(item_key(9)));
+    assert!(rt; key_at(&page, 143) == Some(item_key(0)));
 }
 
 #[test]
-fn keys_out_of_order_are_searched(rt: HostRuntime) -> Result<(), Fail> {
-    let page = leaf_with(9, 5, 7);
-    assert!(rt; finds(&page, &[(5, Ok(1)), (9, Err(3)), (4, Err(0))]));
-    Ok(())
-}
-
-#[test]
-fn a_count_beyond_a_leaf_is_cut(rt: HostRuntime) -> Result<(), Fail> {
-    let page = zeros_with([1, 1, 0, 145]);
-    assert_eq!(rt; count(&page), 144);
-    assert!(rt; finds(&page, &[(1, Err(144))]));
-    let page = zeros_with([1, 1, 0, 0]);
-    assert_eq!(rt; count(&page), 0);
-    assert!(rt; finds(&page, &[(0, Err(0))]));
-    Ok(())
-}
-
-#[test]
-fn a_page_of_ones_is_searched(rt: HostRuntime) -> Result<(), Fail> {
+fn a_leaf_of_ones_is_searched(rt: HostRuntime) {
     let page = [0xff; 4096];
-    assert_eq!(rt; count(&page), 144);
+    assert!(rt; count(&page) == 144);
     assert!(rt; finds(&page, &[(1, Err(0))]));
-    assert_eq!(rt; find_in(&page, &ABOVE_ALL), Ok(72));
-    assert_eq!(rt; key_at(&page, 143), Some(ABOVE_ALL));
-    assert_eq!(rt; child_count_in(&page), 254);
+    assert!(rt; find_in(&page, &ABOVE_ALL) == Ok(72));
+    assert!(rt; key_at(&page, 143) == Some(ABOVE_ALL));
+}
+
+#[test]
+fn an_inner_page_of_ones_is_searched(rt: HostRuntime) {
+    let page = [0xff; 4096];
+    assert!(rt; child_count_in(&page) == 254);
     assert!(rt; places(&page, &[(1, 0)]));
     assert!(rt; place_in(&page, &ABOVE_ALL) < 254);
-    assert_eq!(rt; child_at(&page, 253), Some(u32::MAX));
-    Ok(())
+    assert!(rt; child_at(&page, 253) == Some(u32::MAX));
 }
 
+/// The bytes of the children 4, 5 and 6 and of the keys 5 and 9, and the head of an inner page but for the count.
+static INNER: [(usize, u8); 7] = [
+    (0, 2),
+    (1, 2),
+    (11, 4),
+    (15, 5),
+    (19, 6),
+    (1035, 5),
+    (1047, 9),
+];
+
 #[test]
-fn an_inner_page_is_searched(rt: HostRuntime) -> Result<(), Fail> {
-    let page = inner_with(3);
-    assert_eq!(rt; child_count_in(&page), 3);
+fn an_inner_page_is_searched(rt: HostRuntime) {
+    let mut page = laid(&INNER);
+    swap(&mut page, 3, 3);
+    assert!(rt; child_count_in(&page) == 3);
     assert!(rt; places(&page, &[(4, 0), (5, 1), (9, 2)]));
-    assert_eq!(rt; child_at(&page, 2), Some(6));
-    assert!(rt; places(&inner_with(1), &[(9, 0)]));
-    Ok(())
+    assert!(rt; child_at(&page, 2) == Some(6));
+    swap(&mut page, 3, 1);
+    assert!(rt; places(&page, &[(9, 0)]));
 }
 
-/// A page with another byte at a place.
-fn changed(page: &[u8; 4096], at: usize, byte: u8) -> Option<[u8; 4096]> {
-    let mut other = *page;
-    if at < 4096 {
-        other[at] = byte;
-        Some(other)
-    } else {
-        None
-    }
-}
-
-/// Whether the page with another byte at a place is a leaf.
-fn is_leaf_with(page: &[u8; 4096], at: usize, byte: u8) -> Option<bool> {
-    let other = changed(page, at, byte)?;
-    Some(is_leaf(&other))
-}
+/// Places of a leaf of 143 records with other bytes, and whether it is a leaf then.
+static LEAF_BYTES: [(usize, u8, bool); 12] = [
+    (0, 2, false),
+    (2, 1, false),
+    (3, 0, false),
+    (3, 144, false),
+    (3, 145, false),
+    (4, 1, false),
+    (63, 1, false),
+    (64 + 28 * 143, 1, false),
+    (4095, 1, false),
+    // The second key becomes the first, and then less than it.
+    (64 + 28 + 11, 0, false),
+    (64 + 28 + 2, 3, false),
+    (64 + 28 + 11, 3, true),
+];
 
 #[test]
-fn a_leaf_is_refused_by_one_byte(rt: HostRuntime) -> Result<(), Fail> {
-    let page = leaf_spelled(0, 143);
+fn a_leaf_is_refused_by_one_byte(rt: HostRuntime) {
+    let mut page = leaf_spelled(0, 143);
     assert!(rt; is_leaf(&page));
-    let second = 64 + 28;
-    for (at, byte) in [
-        (0, 2),
-        (2, 1),
-        (3, 0),
-        (3, 144),
-        (3, 145),
-        (4, 1),
-        (63, 1),
-        (64 + 28 * 143, 1),
-        (4095, 1),
-        // The second key becomes the first, and then less than it.
-        (second + 11, 0),
-        (second + 2, 3),
-    ] {
-        assert_eq!(rt; is_leaf_with(&page, at, byte), Some(false));
+    for (at, byte, is) in &LEAF_BYTES {
+        let old = swap(&mut page, *at, *byte);
+        assert!(rt; is_leaf(&page) == *is, "{byte} at {at}");
+        swap(&mut page, *at, old);
     }
-    assert_eq!(rt; is_leaf_with(&page, second + 11, 3), Some(true));
     assert!(rt; !is_leaf(&[0xff; 4096]));
-    Ok(())
 }
 
-/// Whether the page with another byte at a place is an inner page of a file of 1,000 pages.
-fn is_inner_with(page: &[u8; 4096], at: usize, byte: u8) -> Option<bool> {
-    let other = changed(page, at, byte)?;
-    Some(is_inner(&other, 1000))
-}
+/// Places of an inner page of 253 children with other bytes, and whether it is an inner page of a file of 1,000 pages then.
+static INNER_BYTES: [(usize, u8, bool); 11] = [
+    (0, 1, false),
+    (1, 1, false),
+    (2, 1, false),
+    (3, 255, false),
+    (7, 1, false),
+    (11, 0, false),
+    (1020, 1, false),
+    (1023, 1, false),
+    (1024 + 12 * 252, 1, false),
+    (1024 + 12 + 11, 2, false),
+    (1, 3, true),
+];
 
 #[test]
-fn an_inner_page_is_refused_by_one_byte(rt: HostRuntime) -> Result<(), Fail> {
-    let page = inner_spelled(0, 253);
+fn an_inner_page_is_refused_by_one_byte(rt: HostRuntime) {
+    let mut page = inner_spelled(0, 253);
     assert!(rt; is_inner(&page, 254));
     assert!(rt; !is_inner(&page, 253));
-    for (at, byte) in [
-        (0, 1),
-        (1, 1),
-        (2, 1),
-        (3, 255),
-        (7, 1),
-        (11, 0),
-        (1020, 1),
-        (1023, 1),
-        (1024 + 12 * 252, 1),
-        (1024 + 12 + 11, 2),
-    ] {
-        assert_eq!(rt; is_inner_with(&page, at, byte), Some(false));
+    for (at, byte, is) in &INNER_BYTES {
+        let old = swap(&mut page, *at, *byte);
+        assert!(rt; is_inner(&page, 1000) == *is, "{byte} at {at}");
+        swap(&mut page, *at, old);
     }
-    assert_eq!(rt; is_inner_with(&page, 1, 3), Some(true));
     assert!(rt; !is_inner(&[0xff; 4096], u32::MAX));
-    Ok(())
 }

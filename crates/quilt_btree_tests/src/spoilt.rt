@@ -1,6 +1,5 @@
 //! Trees with one page spoilt, and what each call answers over them.
-ghost use Rattle.std.specs.Prelude.{◌≤◌};
-
+use crate::bytes::{inner, leaf, swap};
 use crate::grown::Grown;
 use quilt_btree::{Edit, Tree};
 use quilt_plain_pages::put_page;
@@ -59,120 +58,77 @@ fn removal(item: u32) -> Edit {
     Edit::Remove { key: key(item) }
 }
 
-/// The leaf of `n` records whose items are 4 from each other, from `first` on.
-fn leaf(first: u32, n: usize) -> [u8; 4096]
-    requires { n ≤ 144 }
-{
-    let mut page = [0; 4096];
-    page[..4].copy_from_slice(&[1, 1, 0, n as u8]);
-    let mut item = first;
-    for i in 0..n {
-        let at = 64 + 28 * i;
-        page[at + 1] = 1;
-        page[at + 2] = 4;
-        page[at + 8..at + 12].copy_from_slice(&item.to_be_bytes());
-        page[at + 12..at + 28].fill(7);
-        item = item.wrapping_add(4);
-    }
-    page
-}
-
-/// The inner page of the `n` children from the page `child` on, whose keys are `span` from each other, the first of them
-/// `span` above `first`.
-fn inner(height: u8, child: u32, n: usize, first: u32, span: u32) -> [u8; 4096]
-    requires { n ≤ 254 }
-{
-    let mut page = [0; 4096];
-    page[..4].copy_from_slice(&[2, height, 0, n as u8]);
-    let mut child = child;
-    let mut item = first;
-    for i in 0..n {
-        page[8 + 4 * i..12 + 4 * i].copy_from_slice(&child.to_be_bytes());
-        child = child.wrapping_add(1);
-        if i > 0 {
-            let at = 1012 + 12 * i;
-            page[at + 1] = 1;
-            page[at + 2] = 4;
-            page[at + 8..at + 12].copy_from_slice(&item.to_be_bytes());
-        }
-        item = item.wrapping_add(span);
-    }
-    page
-}
-
 /// Spoils the bytes of a page.
 fn change(bytes: &mut [u8; 4096], how: Spoil) {
     match how {
         Spoil::Byte(at, byte) => {
-            if at < 4096 {
-                bytes[at] = byte;
-            }
+            swap(bytes, at, byte);
         }
         Spoil::First => {
-            bytes[3] = 1;
+            swap(bytes, 3, 1);
             bytes[92..].fill(0);
         }
         Spoil::Ones => bytes.fill(255),
-        Spoil::Leaf => *bytes = leaf(0, 72),
+        Spoil::Leaf => *bytes = leaf(0, 4, 72),
         Spoil::Inner => *bytes = inner(2, 2, 3, 0, 576),
     }
 }
 
-/// Spoils a page of the store.
-fn spoil_page(store: &mut MemStore, page: u32, how: Spoil) -> Result<(), Fail> {
+/// Spoils a page of the tree in the store.
+fn spoil_page(store: &mut MemStore, page: u32, how: Spoil) -> Option<()> {
     if page == 0 || page >= store.pages() || store.is_free(page) {
-        return Err(Fail::from("a page of the tree"));
+        return None;
     }
     let mut bytes = [0; 4096];
-    if store.read(page, &mut bytes).is_err() {
-        return Err(Fail::from("a store in memory"));
-    }
+    store.read(page, &mut bytes).ok()?;
     change(&mut bytes, how);
-    if store.write(page, &bytes).is_err() {
-        return Err(Fail::from("a store in memory"));
-    }
-    Ok(())
+    store.write(page, &bytes).ok()
 }
 
 /// Puts `count` leaves of `n` records into the store, whose first records are 576 from each other.
-fn put_leaves(store: &mut MemStore, count: u32, n: usize) -> Result<(), Fail>
-    requires { n ≤ 144 }
-{
+fn put_leaves(store: &mut MemStore, count: u32, n: u8) -> Option<()> {
     let mut first = 0;
     for _ in 0..count {
-        put_page(store, &leaf(first, n)).ok_or("a leaf")?;
+        put_page(store, &leaf(first, 4, n))?;
         first = first.wrapping_add(576);
     }
-    Ok(())
+    Some(())
+}
+
+/// Puts the pages of a tree of height 2 into the store: the root is page 1, and the pages 2 to 4 are leaves of `n` records.
+fn put_two_levels(store: &mut MemStore, n: u8) -> Option<()> {
+    put_page(store, &inner(2, 2, 3, 0, 576))?;
+    put_leaves(store, 3, n)
+}
+
+/// Puts the pages of a tree of height 3 into the store: the root is page 1, the pages 2 and 3 have 127 children each, and the pages
+/// from 4 on are leaves of 72 records.
+fn put_three_levels(store: &mut MemStore) -> Option<()> {
+    put_page(store, &inner(3, 2, 2, 0, 73152))?;
+    put_page(store, &inner(2, 4, 127, 0, 576))?;
+    put_page(store, &inner(2, 131, 127, 73152, 576))?;
+    put_leaves(store, 254, 72)
 }
 
 impl Spoilt {
-    /// A tree of height 2 in 16 pages: the root is page 1, and the pages 2 to 4 are leaves of `n` records.
-    pub fn of_two_levels(alloc: Global, n: u32, page: u32, how: Spoil) -> Result<Spoilt, Fail> {
-        if n < 1 || 144 < n {
-            return Err(Fail::from("1 to 144 records"));
-        }
+    /// A tree of height 2 in 16 pages, whose leaves have `n` records.
+    pub fn of_two_levels(alloc: Global, n: u8, page: u32, how: Spoil) -> Result<Spoilt, Fail> {
         let mut store = MemStore::new(alloc, 16)?;
-        put_page(&mut store, &inner(2, 2, 3, 0, 576)).ok_or("the root")?;
-        put_leaves(&mut store, 3, n as usize)?;
-        spoil_page(&mut store, page, how)?;
+        put_two_levels(&mut store, n).ok_or("pages of a tree")?;
+        spoil_page(&mut store, page, how).ok_or("a page of the tree")?;
         let tree = Tree {
             root: 1,
             height: 2,
-            records: 3 * n,
+            records: 3 * u32::from(n),
         };
         Ok(Spoilt(Grown { store, tree }))
     }
 
-    /// A tree of height 3 in 300 pages: the root is page 1, the pages 2 and 3 have 127 children each, and the pages from 4
-    /// on are leaves of 72 records.
+    /// A tree of height 3 in 300 pages.
     pub fn of_three_levels(alloc: Global, page: u32, how: Spoil) -> Result<Spoilt, Fail> {
         let mut store = MemStore::new(alloc, 300)?;
-        put_page(&mut store, &inner(3, 2, 2, 0, 73152)).ok_or("the root")?;
-        put_page(&mut store, &inner(2, 4, 127, 0, 576)).ok_or("page 2")?;
-        put_page(&mut store, &inner(2, 131, 127, 73152, 576)).ok_or("page 3")?;
-        put_leaves(&mut store, 254, 72)?;
-        spoil_page(&mut store, page, how)?;
+        put_three_levels(&mut store).ok_or("pages of a tree")?;
+        spoil_page(&mut store, page, how).ok_or("a page of the tree")?;
         let tree = Tree {
             root: 1,
             height: 3,

@@ -4,7 +4,7 @@ use quilt_node::{InnerPage, inner_of};
 use quilt_record::{Key, Record};
 use quilt_store::{MemStore, PageStore};
 use quilt_types::Stop;
-use std::alloc::Global;
+use std::alloc::{AllocError, Global};
 use std::collections::BTreeMap;
 use std::process::Abort;
 use std::test::Fail;
@@ -41,25 +41,6 @@ fn record(n: u32, value: u8) -> Record {
     Record {
         key: key(n),
         value: [value; 16],
-    }
-}
-
-/// The edit by which the record of a number comes.
-fn put(n: u32, value: u8) -> Edit {
-    Edit::Put {
-        record: record(n, value),
-    }
-}
-
-/// The edit by which the record of a number goes.
-fn removal(n: u32) -> Edit {
-    Edit::Remove { key: key(n) }
-}
-
-/// The edit that gives the record of a number another value.
-pub fn replacement(n: u32, value: u8) -> Edit {
-    Edit::Replace {
-        record: record(n, value),
     }
 }
 
@@ -105,22 +86,51 @@ fn count_pages(store: &mut MemStore, tree: &Tree) -> Option<usize> {
     Some(count)
 }
 
-/// The edits by which records of these numbers come, all with one value.
-fn puts_of(alloc: Global, numbers: &[u32], value: u8) -> Result<Vec<Edit>, Fail> {
+/// The first of some numbers, how far they are from each other, and how many they are.
+pub type Numbers = (u32, u32, u32);
+
+/// The edits by which the records of these numbers come, all with one value.
+pub fn puts_of(alloc: Global, numbers: Numbers, value: u8) -> Result<Vec<Edit>, AllocError> {
+    let (mut n, step, count) = numbers;
     let mut run = Vec::new(alloc);
-    for n in numbers {
-        run.push(put(*n, value))?;
+    for _ in 0..count {
+        let record = record(n, value);
+        run.push(Edit::Put { record })?;
+        n = n.wrapping_add(step);
     }
     Ok(run)
 }
 
 /// The edits by which the records of these numbers go.
-fn removals_of(alloc: Global, numbers: &[u32]) -> Result<Vec<Edit>, Fail> {
+fn removals_of(alloc: Global, numbers: Numbers) -> Result<Vec<Edit>, AllocError> {
+    let (mut n, step, count) = numbers;
     let mut run = Vec::new(alloc);
-    for n in numbers {
-        run.push(removal(*n))?;
+    for _ in 0..count {
+        run.push(Edit::Remove { key: key(n) })?;
+        n = n.wrapping_add(step);
     }
     Ok(run)
+}
+
+/// What is done with a tree and the map beside it, or has to hold then.
+#[derive(Clone, Copy)]
+pub enum Step {
+    /// The records of these numbers come at once, with this value.
+    Come(Numbers, u8),
+    /// They go at once.
+    Go(Numbers),
+    /// All records go at once.
+    AllGo,
+    /// These can not come at once: one of them is there.
+    Clash(Numbers),
+    /// These can not go at once: one of them is missing.
+    Lack(Numbers),
+    /// The tree and the map have the same records, and the same of this number and before it.
+    Same(u32),
+    /// The tree has this height and so many records.
+    Has(u8, u32),
+    /// At least and at most so many pages are free.
+    Free(u32, u32),
 }
 
 impl Trial {
@@ -161,53 +171,43 @@ impl Trial {
         self.compare(rt)
     }
 
-    /// Puts the records of these numbers into both at once.
-    pub fn insert_all(
-        &mut self,
-        rt: &impl Abort,
-        alloc: Global,
-        numbers: &[u32],
-        value: u8,
-    ) -> Result<(), Fail> {
-        self.apply(rt, alloc, &puts_of(alloc, numbers, value)?)
+    /// Whether the tree has this height and so many records.
+    pub fn has(&self, height: u8, records: u32) -> bool {
+        self.grown.tree.height == height && self.grown.tree.records == records
     }
 
-    /// Takes the records of these numbers out of both at once.
-    pub fn remove_all(
-        &mut self,
-        rt: &impl Abort,
-        alloc: Global,
-        numbers: &[u32],
-    ) -> Result<(), Fail> {
-        self.apply(rt, alloc, &removals_of(alloc, numbers)?)
+    /// Whether at least and at most so many pages are free.
+    pub fn has_free(&self, low: u32, high: u32) -> bool {
+        let free = self.grown.free_pages();
+        low <= free && free <= high
     }
 
-    /// Tries to put the records of these numbers in, of which one is there.
-    pub fn meets_one(
-        &mut self,
-        rt: &impl Abort,
-        alloc: Global,
-        numbers: &[u32],
-    ) -> Result<(), Fail> {
-        let end = self.grown.apply(alloc, &puts_of(alloc, numbers, 0)?);
-        assert!(rt; end == Err(Stop::Damaged { page: 0 }));
-        Ok(())
+    /// Whether the edits of a run are refused, since one of them is not due.
+    fn refuses(&mut self, alloc: Global, run: &[Edit]) -> bool {
+        self.grown.apply(alloc, run) == Err(Stop::Damaged { page: 0 })
     }
 
-    /// Tries to take the records of these numbers out, of which one is missing.
-    pub fn misses_one(
-        &mut self,
-        rt: &impl Abort,
-        alloc: Global,
-        numbers: &[u32],
-    ) -> Result<(), Fail> {
-        let end = self.grown.apply(alloc, &removals_of(alloc, numbers)?);
-        assert!(rt; end == Err(Stop::Damaged { page: 0 }));
-        Ok(())
+    /// Makes the edits of a step, or tells whether what has to hold does.
+    pub fn does(&mut self, rt: &impl Abort, alloc: Global, step: Step) -> Result<bool, Fail> {
+        match step {
+            Step::Come(numbers, value) => {
+                self.apply(rt, alloc, &puts_of(alloc, numbers, value)?)?;
+            }
+            Step::Go(numbers) => self.apply(rt, alloc, &removals_of(alloc, numbers)?)?,
+            Step::AllGo => self.apply(rt, alloc, &self.removals(alloc)?)?,
+            Step::Same(n) => self.compare_all(rt, alloc, n)?,
+            Step::Clash(numbers) => {
+                return Ok(self.refuses(alloc, &puts_of(alloc, numbers, 0)?));
+            }
+            Step::Lack(numbers) => return Ok(self.refuses(alloc, &removals_of(alloc, numbers)?)),
+            Step::Has(height, records) => return Ok(self.has(height, records)),
+            Step::Free(low, high) => return Ok(self.has_free(low, high)),
+        }
+        Ok(true)
     }
 
-    /// Makes the edits of a run on both at once.
-    pub fn apply(&mut self, rt: &impl Abort, alloc: Global, run: &[Edit]) -> Result<(), Fail> {
+    /// Makes the edits of a run on the map.
+    fn expects(&mut self, run: &[Edit]) -> Result<(), AllocError> {
         for edit in run {
             match edit {
                 Edit::Remove { key } => {
@@ -218,6 +218,12 @@ impl Trial {
                 }
             }
         }
+        Ok(())
+    }
+
+    /// Makes the edits of a run on both at once.
+    pub fn apply(&mut self, rt: &impl Abort, alloc: Global, run: &[Edit]) -> Result<(), Fail> {
+        self.expects(run)?;
         self.grown.apply(alloc, run)?;
         self.compare(rt)
     }
@@ -250,6 +256,13 @@ impl Trial {
             })?;
         }
         Ok(run)
+    }
+
+    /// How many pages another value of a number's record changes.
+    pub fn pages_of_replacement(&mut self, alloc: Global, n: u32, value: u8) -> Result<u32, Stop> {
+        let record = record(n, value);
+        self.grown
+            .pages_changed_by(alloc, &[Edit::Replace { record }])
     }
 
     /// The edits that take all records out.

@@ -26,7 +26,7 @@ use Rattle.quilt_btree.proofs.growth.Below.{LeadsToChild, child_before, parent_b
 use Rattle.quilt_btree.proofs.growth.Fills.{within_put}
 use Rattle.quilt_btree.proofs.lists.Counts.{once_here}
 use Rattle.quilt_btree.proofs.lists.Rising.{all_follow}
-use Rattle.quilt_btree.proofs.removals.Drains.{AreAmong, all_lower, all_higher, at_run, kept_without, still_enough, first_least}
+use Rattle.quilt_btree.proofs.removals.Drains.{at_run, lie_between, kept_without, still_enough, first_least}
 use Rattle.quilt_btree.proofs.rows.Places.{from_keys, head_low}
 use Rattle.quilt_btree.proofs.stores.Moves.{moves_written, used_account}
 use Rattle.quilt_btree.proofs.stores.Writes.{WritesPage, tells_at, all_told}
@@ -50,7 +50,7 @@ kept_run p (x ∷ xs) rs h w =
     let t = and_parts (p (key_of x)) (list_all p (edit_keys xs)) h in
     kept_run p xs (edited x rs) t.1 (kept_one p x rs t.0 w)
 
-keys_take : (n : ℕ) (run : List Edit) → edit_keys (take n run) ≡ take n (edit_keys run)
+pub keys_take : (n : ℕ) (run : List Edit) → edit_keys (take n run) ≡ take n (edit_keys run)
 keys_take zero run = refl
 keys_take (suc n) [] = refl
 keys_take (suc n) (e ∷ run) = ap (λ l. key_of e ∷ l) (keys_take n run)
@@ -126,19 +126,15 @@ module _ (told then_told : Option (List (List ℕ))) (free then_free : ℕ → B
       let cb = child_bounds inner b i in
       let did = f cb x.at.here x.at.here_used a.top (all_above_child inner b i k (edit_keys run) l.at.place above whole) a.can in
       let grown = child_before l (λ p g c n. Becomes p did.news g now c n false cb x.at.here_used (edit_all xs x.at.here)) x did.was did.becomes in
-      let under : list_all (is_below next) (edit_keys xs) ≡ true = subst (λ o. list_all (is_below o) (edit_keys xs) ≡ true) a.top did.under in
-      let among : AreAmong x.at.first x.at.last (edit_keys xs) = record {
-        lower = all_lower k x.at.first (edit_keys xs) x.among.lower from;
-        higher = all_higher next x.at.last (edit_keys xs) a.past under;
-      } in
+      let lies = lie_between a (edit_keys xs) from did.under in
       record {
         pages = x.pages;
         news = did.news;
         was = x.is_told;
         is = did.is;
-        due = are_due_between x.at.first x.at.here x.at.last rs xs x.among.records among ∙ did.due;
-        under = all_follow (is_below next) (is_below b.high) a.nearer_high (edit_keys xs) under;
-        becomes = parent_becomes x (edit_all_between x.at.first x.at.here x.at.last rs xs x.among.records among) grown;
+        due = are_due_between x.at.first x.at.here x.at.last rs xs x.among.records lies.among ∙ did.due;
+        under = lies.under;
+        becomes = parent_becomes x (edit_all_between x.at.first x.at.here x.at.last rs xs x.among.records lies.among) grown;
       }
 
   -- what is not due under the child is not due
@@ -152,16 +148,12 @@ module _ (told then_told : Option (List (List ℕ))) (free then_free : ℕ → B
       let h = f (child_bounds inner b i) x.at.here x.at.here_used a.top a.can q damaged in
       let none = h.1 in
       let xs = take none.number run in
-      let under : list_all (is_below next) (edit_keys xs) ≡ true = subst (λ o. list_all (is_below o) (edit_keys xs) ≡ true) a.top none.under in
-      let among : AreAmong x.at.first x.at.last (edit_keys xs) = record {
-        lower = all_lower k x.at.first (edit_keys xs) x.among.lower (all_first (λ x. is_le (key_cmp k x)) none.number run from);
-        higher = all_higher next x.at.last (edit_keys xs) a.past under;
-      } in (
+      let lies = lie_between a (edit_keys xs) (all_first (λ x. is_le (key_cmp k x)) none.number run from) none.under in (
         h.0,
         record {
           number = none.number;
-          missing = are_due_between x.at.first x.at.here x.at.last rs xs x.among.records among ∙ none.missing;
-          under = all_follow (is_below next) (is_below b.high) a.nearer_high (edit_keys xs) under;
+          missing = are_due_between x.at.first x.at.here x.at.last rs xs x.among.records lies.among ∙ none.missing;
+          under = lies.under;
         },
       )
 
@@ -170,6 +162,12 @@ pub least_first : (run : List Edit) (k : Key) → k ≡ key_of (edit_at run 0) �
 least_first [] k e a some = absurd (omega arith)
 least_first (x ∷ run) k e a some =
     subst (λ m. list_all (λ x. is_le (key_cmp m x)) (edit_keys (x ∷ run)) ≡ true) (sym e) (first_least (edit_keys (x ∷ run)) a (omega arith))
+
+-- a record, and so many of those behind it
+pub least_taken : (r : Record) (run : List Edit) (n : ℕ) → is_ascending (r.key ∷ edit_keys run) ≡ true
+    → list_all (λ x. is_le (key_cmp r.key x)) (edit_keys (edit.Put r ∷ take n run)) ≡ true
+least_taken r run n a =
+    all_first (λ x. is_le (key_cmp r.key x)) (suc n) (edit.Put r ∷ run) (least_first (edit.Put r ∷ run) r.key refl a (omega arith))
 
 module _ (old new : Option (List (List ℕ))) (free then_free : ℕ → Bool) (size then_size page height count : ℕ) (bytes : List ℕ) (child : ℕ) (k : Key)
     (high next : Option Key) (run : List Edit) (is_root : Bool) where

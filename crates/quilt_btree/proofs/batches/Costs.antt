@@ -56,7 +56,7 @@ onto e h = cc
 
 module _ {S : Type 0} (g : Ghosts S) where
   -- what holds of each answer holds where there is a value
-  within_ok : {T : Type 0} {s t : S} {m n : ℕ} {result : Result T Stop} → EditsWithin g m n s t result → EditsWithinOnOk g m n s t result
+  pub within_ok : {T : Type 0} {s t : S} {m n : ℕ} {result : Result T Stop} → EditsWithin g m n s t result → EditsWithinOnOk g m n s t result
   within_ok {result = Ok v} a = record { cause = a.cause; size = a.size; later = a.later; changed = a.changed; reads = a.reads }
   within_ok {result = Err e} a = record { cause = a.cause; size = a.size; later = a.later; changed = a.changed; reads = tt }
 
@@ -102,21 +102,22 @@ module _ {S : Type 0} (g : Ghosts S) where
     reads = tt;
   }
 
-  -- one edit is the first of a run
-  pub first_only : {s t : S} (run : List Edit) {v : Unit {0}} → 1 ≤ length run
-      → EditsWithinOnOk g (cost_of (edit_at run 0) - 1) (looks_of (edit_at run 0) - 3) s t (Ok v) → EditsFirst g 1 3 run s t (Ok 1)
-  first_only [] some a = absurd (omega arith)
-  first_only (e ∷ run) some a = record {
-    cause = record { later = a.cause.later; device = λ is. absurd (not_device 1 is) };
+  -- the first edits of a run, made within what the first of them may cost
+  pub first_only : {T : Type 0} {s t : S} {v : T} (run : List Edit) (n : ℕ) → 1 ≤ length run → 1 ≤ n
+      → EditsWithinOnOk g (cost_of (edit_at run 0) - 1) (looks_of (edit_at run 0) - 3) s t (Ok v) → EditsFirst g 1 3 run s t (Ok n)
+  first_only [] n some one a = absurd (omega arith)
+  first_only (e ∷ run) zero some one a = absurd (omega arith)
+  first_only (e ∷ run) (suc n) some one a = record {
+    cause = record { later = a.cause.later; device = λ is. absurd (not_device (suc n) is) };
     size = a.size;
     later = a.later;
     changed = let x = a.changed in let c = least_cost e in omega arith;
     less = tt;
-    reads = read_one (looks_of e - 3) (looks_of e + 0) _ _ (let l = least_looks e in omega arith) a.reads;
+    reads = read_one (looks_of e - 3) (looks_of e + looks (take n run)) _ _ (let l = least_looks e in omega arith) a.reads;
   }
 
-  pub first_none : {s t : S} (run : List Edit) (e : Stop) → 1 ≤ length run
-      → EditsWithinOnOk {T = Unit {0}} g (cost_of (edit_at run 0) - 1) (looks_of (edit_at run 0) - 3) s t (Err e) → EditsFirst g 1 3 run s t (Err e)
+  pub first_none : {T : Type 0} {s t : S} (run : List Edit) (e : Stop) → 1 ≤ length run
+      → EditsWithinOnOk {T = T} g (cost_of (edit_at run 0) - 1) (looks_of (edit_at run 0) - 3) s t (Err e) → EditsFirst g 1 3 run s t (Err e)
   first_none [] e some a = absurd (omega arith)
   first_none (f ∷ run) e some a = record {
     cause = record { later = a.cause.later; device = λ is. a.cause.device (onto e is) };

@@ -190,13 +190,14 @@ module _ (told now_told : Option (List (List ℕ))) (free now : ℕ → Bool) (s
       same : {a : ℕ} (f p : ℕ) {l r n : ℕ} → a + f ≡ l + p → l ≡ r → n + f ≡ r + p → a ≡ n
       same f p g h c = omega arith
 
-fails_all : (run : List Edit) (high : Option Key) (rs : List Record) → Fails run high rs → are_due run rs ≡ false
-fails_all run high rs l =
-    ap (λ m. are_due m rs) (sym (take-append-drop l.number run)) ∙ are_due-append (take l.number run) (drop l.number run) rs
-    ∙ ap (λ b. b && are_due (drop l.number run) (edit_all (take l.number run) rs)) l.missing
+-- a run is not due where its first edits are not
+pub undue_first : (n : ℕ) (run : List Edit) (rs : List Record) → are_due (take n run) rs ≡ false → are_due run rs ≡ false
+undue_first n run rs missing =
+    ap (λ m. are_due m rs) (sym (take-append-drop n run)) ∙ are_due-append (take n run) (drop n run) rs
+    ∙ ap (λ b. b && are_due (drop n run) (edit_all (take n run) rs)) missing
 
 -- where nothing changed before
-whole_along : {told mid : Option (List (List ℕ))} {free was : ℕ → Bool} {size at : ℕ} (t : Tree) (rs : List Record) → IsSame told mid free was size at
+pub whole_along : {told mid : Option (List (List ℕ))} {free was : ℕ → Bool} {size at : ℕ} (t : Tree) (rs : List Record) → IsSame told mid free was size at
     → IsWhole told free size t rs → IsWhole mid was at t rs
 whole_along {told} {mid} {free} {was} {size} t rs is w =
     subst (λ m. IsWhole mid was m t rs) (sym is.same_size)
@@ -231,6 +232,11 @@ pub record IsMade (told now_told : Option (List (List ℕ))) (free now : ℕ →
 -- the rest of the run as a slice
 abbrev pub rest : List Edit → ℕ → List Edit
 rest run i = take (length run - i) (drop i run)
+
+-- a run is its first edit and the rest
+pub first_rest : (run : List Edit) {e : Edit} → 1 ≤ length run → edit_at run 0 ≡ e → run ≡ e ∷ rest run 1
+first_rest [] some is = absurd (omega arith)
+first_rest (f ∷ run) some is = ap (λ l. f ∷ l) (sym (take_rest (f ∷ run) 1)) ∙ ap (λ x. x ∷ rest (f ∷ run) 1) is
 
 pub rest_long : (run : List Edit) (i n : ℕ) → i < length run → n ≤ length (rest run i) → i + n ≤ length run
 rest_long run i n lt le = let e = ap (λ (l : List Edit). length l) (take_rest run i) ∙ length-drop i run in omega arith
@@ -300,7 +306,7 @@ module _ (told : Option (List (List ℕ))) (free : ℕ → Bool) (size : ℕ) (t
   whole_fails e rs i f w q is =
       let a = at_root told free size t rs i w in
       let h = f everywhere rs a.used refl a.can q is in
-      (h.0, fails_all run None rs h.1)
+      (h.0, undue_first h.1.number run rs h.1.missing)
 
   pub made_all : (now_told : Option (List (List ℕ))) (now : ℕ → Bool) (i : ℕ) (u : Tree) → length run ≤ i
       → IsMade told now_told free now size t u (take i run) → IsMade told now_told free now size t u run

@@ -1,6 +1,6 @@
 -- A record put into, or taken out of, a tree none of whose pages is free.
 use Rattle.std.proofs.Common.{◌≡◌, ◌≢◌, ℕ, suc, ◌+◌, ◌-◌, ◌<◌, ◌≤◌, Bool, true, false, cond, List, [], ◌∷◌, ◌++◌, length, Option, Some, Result, Ok, Err, IfOk}
-use Rattle.std.proofs.Common.{IfErr, OnOk, slice_set, refl, sym, ◌∙◌, ap, subst, arith, length-append, get_or-set_same}
+use Rattle.std.proofs.Common.{IfErr, OnOk, slice_set, refl, sym, ◌∙◌, ap, subst, arith, get_or-set_same}
 use Rattle.std.specs.List.{list_any}
 use Rattle.std.proofs.lemmas.List.{append-nil}
 use Rattle.quilt_types.specs.Facts.{quota}
@@ -12,6 +12,7 @@ use Rattle.quilt_node.specs.Tree.{Bounds, Whole}
 use Rattle.quilt_store.specs.Store.{FreesOnly, count_free}
 use Rattle.quilt_world.specs.Tale.{Goes}
 use Rattle.quilt_btree.specs.declared.tree.Tree.{Tree}
+use Rattle.quilt_btree.specs.declared.edit.Edit.TheVariants as edit
 use Rattle.quilt_btree.specs.declared.outcomes.Inserted.TheVariants as inserted
 use Rattle.quilt_btree.specs.declared.outcomes.Removed.TheVariants as removed
 use Rattle.quilt_record.specs.Lists.{has_key, put, without}
@@ -22,7 +23,6 @@ use Rattle.quilt_btree.specs.Edits.{multiplicity, account, KeepsAccount, Becomes
 use Rattle.quilt_btree.specs.Inserts.{AreFew}
 use Rattle.quilt_btree.specs.Rebalancing.{HasGiven}
 use Rattle.quilt_btree.proofs.lists.Counts.{times_here}
-use Rattle.quilt_btree.proofs.subtrees.Density.{third_filled}
 use Rattle.quilt_btree.proofs.removals.LeafRemovals.{tells_on}
 use Rattle.quilt_btree.proofs.stores.Moves.{AreApart, apart_then, moves_then, moves_taken, moves_written, used_account, used_not_free}
 use Rattle.quilt_btree.proofs.removals.Underfulls.{page_used}
@@ -30,7 +30,7 @@ use Rattle.quilt_btree.proofs.subtrees.Trees.{subtree_rises}
 use Rattle.quilt_btree.proofs.subtrees.Whole.{no_records}
 use Rattle.quilt_btree.proofs.lists.Withouts.{without_missing, without_one_fewer, without_none}
 use Rattle.quilt_btree.proofs.stores.Writes.{WritesPage, tells_at, TellsAll, all_told}
-use Rattle.quilt_btree.proofs.growth.TreeGrowth.{everywhere, root_found, tree_again, length-put, two_thirds, too_many, UnderRoot, IsNewRoot, regrown_split, some_height}
+use Rattle.quilt_btree.proofs.growth.TreeGrowth.{everywhere, root_found, tree_again, length-put, never_split, UnderRoot, IsNewRoot, regrown_split, some_height}
 use Rattle.quilt_btree.proofs.removals.TreeRemovals as removals
 
 -- the tree as a subtree that can be edited
@@ -81,24 +81,24 @@ module _ (told : Option (List (List ℕ))) (free : ℕ → Bool) (t : Tree) (rs 
 
 pub kept_split : (r : Record) {told : Option (List (List ℕ))} {mid_told now_told : Option (List (List ℕ))} {free : ℕ → Bool} {mid now : ℕ → Bool}
     {size : ℕ} {t : Tree} {rs : List Record} {key : Key} {right new : ℕ} {bytes : List ℕ} {h : ℕ} → IsRooted size t → TellsAll told size
-    → t.height ≡ suc h → UnderRoot r told mid_told free mid size t (inserted.Split key right)
+    → t.height ≡ suc h → UnderRoot r.key (edit.Put r ∷ []) told mid_told free mid size t (inserted.Split key right)
     → IsNewRoot t mid_told now_told mid now size key right new bytes → t.height < count_free free size → HasItsPages told free t rs
     → HasItsPages now_told now (record { root = new; height = t.height + 1; records = t.records + 1 }) (put r rs)
 kept_split r {told} {free} {size} {t} {rs} {new} {h} rooted many tall f is room w =
     let ne : t.height ≢ 0 = omega arith in
     let a = at_root told free t rs ne w in
-    let did = f true everywhere rs a.used (insert_can told free size t r.key rs room a) in
+    let did = f true everywhere rs a.used refl (insert_can told free size t r.key rs room a) in
     let grown = regrown_split rooted many tall did.was did.is did.done.1 a.can.apart is in
     let some : 1 ≤ t.height + 1 = omega arith in
     kept_again new (t.height + 1) (t.records + 1)
     grown.is some grown.subtree grown.moves a.can.apart
 
 module _ (r : Record) (told now_told : Option (List (List ℕ))) (free now : ℕ → Bool) (size : ℕ) (t : Tree) (rs : List Record) where
-  pub kept_done : t.height ≢ 0 → UnderRoot r told now_told free now size t inserted.Done → t.height < count_free free size
+  pub kept_done : t.height ≢ 0 → UnderRoot r.key (edit.Put r ∷ []) told now_told free now size t inserted.Done → t.height < count_free free size
       → HasItsPages told free t rs → HasItsPages now_told now (record { root = t.root; height = t.height; records = t.records + 1 }) (put r rs)
   kept_done ne f room w =
       let a = at_root told free t rs ne w in
-      let did = f true everywhere rs a.used (insert_can told free size t r.key rs room a) in
+      let did = f true everywhere rs a.used refl (insert_can told free size t r.key rs room a) in
       let grown = did.done.1 in
       kept_again t.root t.height (t.records + 1) did.is
       (some_height t.height ne) grown.subtree grown.moves a.can.apart
@@ -139,24 +139,16 @@ room_left free now size mid_size height same few room =
 -- a root of the greatest height is not split within the quota
 pub kept_low : (r : Record) {told : Option (List (List ℕ))} {now_told : Option (List (List ℕ))} {free : ℕ → Bool} {now : ℕ → Bool} {size : ℕ}
     {t : Tree} {rs : List Record} {key : Key} {right : ℕ} → t.records < quota size → size ≤ 30000 → t.height ≡ 3
-    → UnderRoot r told now_told free now size t (inserted.Split key right) → t.height < count_free free size → length rs ≡ t.records
+    → UnderRoot r.key (edit.Put r ∷ []) told now_told free now size t (inserted.Split key right) → t.height < count_free free size → length rs ≡ t.records
     → HasItsPages told free t rs → ⊥
 kept_low r {told} {free} {size} {t} {rs} {key} {right} few most tall f room number w =
     let ne : t.height ≢ 0 = omega arith in
     let a = at_root told free t rs ne w in
-    let did = f true everywhere rs a.used (insert_can told free size t r.key rs room a) in
-    let separated = did.done.1 in
-    let left = third_filled did.news (t.root, record { low = everywhere.low; high = Some key }) separated.first separated.first_uses
-    (subst (λ h. Subtree did.news h false (t.root, record { low = everywhere.low; high = Some key }) separated.first separated.first_uses)
-    tall separated.is_left) in
-    let last = third_filled did.news (right, record { low = Some key; high = everywhere.high }) separated.rest separated.rest_uses
-    (subst (λ h. Subtree did.news h false (right, record { low = Some key; high = everywhere.high }) separated.rest separated.rest_uses)
-    tall separated.is_right) in
-    too_many size t.records (two_thirds (ap length separated.records ∙ length-append separated.first separated.rest) left last)
-    (more (length (put r rs)) (length rs) t.records (length-put r rs) number) few most
+    let did = f true everywhere rs a.used refl (insert_can told free size t r.key rs room a) in
+    never_split size tall did.done.1 (more (length (put r rs)) (length rs) t.records (quota size) (length-put r rs) number few) most
   where
-    more : (a b n : ℕ) → a ≡ suc b → b ≡ n → a ≡ n + 1
-    more a b n e f = omega arith
+    more : (a b n q : ℕ) → a ≡ suc b → b ≡ n → n < q → a ≤ q
+    more a b n q e f g = omega arith
 
 pub out_none : (k : Key) (told : Option (List (List ℕ))) (free : ℕ → Bool) (t : Tree) (rs : List Record) → t.height ≡ 0 → HasItsPages told free t rs
     → HasItsPages told free t (without k rs)

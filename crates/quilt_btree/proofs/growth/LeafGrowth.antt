@@ -177,7 +177,7 @@ module _ (told now_told : Option (List (List ℕ))) (free now : ℕ → Bool) (s
       let s = can.can_edit.subtree in
       let written = tells_at (λ old new. new ≡ slice_set old page bytes) told now_told pages wrote can.can_edit.is_told in
       let here : 1 ≤ multiplicity page used = subst (λ u. 1 ≤ multiplicity page u) (sym s.is_used) (once_here page) in
-      let is_put : insert rs i r ≡ put r rs = put_gap r rs i is.gap in
+      let puts_one : insert rs i r ≡ put r rs = put_gap r rs i is.gap in
       let grown : Becomes pages (slice_set pages page bytes) free free page 1 is_root b used (insert rs i r) = record {
         uses = used;
         subtree = record {
@@ -195,7 +195,7 @@ module _ (told now_told : Option (List (List ℕ))) (free now : ℕ → Bool) (s
         is = written.1 ∙ ap Some written.2;
         done = (
           gap_any r.key rs i is.gap,
-          subst (λ l. Becomes pages (slice_set pages page bytes) free now page 1 is_root b used l) is_put
+          subst (λ l. Becomes pages (slice_set pages page bytes) free now page 1 is_root b used l) puts_one
               (subst (λ f. Becomes pages (slice_set pages page bytes) free f page 1 is_root b used (insert rs i r)) (sym same) grown),
         );
       }

@@ -1,5 +1,5 @@
--- A record put into the whole tree.
-use Rattle.std.proofs.Common.{◌≡◌, ◌≢◌, ℕ, zero, suc, ◌+◌, ◌<◌, ◌≤◌, Bool, true, false, ◌&&◌, not, nat_le, cond, List, [], ◌∷◌, ◌++◌, length, Option, Some}
+-- Records put into the whole tree.
+use Rattle.std.proofs.Common.{◌≡◌, ◌≢◌, ℕ, zero, suc, ◌+◌, ◌-◌, ◌<◌, ◌≤◌, Bool, true, false, ◌&&◌, not, nat_le, cond, List, [], ◌∷◌, ◌++◌, length, Option, Some}
 use Rattle.std.proofs.lemmas.Bool.{and_from}
 use Rattle.std.proofs.Common.{None, slice_set, refl, sym, ◌∙◌, ap, subst, arith, length-append, get_or-set_same}
 use Rattle.std.specs.Prelude.{nat_lt, if◌then◌else◌}
@@ -22,8 +22,11 @@ use Rattle.quilt_record.specs.Lists.{has_key, put}
 use Rattle.quilt_store.specs.Stops.{IsNotDamage}
 use Rattle.quilt_btree.specs.Subtree.{Row, Subtree, AreFreshPages}
 use Rattle.quilt_btree.specs.Trees.{IsRooted, IsTree}
-use Rattle.quilt_btree.specs.Edits.{Becomes, multiplicity, account, KeepsAccount, Separated, CanInsert, DidInsert, IsWhole}
+use Rattle.quilt_btree.specs.Edits.{Becomes, multiplicity, account, KeepsAccount, Separated, CanInsert, IsWhole}
 use Rattle.quilt_btree.specs.Inserts.{AreFew}
+use Rattle.quilt_btree.specs.declared.edit.Edit.{Edit}
+use Rattle.quilt_btree.specs.Batches.{edit_all, are_due}
+use Rattle.quilt_btree.specs.Placing.{DidPlace}
 use Rattle.quilt_btree.specs.declared.outcomes.Inserted.{Inserted}
 use Rattle.quilt_btree.specs.declared.outcomes.Inserted.TheVariants as inserted
 use Rattle.quilt_btree.proofs.lists.Counts.{times-append, once_from_fresh, fresh_from_once, times_here}
@@ -154,7 +157,7 @@ pub length-put : (r : Record) (rs : List Record) → length (put r rs) ≡ suc (
 length-put r [] = refl
 length-put r (s ∷ rs) = put_step r s rs (is_lt (key_cmp r.key s.key)) (length-put r rs)
 
-more_records : (r : Record) (rs : List Record) (n : ℕ) → length rs ≡ n → length (put r rs) ≡ n + 1
+pub more_records : (r : Record) (rs : List Record) (n : ℕ) → length rs ≡ n → length (put r rs) ≡ n + 1
 more_records r rs n e = let l = length-put r rs in omega arith
 
 -- the store and the tree of an insertion
@@ -173,11 +176,17 @@ pub insert_from : (told : Option (List (List ℕ))) (free : ℕ → Bool) (size 
     → t.height ≢ 0 → IsWhole told free size t rs → IsWholeFrom told free size t.root t.height rs
 insert_from told free size t rs i ne w = whole_from told free size t rs i.rooted (some_height t.height ne) i.least i.inside w
 
--- what an insertion below the root says
-abbrev pub UnderRoot : Record → Option (List (List ℕ)) → Option (List (List ℕ)) → (ℕ → Bool) → (ℕ → Bool) → ℕ → Tree → Inserted → Type 0
-UnderRoot r told now_told free now size t o =
-    (is_root : Bool) (b : Bounds) (rs : List Record) (used : List ℕ) → CanInsert told free size t.root t.height is_root b r.key rs used
-    → DidInsert r told now_told free now t.root t.height is_root b rs used o
+module _ (k : Key) (run : List Edit) (told now_told : Option (List (List ℕ))) (free now : ℕ → Bool) (size : ℕ) (t : Tree) where
+  -- what putting the records of a run in, whose first key is this, says of the subtree at the root
+  abbrev pub UnderRoot : Inserted → Type 0
+  UnderRoot o =
+      (is_root : Bool) (b : Bounds) (rs : List Record) (used : List ℕ) → b.high ≡ None → CanInsert told free size t.root t.height is_root b k rs used
+      → DidPlace run told now_told free now t.root t.height is_root b rs used o
+
+-- a run of one edit is due where the edit is
+pub one_due : (b : Bool) {c : Bool} → (b && true) ≡ c → c ≡ b
+one_due true e = sym e
+one_due false e = sym e
 
 -- a tree within its quota has few records
 pub few_records : (size records : ℕ) (rs : List Record) → length rs ≡ records → records < quota size → size ≤ 30000 → AreFew rs
@@ -188,66 +197,65 @@ few_records size records rs is room most = below size (length rs) records is roo
 
 pub sound_root : (e : Stop) {told : Option (List (List ℕ))} {free : ℕ → Bool} {size : ℕ} {t : Tree} (k : Key) {rs : List Record}
     → IsInserting told free size t → t.height ≢ 0
-    → ((is_root : Bool) (b : Bounds) (rs : List Record) (used : List ℕ) → CanInsert told free size t.root t.height is_root b k rs used → AreFew rs → IsNotDamage e)
+    → ((is_root : Bool) (b : Bounds) (rs : List Record) (used : List ℕ) → b.high ≡ None → CanInsert told free size t.root t.height is_root b k rs used
+    → AreFew rs → IsNotDamage e)
     → IsWhole told free size t rs → IsNotDamage e
 sound_root e {told = told} {free = free} {size = size} {t = t} k {rs = rs} i ne f w =
     let x = insert_from told free size t rs i ne w in
-    f true everywhere rs x.used (whole_can told free size t.root t.height k rs i.rooted.height x)
+    f true everywhere rs x.used refl (whole_can told free size t.root t.height k rs i.rooted.height x)
     (few_records size t.records rs w.number i.room i.most)
 
--- the two halves of a root of height 3 have more records than the quota
-pub two_thirds : {p a b : ℕ} → p ≡ a + b → 1161288 ≤ a → 1161288 ≤ b → 2322576 ≤ p
+-- a subtree of the greatest height is not split within the quota: its two halves have more records
+two_thirds : {p a b : ℕ} → p ≡ a + b → 1161288 ≤ a → 1161288 ≤ b → 2322576 ≤ p
 two_thirds e f g = omega arith
 
-pub too_many : (n m : ℕ) {p : ℕ} → 2322576 ≤ p → p ≡ m + 1 → m < quota n → n ≤ 30000 → ⊥
-too_many n m h e few most = omega arith
+too_many : (n p : ℕ) → 2322576 ≤ p → p ≤ quota n → n ≤ 30000 → ⊥
+too_many n p e few most = omega arith
 
-module _ (r : Record) (told now_told : Option (List (List ℕ))) (free now : ℕ → Bool) (size : ℕ) where
-  pub whole_there : (t : Tree) (rs : List Record) → IsInserting told free size t → t.height ≢ 0
-      → UnderRoot r told now_told free now size t inserted.There → now_told ≡ told → now ≡ free → IsWhole told free size t rs
-      → (false ≡ not (list_any (has_key r.key) rs)) × IsWhole now_told now size t rs
-  whole_there t rs i ne f same same_free w =
-      let x = insert_from told free size t rs i ne w in
-      let did = f true everywhere rs x.used (whole_can told free size t.root t.height r.key rs i.rooted.height x) in
-      (sym (ap not did.done), subst (λ o. IsWhole o now size t rs) (sym same) (subst (λ g. IsWhole told g size t rs) (sym same_free) w))
+pub never_split : {pages news : List (List ℕ)} {free now : ℕ → Bool} {page height : ℕ} {b : Bounds} {used : List ℕ} {all : List Record} {key : Key}
+    {right : ℕ} (size : ℕ) → height ≡ 3 → Separated pages news free now page height b used all key right → length all ≤ quota size → size ≤ 30000 → ⊥
+never_split {news = news} {page = page} {b = b} {all = all} {key = key} {right = right} size tall s few most =
+    let left = third_filled news (page, record { low = b.low; high = Some key }) s.first s.first_uses
+    (subst (λ h. Subtree news h false (page, record { low = b.low; high = Some key }) s.first s.first_uses) tall s.is_left) in
+    let last = third_filled news (right, record { low = Some key; high = b.high }) s.rest s.rest_uses
+    (subst (λ h. Subtree news h false (right, record { low = Some key; high = b.high }) s.rest s.rest_uses) tall s.is_right) in
+    too_many size (length all) (two_thirds (ap length s.records ∙ length-append s.first s.rest) left last) few most
 
-  pub whole_done : (t : Tree) (rs : List Record) → IsInserting told free size t → t.height ≢ 0
-      → UnderRoot r told now_told free now size t inserted.Done → IsWhole told free size t rs
-      → (true ≡ not (list_any (has_key r.key) rs)) × IsWhole now_told now size (record { root = t.root; height = t.height; records = t.records + 1 })
-      (put r rs)
-  whole_done t rs i ne f w =
-      let x = insert_from told free size t rs i ne w in
-      let did = f true everywhere rs x.used (whole_can told free size t.root t.height r.key rs i.rooted.height x) in
-      let grown = did.done.1 in (
-        sym (ap not did.done.0),
-        whole_again t.root did.is
-            (some_height t.height ne) grown.subtree grown.moves x.apart x.balance (more_records r rs t.records w.number),
-      )
-
-  -- a root of the greatest height is not split within the quota
-  pub not_split : (t : Tree) (rs : List Record) (key : Key) (right : ℕ) → IsInserting told free size t → t.height ≡ 3
-      → UnderRoot r told now_told free now size t (inserted.Split key right) → IsWhole told free size t rs → ⊥
-  not_split t rs key right i tall f w =
-      let ne : t.height ≢ 0 = omega arith in
-      let x = insert_from told free size t rs i ne w in
-      let did = f true everywhere rs x.used (whole_can told free size t.root t.height r.key rs i.rooted.height x) in
-      let separated = did.done.1 in
-      let left = third_filled did.news (t.root, record { low = None; high = Some key }) separated.first separated.first_uses
-      (subst (λ h. Subtree did.news h false (t.root, record { low = None; high = Some key }) separated.first separated.first_uses) tall separated.is_left) in
-      let right = third_filled did.news (right, record { low = Some key; high = None }) separated.rest separated.rest_uses
-      (subst (λ h. Subtree did.news h false (right, record { low = Some key; high = None }) separated.rest separated.rest_uses) tall separated.is_right) in
-      too_many size t.records (two_thirds (ap length separated.records ∙ length-append separated.first separated.rest) left right)
-      (more_records r rs t.records w.number) i.room i.most
-
+module _ {told : Option (List (List ℕ))} {free : ℕ → Bool} {size : ℕ} (now : ℕ → Bool) (mid_size : ℕ) (t : Tree) (rs : List Record) where
   -- a page is left for a new root
-  pub root_room : (mid_size : ℕ) (t : Tree) (rs : List Record) → IsInserting told free size t → t.height ≢ 0 → mid_size ≡ size
-      → count_free free size ≤ count_free now size + t.height → IsWhole told free size t rs → 0 < count_free now mid_size
-  root_room mid_size t rs i ne same few w =
+  pub root_room : IsInserting told free size t → t.height ≢ 0 → mid_size ≡ size → count_free free size ≤ count_free now size + t.height
+      → IsWhole told free size t rs → 0 < count_free now mid_size
+  root_room i ne same few w =
       let x = insert_from told free size t rs i ne w in
       subst (λ n. 0 < count_free now n) (sym same) (left (count_free free size) (count_free now size) t.height few x.left i.rooted.height)
     where
       left : (c d h : ℕ) → c ≤ d + h → 6 ≤ c → h ≤ 3 → 0 < d
       left c d h e f g = omega arith
+
+module _ {told : Option (List (List ℕ))} {free : ℕ → Bool} {size : ℕ} {t : Tree} {rs : List Record} (k : Key) (run : List Edit)
+    (now_told : Option (List (List ℕ))) (now : ℕ → Bool) (i : IsInserting told free size t) (ne : t.height ≢ 0) (w : IsWhole told free size t rs) where
+  -- what the call below the root says of the whole tree
+  at_root : (o : Inserted) (x : IsWholeFrom told free size t.root t.height rs) → UnderRoot k run told now_told free now size t o
+      → DidPlace run told now_told free now t.root t.height true everywhere rs x.used o
+  at_root o x f = f true everywhere rs x.used refl (whole_can told free size t.root t.height k rs i.rooted.height x)
+
+  pub not_due : UnderRoot k run told now_told free now size t inserted.There → are_due run rs ≡ false
+  not_due f = (at_root inserted.There (insert_from told free size t rs i ne w) f).done
+
+  pub whole_done : (records : ℕ) → length (edit_all run rs) ≡ records → UnderRoot k run told now_told free now size t inserted.Done
+      → (are_due run rs ≡ true) × IsWhole now_told now size (record { root = t.root; height = t.height; records = records }) (edit_all run rs)
+  whole_done records number f =
+      let x = insert_from told free size t rs i ne w in
+      let did = at_root inserted.Done x f in
+      let grown = did.done.1 in
+      (did.done.0, whole_again t.root did.is (some_height t.height ne) grown.subtree grown.moves x.apart x.balance number)
+
+  -- a root of the greatest height is not split within the quota
+  pub not_split : (key : Key) (right : ℕ) → t.height ≡ 3 → length (edit_all run rs) ≤ quota size
+      → UnderRoot k run told now_told free now size t (inserted.Split key right) → ⊥
+  not_split key right tall few f =
+      let x = insert_from told free size t rs i ne w in
+      never_split size tall (at_root (inserted.Split key right) x f).done.1 few i.most
 
 -- a new root was written above the two pages that the root has become
 pub record IsNewRoot (t : Tree) (mid_told now_told : Option (List (List ℕ))) (mid now : ℕ → Bool) (size : ℕ) (key : Key) (right new : ℕ)
@@ -348,22 +356,23 @@ empty_room told free size t rs i none w =
     enough : (s c u : ℕ) → 16 ≤ s → u ≡ 0 → s ≤ c + u + 1 → 0 < c
     enough s c u e f g = omega arith
 
+module _ {told mid_told now_told : Option (List (List ℕ))} {free mid now : ℕ → Bool} {size : ℕ} {t : Tree} {rs : List Record} {key : Key}
+    {right new : ℕ} {bytes : List ℕ} (k : Key) (run : List Edit) where
+  -- the whole tree once its root was split
+  pub whole_split : IsInserting told free size t → t.height ≢ 0 → IsWhole told free size t rs
+      → (records : ℕ) → length (edit_all run rs) ≡ records → UnderRoot k run told mid_told free mid size t (inserted.Split key right)
+      → IsNewRoot t mid_told now_told mid now size key right new bytes
+      → (are_due run rs ≡ true) × IsWhole now_told now size (record { root = new; height = t.height + 1; records = records }) (edit_all run rs)
+  whole_split i ne w records number f is =
+      let x = insert_from _ _ _ t _ i ne w in
+      let did = at_root k run mid_told mid i ne w (inserted.Split key right) x f in
+      let tall : t.height ≡ suc (t.height - 1) = omega arith in
+      let grown = regrown_split i.rooted i.many tall did.was did.is did.done.1 x.apart is in
+      let some_now : 1 ≤ t.height + 1 = omega arith in
+      (did.done.0, whole_again new grown.is some_now grown.subtree grown.moves x.apart x.balance number)
+
 module _ (r : Record) (told now_told : Option (List (List ℕ))) (free now : ℕ → Bool) (size : ℕ) (t : Tree) (rs : List Record) (new : ℕ)
     (bytes : List ℕ) (i : IsInserting told free size t) (w : IsWhole told free size t rs) where
-  pub whole_split : (mid_told : Option (List (List ℕ))) (mid : ℕ → Bool) (key : Key) (right h : ℕ) → t.height ≡ suc h
-      → UnderRoot r told mid_told free mid size t (inserted.Split key right) → IsNewRoot t mid_told now_told mid now size key right new bytes
-      → (true ≡ not (list_any (has_key r.key) rs)) × IsWhole now_told now size (record { root = new; height = t.height + 1; records = t.records + 1 })
-      (put r rs)
-  whole_split mid_told mid key right h tall f is =
-      let ne : t.height ≢ 0 = omega arith in
-      let x = insert_from told free size t rs i ne w in
-      let did = f true everywhere rs x.used (whole_can told free size t.root t.height r.key rs i.rooted.height x) in
-      let grown = regrown_split i.rooted i.many tall did.was did.is did.done.1 x.apart is in
-      let some_now : 1 ≤ t.height + 1 = omega arith in (
-        sym (ap not did.done.0),
-        whole_again new grown.is some_now grown.subtree grown.moves x.apart x.balance (more_records r rs t.records w.number),
-      )
-
   pub whole_first : t.height ≡ 0 → leaf_of bytes ≡ Some (r ∷ []) → (1 ≤ new) × (new < size) → free new ≡ true → FreesOnly new false free now
       → Goes (λ old news. news ≡ slice_set old new bytes) told now_told
       → (true ≡ not (list_any (has_key r.key) rs)) × IsWhole now_told now size (record { root = new; height = 1; records = 1 }) (put r rs)

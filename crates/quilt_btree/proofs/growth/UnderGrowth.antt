@@ -1,32 +1,41 @@
--- A record put in below an inner page.
-use Rattle.std.proofs.Common.{◌≡◌, ℕ, suc, ◌+◌, ◌-◌, ◌<◌, ◌≤◌, Bool, true, false, ◌&&◌, ◌||◌, nat_le, List, [], ◌∷◌, ◌++◌, length, take, drop, Option}
+-- A run of records put in together below an inner page.
+use Rattle.std.proofs.Common.{◌≡◌, ◌≢◌, ℕ, suc, ◌+◌, ◌-◌, ◌<◌, ◌≤◌, Bool, true, false, ◌&&◌, ◌||◌, nat_le, List, [], ◌∷◌, ◌++◌, length, take, drop, Option}
 use Rattle.std.proofs.lemmas.Bool.{and_from}
-use Rattle.std.proofs.Common.{Some, Result, Ok, Err, IfOk, IfErr, slice_index, refl, sym, ◌∙◌, ap, subst, arith, length-append}
-use Rattle.std.specs.Prelude.{nat_lt}
-use Rattle.std.specs.List.{insert, list_any}
+use Rattle.std.proofs.Common.{Some, Result, Ok, Err, IfErr, slice_index, refl, sym, ◌∙◌, ap, subst, arith, length-append}
+use Rattle.std.specs.Prelude.{nat_lt, slice_get}
+use Rattle.std.specs.List.{insert, list_all}
+use Rattle.std.specs.Option.{option_or}
+use Rattle.std.specs.Ordering.{is_le}
 use Rattle.std.proofs.lemmas.Bool.Decides.{nat_tests}
 use Rattle.std.proofs.lemmas.List.Edits.{length-insert}
 use Rattle.quilt_record.specs.declared.key.Key.{Key}
 use Rattle.quilt_record.specs.declared.record.Record.{Record}
+use Rattle.quilt_record.specs.Records.{key_cmp}
 use Rattle.quilt_types.specs.declared.stop.Stop.{Stop}
 use Rattle.quilt_node.specs.Pages.{Inner, inner_of}
 use Rattle.quilt_node.specs.Nodes.{are_pages}
 use Rattle.quilt_node.specs.Edits.{with_child}
-use Rattle.quilt_node.specs.Tree.{Bounds, bounded}
+use Rattle.quilt_node.specs.Tree.{Bounds, bounded, is_below}
 use Rattle.quilt_node.proofs.Ascending.{all_take, all_drop}
+use Rattle.quilt_store.specs.declared.store.PageStore.{Ghosts}
+use Rattle.quilt_store.specs.Calls.{OnlyReads}
 use Rattle.quilt_store.specs.Store.{count_free}
-use Rattle.quilt_record.specs.Lists.{has_key, put}
 use Rattle.quilt_store.specs.Stops.{IsNotDamage}
+use Rattle.quilt_btree.specs.declared.edit.Edit.{Edit}
+use Rattle.quilt_btree.specs.Batches.{edit_keys, edit_all, are_due}
+use Rattle.quilt_btree.specs.Placing.{HasPlaced, DidPlace}
 use Rattle.quilt_btree.specs.Subtree.{Row, Subtree}
-use Rattle.quilt_btree.specs.Trees.{ReadsInner, SpellsSubtree}
-use Rattle.quilt_btree.specs.Edits.{KeepsAccount, HasInserted, CanInsert, DidInsert}
+use Rattle.quilt_btree.specs.Searches.{IsHigh, IsPath}
+use Rattle.quilt_btree.specs.Trees.{ReadsInner}
+use Rattle.quilt_btree.specs.Edits.{KeepsAccount, CanInsert}
 use Rattle.quilt_btree.specs.Inserts.{HasPut, IsPending, DidPut, AreFew}
 use Rattle.quilt_btree.specs.declared.outcomes.Inserted.{Inserted}
 use Rattle.quilt_btree.specs.declared.outcomes.Inserted.TheVariants as inserted
-use Rattle.quilt_btree.proofs.growth.Below.{LeadsToChild, IsBelow, go_below, child_edit, child_before, parent_becomes, child_above, child_below, edit_spells}
+use Rattle.quilt_btree.proofs.growth.Below.{LeadsToChild, leads_to, IsBelow, child_edit, child_before, parent_becomes, child_above, child_below}
 use Rattle.quilt_btree.proofs.subtrees.Density.{few_children}
 use Rattle.quilt_btree.proofs.subtrees.Descents.{child_bounds}
-use Rattle.quilt_btree.proofs.lists.Lists.{put_between, any_between}
+use Rattle.quilt_btree.proofs.batches.Leaves.{are_due_between, edit_all_between}
+use Rattle.quilt_btree.proofs.removals.Drains.{at_run, lie_between}
 use Rattle.quilt_btree.proofs.stores.Moves.{apart_then, moves_then}
 use Rattle.quilt_btree.proofs.growth.NewChild.{two_places, bounded_next, is_fitting}
 use Rattle.quilt_btree.proofs.rows.NewKeys.{strictly_above}
@@ -35,6 +44,7 @@ use Rattle.quilt_btree.proofs.lists.Rising.{all_append}
 use Rattle.quilt_btree.proofs.rows.Middles.{RowChanged}
 use Rattle.quilt_btree.proofs.rows.Splices.{middle_moved, becomes_then}
 use Rattle.quilt_btree.proofs.stores.Writes.{TellsAll, if_some_at}
+use Rattle.quilt_btree.proofs.ways.Forks.{place_inside}
 
 module _ {told then_told : Option (List (List ℕ))} {free then_free : ℕ → Bool} {size then_size page height child i : ℕ} {k : Key} {inner : Inner}
     {is_root : Bool} {b : Bounds} {rs : List Record} {used : List ℕ}
@@ -55,56 +65,69 @@ module _ {told then_told : Option (List (List ℕ))} {free then_free : ℕ → B
       fewer h c e = omega arith
 
 module _ (told now_told : Option (List (List ℕ))) (free now : ℕ → Bool) (size page height : ℕ) where
-  -- what an insertion does to the subtree at a page
-  abbrev pub Inserts : Record → Inserted → Type 0
-  Inserts r o =
-      (is_root : Bool) (b : Bounds) (rs : List Record) (used : List ℕ) → CanInsert told free size page height is_root b r.key rs used
-      → DidInsert r told now_told free now page height is_root b rs used o
+  -- what a run from a key on does to the subtree at a page, where its keys stay below a bound
+  abbrev pub Places : List Edit → Key → Option Key → Inserted → Type 0
+  Places run k high o =
+      (is_root : Bool) (b : Bounds) (rs : List Record) (used : List ℕ) → b.high ≡ high → CanInsert told free size page height is_root b k rs used
+      → DidPlace run told now_told free now page height is_root b rs used o
 
--- what became of the child, in the pages that were told before
-pub record ChildDid (r : Record) (pages : List (List ℕ)) (now_told : Option (List (List ℕ))) (free now : ℕ → Bool) (child height : ℕ) (b : Bounds)
-    (rs : List Record) (used : List ℕ) (o : Inserted) : Type 0 where
+-- a run from the key on that leads to a child, and the bounds below which the keys of the page and of the child stay
+pub record RunLeads (run : List Edit) (k : Key) (inner : Inner) (i : ℕ) (high next : Option Key) : Type 0 where
+  pub is_next : next ≡ option_or (slice_get inner.keys i) high
+  pub from : list_all (λ x. is_le (key_cmp k x)) (edit_keys run) ≡ true
+
+-- what became of the child, in the pages that were told before, and how the run is made around it
+pub record ChildDid (run : List Edit) (told now_told : Option (List (List ℕ))) (free now : ℕ → Bool) (page height : ℕ) (is_root : Bool) (b : Bounds)
+    (k : Key) (rs : List Record) (used : List ℕ) (inner : Inner) (i : ℕ) (o : Inserted) : Type 0 where
+  pub x : IsBelow told free page height is_root b k rs used inner i
   pub news : List (List ℕ)
   pub is : now_told ≡ Some news
-  pub done : HasInserted r pages news free now child height false b rs used o
+  pub under : list_all (is_below b.high) (edit_keys run) ≡ true
+  pub due : are_due run rs ≡ are_due run x.at.here
+  pub all : edit_all run rs ≡ x.at.first ++ (edit_all run x.at.here ++ x.at.last)
+  pub done : HasPlaced run x.pages news free now (slice_index inner.children i) (suc x.below) false (child_bounds inner b i) x.at.here x.at.here_used o
 
-module _ {r : Record} {told then_told now_told : Option (List (List ℕ))} {free then_free now : ℕ → Bool} {size then_size page height child i : ℕ}
-    {inner : Inner} {is_root : Bool} {b : Bounds} {rs : List Record} {used : List ℕ}
-    (l : LeadsToChild told then_told free then_free size then_size page height child i r.key inner) where
-  child_did : (o : Inserted) → Inserts then_told now_told then_free now then_size child (height - 1) r o
-      → CanInsert told free size page height is_root b r.key rs used → (x : IsBelow told free page height is_root b r.key rs used inner i)
-      → ChildDid r x.pages now_told free now (slice_index inner.children i) (suc x.below) (child_bounds inner b i) x.at.here x.at.here_used o
-  child_did o f can x =
-      let did = f false (child_bounds inner b i) x.at.here x.at.here_used (child_can l can x) in
+module _ {run : List Edit} {told then_told now_told : Option (List (List ℕ))} {free then_free now : ℕ → Bool} {size then_size page height child i : ℕ}
+    {k : Key} {inner : Inner} {high next : Option Key} {is_root : Bool} {b : Bounds} {rs : List Record} {used : List ℕ}
+    (l : LeadsToChild told then_told free then_free size then_size page height child i k inner) (w : RunLeads run k inner i high next)
+    (top : b.high ≡ high) (can : CanInsert told free size page height is_root b k rs used) where
+  child_did : (o : Inserted) → Places then_told now_told then_free now then_size child (height - 1) run k next o
+      → ChildDid run told now_told free now page height is_root b k rs used inner i o
+  child_did o f =
+      let a = at_run high next l w.is_next top can.can_edit in
+      let x = a.x in
+      let cb = child_bounds inner b i in
+      let did = f false cb x.at.here x.at.here_used a.top (child_can l can x) in
+      let lies = lie_between a (edit_keys run) w.from did.under in
       record {
+        x = x;
         news = did.news;
         is = did.is;
-        done = child_before l (λ p g c n. HasInserted r p did.news g now c n false (child_bounds inner b i) x.at.here x.at.here_used o) x did.was did.done;
+        under = lies.under;
+        due = are_due_between x.at.first x.at.here x.at.last rs run x.among.records lies.among;
+        all = edit_all_between x.at.first x.at.here x.at.last rs run x.among.records lies.among;
+        done = child_before l (λ p g c n. HasPlaced run p did.news g now c n false cb x.at.here x.at.here_used o) x did.was did.done;
       }
 
-  -- the key was there
-  pub under_there : Inserts then_told now_told then_free now then_size child (height - 1) r inserted.There
-      → CanInsert told free size page height is_root b r.key rs used → DidInsert r told now_told free now page height is_root b rs used inserted.There
-  under_there f can =
-      let x = go_below l can.can_edit in
-      let did = child_did inserted.There f can x in
-      record { pages = x.pages; news = did.news; was = x.is_told; is = did.is; done = any_between r.key x.at.first x.at.here x.at.last rs x.among ∙ did.done }
+  -- a key was there
+  pub under_there : Places then_told now_told then_free now then_size child (height - 1) run k next inserted.There
+      → DidPlace run told now_told free now page height is_root b rs used inserted.There
+  under_there f =
+      let did = child_did inserted.There f in
+      record { pages = did.x.pages; news = did.news; was = did.x.is_told; is = did.is; under = did.under; done = did.due ∙ did.done }
 
-  -- the child took the record
-  pub under_done : Inserts then_told now_told then_free now then_size child (height - 1) r inserted.Done
-      → CanInsert told free size page height is_root b r.key rs used → DidInsert r told now_told free now page height is_root b rs used inserted.Done
-  under_done f can =
-      let x = go_below l can.can_edit in
-      let did = child_did inserted.Done f can x in
+  -- the child took the run
+  pub under_done : Places then_told now_told then_free now then_size child (height - 1) run k next inserted.Done
+      → DidPlace run told now_told free now page height is_root b rs used inserted.Done
+  under_done f =
+      let did = child_did inserted.Done f in
       record {
-        pages = x.pages;
+        pages = did.x.pages;
         news = did.news;
-        was = x.is_told;
+        was = did.x.is_told;
         is = did.is;
-        done = (
-          any_between r.key x.at.first x.at.here x.at.last rs x.among ∙ did.done.0,
-          parent_becomes x (put_between r x.at.first x.at.here x.at.last rs x.among) did.done.1,
-        );
+        under = did.under;
+        done = (did.due ∙ did.done.0, parent_becomes did.x did.all did.done.1);
       }
 
 page_test : (right size n : ℕ) → 1 ≤ right → right < size → n ≡ size → (nat_le 1 right && nat_lt right n) ≡ true
@@ -121,16 +144,17 @@ still_enough true m n e h = refl
 still_enough false m n e h = grind (arith, nat_tests)
 
 -- the child was split, and the page is to take the new one
-pub record IsToTake (r : Record) (told now_told : Option (List (List ℕ))) (free now : ℕ → Bool) (page height : ℕ) (is_root : Bool) (b : Bounds)
+pub record IsToTake (run : List Edit) (told now_told : Option (List (List ℕ))) (free now : ℕ → Bool) (page height : ℕ) (is_root : Bool) (b : Bounds)
     (rs : List Record) (used : List ℕ) (inner : Inner) (i : ℕ) (key : Key) (right : ℕ) : Type 0 where
   pub pages : List (List ℕ)
   pub news : List (List ℕ)
   pub was : told ≡ Some pages
   pub is : now_told ≡ Some news
-  pub not_there : list_any (has_key r.key) rs ≡ false
-  pub under : List ℕ
-  pub pending : IsPending now_told now page is_root b (with_child inner i key right) (put r rs) under
-  pub moves : KeepsAccount pages news free now used (under ++ page ∷ [])
+  pub under : list_all (is_below b.high) (edit_keys run) ≡ true
+  pub due : are_due run rs ≡ true
+  pub uses : List ℕ
+  pub pending : IsPending now_told now page is_root b (with_child inner i key right) (edit_all run rs) uses
+  pub moves : KeepsAccount pages news free now used (uses ++ page ∷ [])
   pub tall : inner.height ≡ height
 
 -- a page of height 3 has a place for another child
@@ -142,17 +166,19 @@ few_under {page = page} {is_root = is_root} {b = b} {rs = rs} {used = used} inne
     few_children e.pages (page, b) inner (subst (λ h. Subtree e.pages h is_root (page, b) rs used) three e.subtree)
     (reads e.pages e.is_told) few
 
-module _ {r : Record} {told then_told mid_told : Option (List (List ℕ))} {free then_free mid : ℕ → Bool} {size then_size page height child i : ℕ}
-    {inner : Inner} {key : Key} {right : ℕ} (l : LeadsToChild told then_told free then_free size then_size page height child i r.key inner)
+module _ {run : List Edit} {told then_told mid_told : Option (List (List ℕ))} {free then_free mid : ℕ → Bool}
+    {size then_size page height child i right : ℕ} {k key : Key} {inner : Inner} {high next : Option Key} {is_root : Bool} {b : Bounds}
+    {rs : List Record} {used : List ℕ}
+    (l : LeadsToChild told then_told free then_free size then_size page height child i k inner) (w : RunLeads run k inner i high next)
     (many : TellsAll told size) (in_range : (1 ≤ right) × (right < size))
-    (f : Inserts then_told mid_told then_free mid then_size child (height - 1) r (inserted.Split key right)) where
-  pub under_takes : {is_root : Bool} {b : Bounds} {rs : List Record} {used : List ℕ} → CanInsert told free size page height is_root b r.key rs used
-      → IsToTake r told mid_told free mid page height is_root b rs used inner i key right
-  under_takes {is_root} {b} {rs} can =
-      let x = go_below l can.can_edit in
-      let did = child_did l (inserted.Split key right) f can x in
+    (f : Places then_told mid_told then_free mid then_size child (height - 1) run k next (inserted.Split key right)) (top : b.high ≡ high)
+    (can : CanInsert told free size page height is_root b k rs used) where
+  under_takes : IsToTake run told mid_told free mid page height is_root b rs used inner i key right
+  under_takes =
+      let did = child_did l w top can (inserted.Split key right) f in
+      let x = did.x in
       let separated = did.done.1 in
-      let all = put r x.at.here in
+      let all = edit_all run x.at.here in
       let c = slice_index inner.children i in
       let cb = child_bounds inner b i in
       let S = Subtree did.news (suc x.below) false in
@@ -168,7 +194,7 @@ module _ {r : Record} {told then_told mid_told : Option (List (List ℕ))} {free
         is_used = refl;
       } in
       let moved = middle_moved x.pages did.news x.below page places all x.apart x.at row separated.moves in
-      let next = subst (λ (cs : List (ℕ × Bounds)). RowChanged S x.pages did.news free mid page cs (x.at.first ++ (all ++ x.at.last)) x.under)
+      let row_next = subst (λ (cs : List (ℕ × Bounds)). RowChanged S x.pages did.news free mid page cs (x.at.first ++ (all ++ x.at.last)) x.under)
       (sym (bounded_next inner b i key right x.in_range x.list.keys)) moved in
       let fitting = is_fitting inner b i key x.list.ascends x.within
       (strictly_above did.news (suc x.below) c cb.low key separated.first separated.first_uses separated.is_left)
@@ -182,8 +208,9 @@ module _ {r : Record} {told then_told mid_told : Option (List (List ℕ))} {free
         news = did.news;
         was = x.is_told;
         is = did.is;
-        not_there = any_between r.key x.at.first x.at.here x.at.last rs x.among ∙ did.done.0;
-        under = next.uses;
+        under = did.under;
+        due = did.due ∙ did.done.0;
+        uses = row_next.uses;
         pending = record {
           pages = did.news;
           is_told = did.is;
@@ -197,11 +224,11 @@ module _ {r : Record} {told then_told mid_told : Option (List (List ℕ))} {free
           enough = still_enough is_root (length inner.children) (length (insert inner.children (suc i) right)) children_more x.enough;
           ascends = fitting.ascends;
           within = fitting.within;
-          children = subst (λ m. Row S (bounded (insert inner.children (suc i) right) (insert inner.keys i key) b) m next.uses)
-              (sym (put_between r x.at.first x.at.here x.at.last rs x.among)) next.row;
-          apart = apart_then x.pages did.news free mid (x.under ++ page ∷ []) (next.uses ++ page ∷ []) next.moves x.apart;
+          children = subst (λ m. Row S (bounded (insert inner.children (suc i) right) (insert inner.keys i key) b) m row_next.uses)
+              (sym did.all) row_next.row;
+          apart = apart_then x.pages did.news free mid (x.under ++ page ∷ []) (row_next.uses ++ page ∷ []) row_next.moves x.apart;
         };
-        moves = subst (λ u. KeepsAccount x.pages did.news free mid u (next.uses ++ page ∷ [])) (sym x.is_used) next.moves;
+        moves = subst (λ u. KeepsAccount x.pages did.news free mid u (row_next.uses ++ page ∷ [])) (sym x.is_used) row_next.moves;
         tall = x.inner_height ∙ sym x.is_height;
       }
     where
@@ -211,32 +238,14 @@ module _ {r : Record} {told then_told mid_told : Option (List (List ℕ))} {free
       as_many : (c d k l : ℕ) → c ≡ d + 1 → k ≡ l + 1 → d ≡ l + 1 → c ≡ suc k
       as_many c d k l e f g = omega arith
 
--- where the page spells a list, it is an inner page in these bytes, and the key leads to the child
-pub record IsLedIn (told then_told : Option (List (List ℕ))) (free then_free : ℕ → Bool) (size then_size page height child i : ℕ) (k : Key) (n : ℕ)
-    (bytes : List ℕ) : Type 0 where
-  pub inner : Inner
-  pub is : inner_of n bytes ≡ Some inner
-  pub is_height : inner.height ≡ height
-  pub leads : LeadsToChild told then_told free then_free size then_size page height child i k inner
-
-module _ {r : Record} {told then_told mid_told : Option (List (List ℕ))} {free then_free mid : ℕ → Bool} {size then_size page height child i : ℕ}
-    {key : Key} {right n : ℕ} {bytes : List ℕ}
-    (leads : (rs : List Record) → SpellsSubtree told page height rs
-    → IsLedIn told then_told free then_free size then_size page height child i r.key n bytes)
-    (many : TellsAll told size) (in_range : (1 ≤ right) × (right < size))
-    (f : Inserts then_told mid_told then_free mid then_size child (height - 1) r (inserted.Split key right)) where
   -- the page took it
-  pub took_child : (result : Result Inserted Stop) (now_told : Option (List (List ℕ))) (now : ℕ → Bool)
-      → IfOk result (λ o. (inner : Inner) → inner_of n bytes ≡ Some inner → (is_root : Bool) (b : Bounds) (all : List Record) (under : List ℕ)
-      → IsPending mid_told mid page is_root b (with_child inner i key right) all under → DidPut mid_told now_told mid now page inner.height is_root b (under ++ page ∷ []) all o)
-      → IfOk result (λ o. (is_root : Bool) (b : Bounds) (rs : List Record) (used : List ℕ) → CanInsert told free size page height is_root b r.key rs used
-      → DidInsert r told now_told free now page height is_root b rs used o)
-  took_child (Err e) now_told now g = g
-  took_child (Ok o) now_told now g =
-      λ is_root b rs used can.
-      let d = leads rs (edit_spells can.can_edit) in
-      let x = under_takes d.leads many in_range f can in
-      let did = g d.inner d.is is_root b (put r rs) x.under x.pending in
+  pub page_took : (o : Inserted) (now_told : Option (List (List ℕ))) (now : ℕ → Bool)
+      → ((all : List Record) (under : List ℕ) → IsPending mid_told mid page is_root b (with_child inner i key right) all under
+      → DidPut mid_told now_told mid now page inner.height is_root b (under ++ page ∷ []) all o)
+      → DidPlace run told now_told free now page height is_root b rs used o
+  page_took o now_told now g =
+      let x = under_takes in
+      let did = g (edit_all run rs) x.uses x.pending in
       let was = did.was in
       let mine = x.is in
       let same : did.pages ≡ x.news = cc in
@@ -245,18 +254,19 @@ module _ {r : Record} {told then_told mid_told : Option (List (List ℕ))} {free
         news = did.news;
         was = x.was;
         is = did.is;
-        done = has_put is_root b rs did.news o x.not_there x.moves
-            (subst (λ p. HasPut p did.news mid now page height is_root b (x.under ++ page ∷ []) (put r rs) o) same
-            (subst (λ n. HasPut did.pages did.news mid now page n is_root b (x.under ++ page ∷ []) (put r rs) o) x.tall did.done));
+        under = x.under;
+        done = has_put did.news o x.due x.moves
+            (subst (λ p. HasPut p did.news mid now page height is_root b (x.uses ++ page ∷ []) (edit_all run rs) o) same
+            (subst (λ n. HasPut did.pages did.news mid now page n is_root b (x.uses ++ page ∷ []) (edit_all run rs) o) x.tall did.done));
       }
     where
-      has_put : (is_root : Bool) (b : Bounds) (rs : List Record) {pages mids : List (List ℕ)} (news : List (List ℕ)) {used more : List ℕ} (o : Inserted)
-          → list_any (has_key r.key) rs ≡ false → KeepsAccount pages mids free mid used more
-          → HasPut mids news mid now page height is_root b more (put r rs) o → HasInserted r pages news free now page height is_root b rs used o
-      has_put is_root b rs news inserted.There none m h = absurd h
-      has_put is_root b rs news inserted.Done none m h = (none, becomes_then m h)
-      has_put is_root b rs news (inserted.Split key right) none m h = (
-        none,
+      has_put : {pages mids : List (List ℕ)} (news : List (List ℕ)) {more : List ℕ} (o : Inserted) → are_due run rs ≡ true
+          → KeepsAccount pages mids free mid used more → HasPut mids news mid now page height is_root b more (edit_all run rs) o
+          → HasPlaced run pages news free now page height is_root b rs used o
+      has_put news inserted.There due m h = absurd h
+      has_put news inserted.Done due m h = (due, becomes_then m h)
+      has_put news (inserted.Split key right) due m h = (
+        due,
         record {
           first = h.first;
           rest = h.rest;
@@ -272,34 +282,65 @@ module _ {r : Record} {told then_told mid_told : Option (List (List ℕ))} {free
       )
 
   -- where the page does not take it, no page is damaged
-  pub sound_child : (result : Result Inserted Stop) (mid_size : ℕ) → mid_size ≡ size → count_free free size ≤ count_free mid size + (height - 1)
-      → IfErr result (λ e. (inner : Inner) → inner_of n bytes ≡ Some inner → inner.height ≡ height
-      → (is_root : Bool) (b : Bounds) (all : List Record) (under : List ℕ)
-      → IsPending mid_told mid page is_root b (with_child inner i key right) all under → 0 < count_free mid mid_size → (inner.height ≡ 3
-      → length inner.children < 254) → IsNotDamage e)
-      → IfErr result (λ e. (is_root : Bool) (b : Bounds) (rs : List Record) (used : List ℕ) → CanInsert told free size page height is_root b r.key rs used
-      → AreFew rs → IsNotDamage e)
-  sound_child (Ok o) mid_size same few g = g
-  sound_child (Err e) mid_size same few g = λ is_root b rs used can small.
-      let d = leads rs (edit_spells can.can_edit) in
-      let x = under_takes d.leads many in_range f can in
-      g d.inner d.is d.is_height is_root b (put r rs) x.under x.pending
-      (subst (λ n. 0 < count_free mid n) (sym same) (left (count_free free size) (count_free mid size) height d.leads.at.some few can.room))
-      (λ three. few_under d.inner d.leads.at.reads can small (sym x.tall ∙ three))
+  pub page_sound : (e : Stop) (mid_size : ℕ) → mid_size ≡ size → count_free free size ≤ count_free mid size + (height - 1) → AreFew rs
+      → ((all : List Record) (under : List ℕ) → IsPending mid_told mid page is_root b (with_child inner i key right) all under → 0 < count_free mid mid_size
+      → (inner.height ≡ 3 → length inner.children < 254) → IsNotDamage e)
+      → IsNotDamage e
+  page_sound e mid_size same few small g =
+      let x = under_takes in
+      g (edit_all run rs) x.uses x.pending
+      (subst (λ n. 0 < count_free mid n) (sym same) (left (count_free free size) (count_free mid size) height l.at.some few can.room))
+      (λ three. few_under inner l.at.reads can small (sym x.tall ∙ three))
     where
       left : (c d h : ℕ) → 1 ≤ h → c ≤ d + (h - 1) → h ≤ c → 0 < d
       left c d h some e f = omega arith
 
+-- where the page spells a list, it is an inner page in these bytes, and the key leads to the child
+pub record IsLedIn (told then_told : Option (List (List ℕ))) (free then_free : ℕ → Bool) (size then_size page height child i : ℕ) (k : Key) (n : ℕ)
+    (bytes : List ℕ) : Type 0 where
+  pub inner : Inner
+  pub is : inner_of n bytes ≡ Some inner
+  pub is_height : inner.height ≡ height
+  pub leads : LeadsToChild told then_told free then_free size then_size page height child i k inner
+
+pub led_in : {S T : Type 0} {g : Ghosts S} {old new : S} {result : Result T Stop} {page height child i n : ℕ} {k : Key} {bytes : List ℕ}
+    → OnlyReads g old new result → 1 ≤ height → height ≢ 1 → IsHigh (g.size old) bytes height
+    → ((inner : Inner) → inner_of (g.size old) bytes ≡ Some inner → IsPath (g.told old) page k i child inner) → n ≡ g.size old
+    → IsLedIn (g.told old) (g.told new) (g.free old) (g.free new) (g.size old) (g.size new) page height child i k n bytes
+led_in {bytes = bytes} left some above h path same = record {
+  inner = h.inner;
+  is = subst (λ n. inner_of n bytes ≡ Some h.inner) (sym same) h.is;
+  is_height = h.is_height;
+  leads = leads_to left some above (path h.inner h.is);
+}
+
+-- the place to which the key leads is one of a child
+pub path_inside : (size : ℕ) (bytes : List ℕ) {told : Option (List (List ℕ))} {page child i n : ℕ} {k : Key}
+    → ((inner : Inner) → inner_of size bytes ≡ Some inner → IsPath told page k i child inner) → n ≡ size → (inner : Inner)
+    → inner_of n bytes ≡ Some inner → i < length inner.children
+path_inside size bytes {i = i} {k = k} path same inner is =
+    let there = subst (λ m. inner_of m bytes ≡ Some inner) same is in
+    place_inside size bytes inner k i there (path inner there).is_place
+
+-- how many pages were taken since a look, and so since before it
+pub room_since : {S T : Type 0} {g : Ghosts S} {old new : S} {result : Result T Stop} → OnlyReads g old new result → (mid : ℕ → Bool) (height : ℕ)
+    → count_free (g.free new) (g.size new) ≤ count_free mid (g.size new) + (height - 1)
+    → count_free (g.free old) (g.size old) ≤ count_free mid (g.size old) + (height - 1)
+room_since {g = g} {old = old} {new = new} left mid height room =
+    subst (λ f. count_free f (g.size old) ≤ count_free mid (g.size old) + (height - 1)) left.free
+    (subst (λ n. count_free (g.free new) n ≤ count_free mid n + (height - 1)) left.size room)
+
 -- an error of the child
-pub sound_under : (e : Stop) {told then_told : Option (List (List ℕ))} {free then_free : ℕ → Bool} {size then_size page height child i : ℕ} {k : Key}
-    {inner : Inner} {is_root : Bool} {b : Bounds} {rs : List Record} {used : List ℕ}
-    → LeadsToChild told then_told free then_free size then_size page height child i k inner
-    → ((is_root : Bool) (b : Bounds) (rs : List Record) (used : List ℕ) → CanInsert then_told then_free then_size child (height - 1) is_root b k rs used → AreFew rs
-    → IsNotDamage e)
-    → CanInsert told free size page height is_root b k rs used → AreFew rs → IsNotDamage e
-sound_under e {i = i} {inner = inner} {b = b} {rs = rs} l f can few =
-    let x = go_below l can.can_edit in
-    f false (child_bounds inner b i) x.at.here x.at.here_used (child_can l can x)
+pub sound_below : (e : Stop) {told then_told : Option (List (List ℕ))} {free then_free : ℕ → Bool} {size then_size page height child i : ℕ} {k : Key}
+    {inner : Inner} {high next : Option Key} {is_root : Bool} {b : Bounds} {rs : List Record} {used : List ℕ}
+    → LeadsToChild told then_told free then_free size then_size page height child i k inner → next ≡ option_or (slice_get inner.keys i) high
+    → ((is_root : Bool) (b : Bounds) (rs : List Record) (used : List ℕ) → b.high ≡ next
+    → CanInsert then_told then_free then_size child (height - 1) is_root b k rs used → AreFew rs → IsNotDamage e)
+    → b.high ≡ high → CanInsert told free size page height is_root b k rs used → AreFew rs → IsNotDamage e
+sound_below e {i = i} {inner = inner} {high = high} {next = next} {b = b} {rs = rs} l is_next f top can few =
+    let a = at_run high next l is_next top can.can_edit in
+    let x = a.x in
+    f false (child_bounds inner b i) x.at.here x.at.here_used a.top (child_can l can x)
     (fewer (length rs) (length x.at.first) (length x.at.here) (length x.at.last)
     (ap length x.among.records ∙ length-append x.at.first (x.at.here ++ x.at.last) ∙ ap (λ n. length x.at.first + n) (length-append x.at.here x.at.last)) few)
   where
@@ -307,10 +348,20 @@ sound_under e {i = i} {inner = inner} {b = b} {rs = rs} l f can few =
     fewer n f h l e lt = omega arith
 
 -- a leaf at height 1
-pub sound_leaf : (result : Result Inserted Stop) (told : Option (List (List ℕ))) (free : ℕ → Bool) (size page : ℕ) {height : ℕ} (k : Key) → height ≡ 1
+pub sound_leaf : {T : Type 0} (result : Result T Stop) (told : Option (List (List ℕ))) (free : ℕ → Bool) (size page : ℕ) {height : ℕ} (k : Key) → height ≡ 1
     → IfErr result (λ e. (is_root : Bool) (b : Bounds) (rs : List Record) (used : List ℕ) → CanInsert told free size page 1 is_root b k rs used → IsNotDamage e)
     → IfErr result (λ e. (is_root : Bool) (b : Bounds) (rs : List Record) (used : List ℕ) → CanInsert told free size page height is_root b k rs used → AreFew rs
     → IsNotDamage e)
 sound_leaf (Ok o) told free size page k one f = f
 sound_leaf (Err e) told free size page k one f =
     λ is_root b rs used can few. f is_root b rs used (subst (λ h. CanInsert told free size page h is_root b k rs used) one can)
+
+module _ (told : Option (List (List ℕ))) (free : ℕ → Bool) (size page : ℕ) (k : Key) (high : Option Key) where
+  -- and where its keys stay below a bound
+  pub sound_leaf_below : {T : Type 0} (result : Result T Stop) {height : ℕ} → height ≡ 1
+      → IfErr result (λ e. (is_root : Bool) (b : Bounds) (rs : List Record) (used : List ℕ) → CanInsert told free size page 1 is_root b k rs used
+      → IsNotDamage e)
+      → IfErr result (λ e. (is_root : Bool) (b : Bounds) (rs : List Record) (used : List ℕ) → b.high ≡ high
+      → CanInsert told free size page height is_root b k rs used → AreFew rs → IsNotDamage e)
+  sound_leaf_below (Ok o) one f = f
+  sound_leaf_below {T} (Err e) one f = λ is_root b rs used top. sound_leaf {T = T} (Err e) told free size page k one f is_root b rs used

@@ -128,6 +128,27 @@ at_run {i = i} {inner = inner} high next {b = b} l is_next top can =
           (nearer kb (from_keys ka b) order.within m (subst (λ o. is_below o m ≡ true) (sym child_top) h));
     }
 
+-- keys that lie among what stands around a child, and below a bound
+pub record LieBetween (first last : List Record) (high : Option Key) (xs : List Key) : Type 0 where
+  pub among : AreAmong first last xs
+  pub under : list_all (is_below high) xs ≡ true
+
+-- those from the key on that leads to the child, and below the child's bound
+pub lie_between : {told then_told : Option (List (List ℕ))} {free then_free : ℕ → Bool} {page height child i : ℕ} {k : Key} {inner : Inner}
+    {next : Option Key} {is_root : Bool} {b : Bounds} {rs : List Record} {used : List ℕ}
+    (a : AtRun told then_told free then_free page height child i k inner next is_root b rs used) (xs : List Key)
+    → list_all (λ x. is_le (key_cmp k x)) xs ≡ true → list_all (is_below (child_bounds inner b i).high) xs ≡ true
+    → LieBetween a.x.at.first a.x.at.last b.high xs
+lie_between {k = k} {next = next} {b = b} a xs from under =
+    let below : list_all (is_below next) xs ≡ true = subst (λ o. list_all (is_below o) xs ≡ true) a.top under in
+    record {
+      among = record {
+        lower = all_lower k a.x.at.first xs a.x.among.lower from;
+        higher = all_higher next a.x.at.last xs a.past below;
+      };
+      under = all_follow (is_below next) (is_below b.high) a.nearer_high xs below;
+    }
+
 pub first_least : (run : List Key) → is_ascending run ≡ true → 1 ≤ length run → list_all (λ x. is_le (key_cmp (key_at run 0) x)) run ≡ true
 first_least [] a some = absurd (omega arith)
 first_least (k ∷ run) a some =

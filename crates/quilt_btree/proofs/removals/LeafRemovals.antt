@@ -12,6 +12,7 @@ use Rattle.quilt_node.specs.Tree.{Bounds, are_within, is_above, is_below}
 use Rattle.quilt_world.specs.Tale.{Goes}
 use Rattle.quilt_btree.specs.declared.outcomes.Removed.TheVariants as removed
 use Rattle.quilt_record.specs.Lists.{has_key, without}
+use Rattle.quilt_btree.specs.Searches.{AreOf}
 use Rattle.quilt_btree.specs.Subtree.{Subtree}
 use Rattle.quilt_btree.specs.Trees.{ReadsLeaf}
 use Rattle.quilt_btree.specs.Edits.{multiplicity, Becomes, CanEdit, IsNearlyFull, DidRemove}
@@ -81,6 +82,11 @@ leaf_becomes {pages} free {page} r {used} bytes s inside is enough within = reco
   };
   moves = moves_written pages free used page bytes (used_account free used page (subst (λ l. 1 ≤ multiplicity page l) (sym s.is_used) (once_here page)));
 }
+
+-- the leaf that the bytes of a page are
+pub leaf_read : {told : Option (List (List ℕ))} {page : ℕ} {bytes : List ℕ} {leaf : List Record} → AreOf told page bytes → leaf_of bytes ≡ Some leaf
+    → ReadsLeaf told page leaf
+leaf_read are is = λ pages told. ap leaf_of (sym (are pages told)) ∙ is
 
 pub leaf_same : {told : Option (List (List ℕ))} {free : ℕ → Bool} {page : ℕ} {is_root : Bool} {b : Bounds} {rs leaf : List Record} {used : List ℕ}
     → CanEdit told free page 1 is_root b rs used → ReadsLeaf told page leaf → leaf ≡ rs

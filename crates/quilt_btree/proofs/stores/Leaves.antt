@@ -185,6 +185,14 @@ module _ {S : Type 0} (g : Ghosts S) where
     inserts_below height some a r b =
         edits_then (2 * height) height (omega arith) (omega arith) (looked 1 a r) b
 
+    -- and the page above
+    pub inserts_above : {T U V : Type 0} {s t u v : S} {first : Result T Stop} {below : Result U Stop} {result : Result V Stop} (height : ℕ) → 1 ≤ height
+        → OnlyReads g s t first → Goes (λ old new. new ≤ old + 1) (g.reads s) (g.reads t) → EditsWithin g (2 * (height - 1)) (height - 1) t u below
+        → EditsWithin g 2 0 u v result → EditsWithin g (2 * height) height s v result
+    inserts_above height some a r b up =
+        edits_then (2 * height) height (omega arith) (omega arith)
+        (edits_then (2 * (height - 1)) height (omega arith) (omega arith) (looked 1 a r) b) up
+
     -- a look, and an edit whose reads are bounded where it answers
     pub edits_behind : {T U : Type 0} {s t u : S} {first : Result T Stop} {result : Result U Stop} (k m n l : ℕ) → k + n ≤ l → OnlyReads g s t first
         → Goes (λ old new. new ≤ old + k) (g.reads s) (g.reads t) → EditsWithinOnOk g m n t u result → EditsWithinOnOk g m l s u result

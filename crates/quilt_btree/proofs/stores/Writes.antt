@@ -5,7 +5,7 @@ use Rattle.quilt_store.specs.Store.{FreesOnly}
 use Rattle.quilt_world.specs.Tale.{Goes}
 use Rattle.quilt_btree.specs.Edits.{multiplicity, KeepsAccount}
 use Rattle.quilt_btree.proofs.lists.Rows.{SameOn}
-use Rattle.quilt_btree.proofs.lists.Counts.{times_here, times_other, in_times}
+use Rattle.quilt_btree.proofs.lists.Counts.{times_here, in_times}
 use Rattle.quilt_btree.proofs.stores.Moves.{AreApart, moves_then, moves_taken, moves_written, used_account, free_not_used}
 
 pub tells_at : (step : List (List ℕ) → List (List ℕ) → Type 0) (a b : Option (List (List ℕ))) (x : List (List ℕ)) → Goes step a b → a ≡ Some x
@@ -47,26 +47,27 @@ pub record IsBoth (pages news : List (List ℕ)) (free now : ℕ → Bool) (used
   pub moves : KeepsAccount pages news free now used (new ∷ used)
   pub unused : multiplicity new used ≡ 0
 
-module _ (pages : List (List ℕ)) (free now : ℕ → Bool) (used : List ℕ) (page new : ℕ) (left right : List ℕ) where
-  pub both_written : AreApart free used → 1 ≤ multiplicity page used → page < length pages → new < length pages → free new ≡ true
-      → FreesOnly new false free now → IsBoth pages (slice_set (slice_set pages page left) new right) free now used page new left right
-  both_written apart some inside inside_new t f =
-      let one = slice_set pages page left in
+-- a page that was free is written
+pub record IsNew (pages news : List (List ℕ)) (free now : ℕ → Bool) (used : List ℕ) (new : ℕ) (bytes : List ℕ) : Type 0 where
+  pub is_new : slice_index_or news new [] ≡ bytes
+  pub others : (q : ℕ) → q ≢ new → slice_index_or news q [] ≡ slice_index_or pages q []
+  pub moves : KeepsAccount pages news free now used (new ∷ used)
+  pub unused : multiplicity new used ≡ 0
+  pub other : (page : ℕ) → 1 ≤ multiplicity page used → page ≢ new
+
+module _ (pages : List (List ℕ)) (free now : ℕ → Bool) (used : List ℕ) (new : ℕ) (bytes : List ℕ) where
+  pub new_written : AreApart free used → new < length pages → free new ≡ true → FreesOnly new false free now
+      → IsNew pages (slice_set pages new bytes) free now used new bytes
+  new_written apart inside t f =
       let unused = free_not_used free used new apart t in
-      let ne : page ≢ new = λ e. nothing (multiplicity new used) (subst (λ p. 1 ≤ multiplicity p used) e some) unused in
-      let lt : new < length one = subst (λ n. new < n) (sym (length-set pages page left)) inside_new in
-      let taken = moves_taken pages free now used new t f in
-      let here : 1 ≤ multiplicity page (new ∷ used) = subst (λ n. 1 ≤ n) (sym (times_other page new used ne)) some in
       let there : 1 ≤ multiplicity new (new ∷ used) = first (multiplicity new (new ∷ used)) (multiplicity new used) (times_here new used) in
       record {
-        is_left = get_or-set_other one new page right [] ne ∙ get_or-set_same pages page left [] inside;
-        is_right = get_or-set_same one new right [] lt;
-        others = λ q p n. get_or-set_other one new q right [] n ∙ get_or-set_other pages page q left [] p;
-        moves = moves_then
-            (moves_then taken
-            (moves_written pages now (new ∷ used) page left (used_account now (new ∷ used) page here)))
-            (moves_written one now (new ∷ used) new right (used_account now (new ∷ used) new there));
+        is_new = get_or-set_same pages new bytes [] inside;
+        others = λ q n. get_or-set_other pages new q bytes [] n;
+        moves = moves_then (moves_taken pages free now used new t f)
+            (moves_written pages now (new ∷ used) new bytes (used_account now (new ∷ used) new there));
         unused = unused;
+        other = λ page some e. nothing (multiplicity new used) (subst (λ p. 1 ≤ multiplicity p used) e some) unused;
       }
     where
       nothing : (n : ℕ) → 1 ≤ n → n ≡ 0 → ⊥
@@ -74,6 +75,20 @@ module _ (pages : List (List ℕ)) (free now : ℕ → Bool) (used : List ℕ) (
 
       first : (m n : ℕ) → m ≡ 1 + n → 1 ≤ m
       first m n e = omega arith
+
+module _ (pages : List (List ℕ)) (free now : ℕ → Bool) (used : List ℕ) (page new : ℕ) (left right : List ℕ) where
+  pub both_written : AreApart free used → 1 ≤ multiplicity page used → page < length pages → new < length pages → free new ≡ true
+      → FreesOnly new false free now → IsBoth pages (slice_set (slice_set pages page left) new right) free now used page new left right
+  both_written apart some inside inside_new t f =
+      let one = slice_set pages page left in
+      let n = new_written one free now used new right apart (subst (λ n. new < n) (sym (length-set pages page left)) inside_new) t f in
+      record {
+        is_left = n.others page (n.other page some) ∙ get_or-set_same pages page left [] inside;
+        is_right = n.is_new;
+        others = λ q p o. n.others q o ∙ get_or-set_other pages page q left [] p;
+        moves = moves_then (moves_written pages free used page left (used_account free used page some)) n.moves;
+        unused = n.unused;
+      }
 
   -- pages that are neither of the two stay
   pub both_same : (news : List (List ℕ)) (some : List ℕ) → IsBoth pages news free now used page new left right → multiplicity page some ≡ 0

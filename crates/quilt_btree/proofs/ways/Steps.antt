@@ -133,13 +133,19 @@ pub keys_many : (pages : ℕ) (bytes : List ℕ) (inner : Inner) (i n : ℕ) →
     → i + 1 < n → i < length inner.keys
 keys_many pages bytes inner i n is many more = let e = (inner_list pages bytes inner is).keys in omega arith
 
+module _ (inner : Inner) (i : ℕ) (high : Option Key) where
+  -- no key stands behind the last child
+  pub last_high : (pages : ℕ) (bytes : List ℕ) (n : ℕ) → inner_of pages bytes ≡ Some inner → n ≡ length inner.children → n ≤ i + 1
+      → high ≡ option_or (slice_get inner.keys i) high
+  last_high pages bytes n is many le =
+      let l = inner_list pages bytes inner is in
+      let few : length inner.keys ≤ i = let e = l.keys in omega arith in
+      sym (ap (λ o. option_or o high) (no_more inner.keys i few))
+
 module _ (inner : Inner) (k : Key) (i child : ℕ) (high : Option Key) where
   pub last_step : (pages : ℕ) (bytes : List ℕ) (n : ℕ) → inner_of pages bytes ≡ Some inner → IsPlace inner.keys k i → n ≡ length inner.children
       → n ≤ i + 1 → child ≡ slice_index inner.children i → IsStepDown k inner high child high
-  last_step pages bytes n is p many le c =
-      let l = inner_list pages bytes inner is in
-      let few : length inner.keys ≤ i = let e = l.keys in omega arith in
-      record { place = i; is_place = p; child_is = c; next_is = sym (ap (λ o. option_or o high) (no_more inner.keys i few)) }
+  last_step pages bytes n is p many le c = record { place = i; is_place = p; child_is = c; next_is = last_high inner i high pages bytes n is many le }
 
   pub next_step : (next : Key) → IsPlace inner.keys k i → child ≡ slice_index inner.children i → slice_get inner.keys i ≡ Some next
       → IsStepDown k inner high child (Some next)

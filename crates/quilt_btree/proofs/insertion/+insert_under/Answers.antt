@@ -1,13 +1,12 @@
-use Rattle.std.proofs.Common.{◌≡◌, ℕ, List, ◌≤◌, ◌<◌, ◌+◌, ◌-◌, ◌*◌, Some, refl, sym, subst, ◌∙◌, arith}
+use Rattle.std.proofs.Common.{ℕ, List, ◌≤◌, ◌<◌, ◌*◌, refl, subst, ◌∙◌, arith}
 use Rattle.quilt_record.specs.declared.record.Record.{Record}
-use Rattle.quilt_node.specs.Pages.{inner_of}
-use Rattle.quilt_btree.proofs.ways.Forks.{place_inside, read_ok}
+use Rattle.quilt_btree.proofs.ways.Forks.{read_ok}
 use Rattle.quilt_btree.proofs.ways.Damage.{bad_below, inner_faults, fault_names, named_leaf}
-use Rattle.quilt_store.specs.Store.{count_free}
 use Rattle.quilt_btree.specs.Trees.{SpellsSubtree}
-use Rattle.quilt_btree.proofs.growth.UnderGrowth.{IsLedIn, sound_leaf, sound_under, under_there, under_done, took_child, sound_child}
-use Rattle.quilt_btree.proofs.stores.Leaves.{looked, edits_then, edits_within, edits_err, edits_ok, inserts_below}
-use Rattle.quilt_btree.proofs.growth.Below.{leads_to, edit_spells}
+use Rattle.quilt_btree.proofs.growth.OneRecord.{one_there, one_done, took_child, sound_child}
+use Rattle.quilt_btree.proofs.growth.UnderGrowth.{IsLedIn, led_in, path_inside, room_since, sound_leaf, sound_below}
+use Rattle.quilt_btree.proofs.stores.Leaves.{looked, edits_within, edits_err, edits_ok, inserts_below, inserts_above}
+use Rattle.quilt_btree.proofs.growth.Below.{edit_spells}
 use Rattle.quilt_btree.proofs.growth.Finding.{there_in_leaf, finds_below, new_finds}
 use Rattle.quilt_btree.proofs.Handed.{handed_on}
 use Rattle.quilt_btree.proofs.insertion.+insert_under.Given.{Over}
@@ -20,13 +19,9 @@ led : (g : Over) (t : ℕ) (c : In_ok-insert_under g t) (rs : List Record) → S
     (g.S.PageStore.free c.read_path.new.store) (g.S.PageStore.size c.args.store.now) (g.S.PageStore.size c.read_path.new.store) c.args.page c.args.height
     c.in_ok-path.path.child c.in_ok-path.path.place c.args.r.now.key (g.S.PageStore.size c.insert_under.new.store) c.read_path.new.bytes
 led g t c rs s =
-    let h = c.in_ok-path.ensures.here c.args.height rs c.requires.height c.if-height-eq1.false s in
-    record {
-      inner = h.inner;
-      is = subst (λ n. inner_of n c.read_path.new.bytes ≡ Some h.inner) (sym (c.in_ok-insert_under.ensures.left.size ∙ c.in_ok-path.ensures.left.size)) h.is;
-      is_height = h.is_height;
-      leads = leads_to c.in_ok-path.ensures.left c.requires.height c.if-height-eq1.false (c.in_ok-path.ensures.path h.inner h.is);
-    }
+    led_in c.in_ok-path.ensures.left c.requires.height c.if-height-eq1.false
+    (c.in_ok-path.ensures.here c.args.height rs c.requires.height c.if-height-eq1.false s) c.in_ok-path.ensures.path
+    (c.in_ok-insert_under.ensures.left.size ∙ c.in_ok-path.ensures.left.size)
 
 pub returns-then-height-eq1-clause-sound : goal.returns-then-height-eq1-clause-sound
 returns-then-height-eq1-clause-sound g t c =
@@ -42,25 +37,23 @@ pub returns-in_err-insert_under-clause-sound : goal.returns-in_err-insert_under-
 returns-in_err-insert_under-clause-sound g t c =
     rw (handed_on c.from_residual-in_err-insert_under.result c.from_residual-in_err-insert_under.ensures.1)
     (λ is_root b rs used can few.
-    let h = c.in_ok-path.ensures.here c.args.height rs c.requires.height c.if-height-eq1.false (edit_spells can.can_edit) in
-    sound_under _ (leads_to c.in_ok-path.ensures.left c.requires.height c.if-height-eq1.false (c.in_ok-path.ensures.path h.inner h.is))
-    c.in_err-insert_under.ensures.sound can few)
+    sound_below _ (led_in c.in_ok-path.ensures.left c.requires.height c.if-height-eq1.false
+    (c.in_ok-path.ensures.here c.args.height rs c.requires.height c.if-height-eq1.false (edit_spells can.can_edit)) c.in_ok-path.ensures.path refl).leads
+    refl (λ is_root b rs used top. c.in_err-insert_under.ensures.sound is_root b rs used) refl can few)
 
 pub returns-in-There-clause-inserted : goal.returns-in-There-clause-inserted
 returns-in-There-clause-inserted g t c is_root b rs used can =
-    under_there (led g t (goal.at.returns-in-There-clause-inserted g t c).In_ok-insert_under rs (edit_spells can.can_edit)).leads
-    (rw c.in-There.is at c.in_ok-insert_under.ensures.inserted) can
+    one_there (led g t (goal.at.returns-in-There-clause-inserted g t c).In_ok-insert_under rs (edit_spells can.can_edit)).leads can
+    (rw c.in-There.is at c.in_ok-insert_under.ensures.inserted)
 
 pub returns-in-Done-clause-inserted : goal.returns-in-Done-clause-inserted
 returns-in-Done-clause-inserted g t c is_root b rs used can =
-    under_done (led g t (goal.at.returns-in-Done-clause-inserted g t c).In_ok-insert_under rs (edit_spells can.can_edit)).leads
-    (rw c.in-Done.is at c.in_ok-insert_under.ensures.inserted) can
+    one_done (led g t (goal.at.returns-in-Done-clause-inserted g t c).In_ok-insert_under rs (edit_spells can.can_edit)).leads can
+    (rw c.in-Done.is at c.in_ok-insert_under.ensures.inserted)
 
 pub put_in_page-requires-clause-place : goal.put_in_page-requires-clause-place
-put_in_page-requires-clause-place g t c = λ inner is.
-    let there = subst (λ n. inner_of n c.read_path.new.bytes ≡ Some inner) (c.in_ok-insert_under.ensures.left.size ∙ c.in_ok-path.ensures.left.size) is in
-    place_inside (g.S.PageStore.size c.args.store.now) c.read_path.new.bytes inner c.args.r.now.key c.in_ok-path.path.place there
-    (c.in_ok-path.ensures.path inner there).is_place
+put_in_page-requires-clause-place g t c =
+    path_inside (g.S.PageStore.size c.args.store.now) c.read_path.new.bytes c.in_ok-path.ensures.path (c.in_ok-insert_under.ensures.left.size ∙ c.in_ok-path.ensures.left.size)
 
 pub returns-in-Split-clause-inserted : goal.returns-in-Split-clause-inserted
 returns-in-Split-clause-inserted g t c =
@@ -72,17 +65,13 @@ returns-in-Split-clause-inserted g t c =
 
 pub returns-in-Split-clause-sound : goal.returns-in-Split-clause-sound
 returns-in-Split-clause-sound g t c =
-    let few : count_free (g.S.PageStore.free c.args.store.now) (g.S.PageStore.size c.args.store.now)
-    ≤ count_free (g.S.PageStore.free c.insert_under.new.store) (g.S.PageStore.size c.args.store.now) + (c.args.height - 1) =
-    subst (λ f. count_free f (g.S.PageStore.size c.args.store.now) ≤ count_free (g.S.PageStore.free c.insert_under.new.store)
-    (g.S.PageStore.size c.args.store.now) + (c.args.height - 1)) c.in_ok-path.ensures.left.free
-    (subst (λ n. count_free (g.S.PageStore.free c.read_path.new.store) n ≤ count_free (g.S.PageStore.free c.insert_under.new.store) n
-    + (c.args.height - 1)) c.in_ok-path.ensures.left.size c.in_ok-insert_under.ensures.leaves.room) in
     sound_child (led g t (goal.at.returns-in-Split-clause-sound g t c).In_ok-insert_under) (g.met.S.PageStore.as_many c.args.store.now)
     (subst (λ n. (1 ≤ c.in-Split.right) × (c.in-Split.right < n)) c.in_ok-path.ensures.left.size
     (rw c.in-Split.is at c.in_ok-insert_under.ensures.leaves.right))
     (rw c.in-Split.is at c.in_ok-insert_under.ensures.inserted) c.put_in_page.result (g.S.PageStore.size c.insert_under.new.store)
-    (c.in_ok-insert_under.ensures.left.size ∙ c.in_ok-path.ensures.left.size) few c.put_in_page.ensures.sound
+    (c.in_ok-insert_under.ensures.left.size ∙ c.in_ok-path.ensures.left.size)
+    (room_since c.in_ok-path.ensures.left (g.S.PageStore.free c.insert_under.new.store) c.args.height c.in_ok-insert_under.ensures.leaves.room)
+    c.put_in_page.ensures.sound
 
 pub returns-in-Split-clause-names : goal.returns-in-Split-clause-names
 returns-in-Split-clause-names g t c = fault_names c.put_in_page.result (g.S.PageStore.size c.args.store.now) c.args.page _ c.requires.page.1 c.put_in_page.ensures.fault
@@ -134,10 +123,8 @@ returns-in_err-insert_under-clause-bad g t c =
 
 pub returns-in-Split-clause-left : goal.returns-in-Split-clause-left
 returns-in-Split-clause-left g t c =
-    let some = c.requires.height in
-    edits_then _ g.met.S.PageStore.goes_on (2 * c.args.height) c.args.height (omega arith) (omega arith)
-    (edits_then _ g.met.S.PageStore.goes_on (2 * (c.args.height - 1)) c.args.height (omega arith)
-    (omega arith) (looked _ 1 c.in_ok-path.ensures.left c.in_ok-path.ensures.reads) c.in_ok-insert_under.ensures.left) c.put_in_page.ensures.left
+    inserts_above _ g.met.S.PageStore.goes_on c.args.height c.requires.height c.in_ok-path.ensures.left c.in_ok-path.ensures.reads
+    c.in_ok-insert_under.ensures.left c.put_in_page.ensures.left
 
 pub returns-then-height-eq1-clause-left : goal.returns-then-height-eq1-clause-left
 returns-then-height-eq1-clause-left g t c =

@@ -1,4 +1,4 @@
-use Rattle.std.proofs.Common.{refl, sym, ◌∙◌, ap, arith}
+use Rattle.std.proofs.Common.{refl, sym, ◌∙◌, arith}
 use Rattle.std.proofs.lemmas.Option.{none-some}
 use Rattle.quilt_node.specs.Pages.{leaf_of}
 use Rattle.quilt_btree.specs.Trees.{ReadsLeaf}
@@ -9,7 +9,7 @@ use Rattle.quilt_btree.proofs.ways.Forks.{leaf_here}
 use Rattle.quilt_btree.proofs.growth.Finding.{finds_here, finds_none, new_in_leaf}
 use Rattle.quilt_btree.proofs.growth.Below.{same_of, edit_spells}
 use Rattle.quilt_btree.proofs.growth.LeafGrowth.{leaf_there}
-use Rattle.quilt_btree.proofs.removals.LeafRemovals.{leaf_same}
+use Rattle.quilt_btree.proofs.removals.LeafRemovals.{leaf_read, leaf_same}
 use Rattle.quilt_btree.proofs.Handed.{handed_on}
 use Rattle.quilt_btree.proofs.insertion.insert_leaf.Given.{Over}
 use Rattle.quilt_btree.proofs.insertion.insert_leaf.Goals.{After-from_bytes-leaf}
@@ -17,7 +17,7 @@ use Rattle.quilt_btree.proofs.insertion.insert_leaf.Goals as goal
 
 -- the leaf that was read
 reads : (g : Over) (c : After-from_bytes-leaf g) → ReadsLeaf (g.S.PageStore.told c.args.store.now) c.args.page c.from_bytes-leaf.result
-reads g c = λ pages is. ap leaf_of (sym (c.in_ok-read_into.ensures.bytes pages is)) ∙ c.from_bytes-leaf.ensures
+reads g c = leaf_read c.in_ok-read_into.ensures.bytes c.from_bytes-leaf.ensures
 
 pub returns-in_err-read_into-clause-sound : goal.returns-in_err-read_into-clause-sound
 returns-in_err-read_into-clause-sound g c =

@@ -1,12 +1,15 @@
-use Rattle.std.proofs.Common.{◌≡◌, refl, true, false, not, suc, ◌-◌, ◌≤◌, ◌<◌, Some, ap, subst, ◌∙◌, arith}
+use Rattle.std.proofs.Common.{None, ◌≡◌, refl, true, false, not, suc, ◌+◌, ◌-◌, ◌≤◌, ◌<◌, [], ◌∷◌, Some, ap, subst, ◌∙◌, arith}
 use Rattle.std.proofs.lemmas.Bool.{false≢true}
 use Rattle.quilt_node.specs.Pages.{Inner}
+use Rattle.quilt_btree.specs.declared.edit.Edit.TheVariants as edit
+use Rattle.quilt_btree.proofs.batches.Whole.{whole_along}
 use Rattle.quilt_btree.proofs.stores.Leaves.{edits_on, edits_more, edits_err, edits_ok, edits_damaged, inserts_tree, inserts_low}
 use Rattle.quilt_btree.proofs.ways.Damage.{zero_names, names_more}
 use Rattle.quilt_btree.proofs.growth.Finding.{finds_root, finds_empty}
 use Rattle.quilt_btree.proofs.growth.InnerGrowth.{IsWritten}
 use Rattle.quilt_btree.proofs.growth.KeptPages.{kept_first, kept_low, sound_kept, same_tree, kept_done, room_left, kept_split}
-use Rattle.quilt_btree.proofs.growth.TreeGrowth.{IsInserting, few_records, sound_root, whole_there, whole_done, not_split, root_room, whole_split, empty_room, whole_first}
+use Rattle.quilt_btree.proofs.growth.OneRecord.{places_one}
+use Rattle.quilt_btree.proofs.growth.TreeGrowth.{IsInserting, more_records, few_records, sound_root, one_due, not_due, whole_done, not_split, root_room, whole_split, empty_room, whole_first}
 use Rattle.quilt_btree.proofs.Handed.{handed_on}
 use Rattle.quilt_btree.proofs.tree.Tree.insert.Given.{Over}
 use Rattle.quilt_btree.proofs.tree.Tree.insert.Goals.{Start}
@@ -51,11 +54,11 @@ returns-then-self-eq0-clause-inserts g c = record {
 
 pub returns-then-self-eq3-clause-sound : goal.returns-then-self-eq3-clause-sound
 returns-then-self-eq3-clause-sound g c rs w =
-    absurd (not_split c.args.r.now (g.S.PageStore.told c.args.store.now) (g.S.PageStore.told c.insert_under.new.store)
-    (g.S.PageStore.free c.args.store.now) (g.S.PageStore.free c.insert_under.new.store) (g.S.PageStore.size c.args.store.now)
-    c.args.self.now rs c.in-Split.key c.in-Split.right
-    (inserting g (goal.at.returns-then-self-eq3-clause-sound g c).Start)
-    c.if-self-eq3.true (rw c.in-Split.is at c.in_ok-insert_under.ensures.inserted) w)
+    absurd (not_split c.args.r.now.key (edit.Put c.args.r.now ∷ []) (g.S.PageStore.told c.insert_under.new.store)
+    (g.S.PageStore.free c.insert_under.new.store) (inserting g (goal.at.returns-then-self-eq3-clause-sound g c).Start) c.if-self-eq0.false w
+    c.in-Split.key c.in-Split.right
+    c.if-self-eq3.true (let m = more_records c.args.r.now rs c.args.self.now.records w.number in let q = c.requires.room in omega arith)
+    (places_one None _ (rw c.in-Split.is at c.in_ok-insert_under.ensures.inserted)))
 
 pub returns-in_err-insert_under-clause-sound : goal.returns-in_err-insert_under-clause-sound
 returns-in_err-insert_under-clause-sound g c =
@@ -64,18 +67,21 @@ returns-in_err-insert_under-clause-sound g c =
     sound_root _
     c.args.r.now.key
     (inserting g (goal.at.returns-in_err-insert_under-clause-sound g c).Start)
-    c.if-self-eq0.false c.in_err-insert_under.ensures.sound w)
+    c.if-self-eq0.false (λ is_root b rs used top. c.in_err-insert_under.ensures.sound is_root b rs used) w)
 
 pub returns-in-There-clause-inserts : goal.returns-in-There-clause-inserts
 returns-in-There-clause-inserts g c = record {
   inserted =
-      λ rs w.
-      whole_there c.args.r.now (g.S.PageStore.told c.args.store.now) (g.S.PageStore.told c.insert_under.new.store)
-      (g.S.PageStore.free c.args.store.now) (g.S.PageStore.free c.insert_under.new.store) (g.S.PageStore.size c.args.store.now) c.args.self.now rs
-      (inserting g (goal.at.returns-in-There-clause-inserts g c).Start)
-      c.if-self-eq0.false (rw c.in-There.is at c.in_ok-insert_under.ensures.inserted)
-      (c.in_ok-insert_under.ensures.leaves.same c.in-There.is).told
-      (c.in_ok-insert_under.ensures.leaves.same c.in-There.is).free w;
+      λ rs w. (
+        one_due _ (not_due c.args.r.now.key (edit.Put c.args.r.now ∷ []) (g.S.PageStore.told c.insert_under.new.store)
+            (g.S.PageStore.free c.insert_under.new.store) (inserting g (goal.at.returns-in-There-clause-inserts g c).Start) c.if-self-eq0.false w
+            (places_one None _ (rw c.in-There.is at c.in_ok-insert_under.ensures.inserted))),
+        whole_along c.args.self.now rs (record {
+          same_pages = (c.in_ok-insert_under.ensures.leaves.same c.in-There.is).told;
+          same_free = (c.in_ok-insert_under.ensures.leaves.same c.in-There.is).free;
+          same_size = refl;
+        }) w,
+      );
   answer =
       λ rs is.
       ap not (finds_root (g.S.PageStore.told c.args.store.now) c.args.r.now.key true c.args.self.now rs c.if-self-eq0.false (rw c.in-There.is at c.in_ok-insert_under.ensures.finds) is);
@@ -92,11 +98,11 @@ pub returns-in-Done-clause-inserts : goal.returns-in-Done-clause-inserts
 returns-in-Done-clause-inserts g c = record {
   inserted =
       λ rs w.
-      whole_done c.args.r.now (g.S.PageStore.told c.args.store.now) (g.S.PageStore.told c.insert_under.new.store)
-      (g.S.PageStore.free c.args.store.now)
-      (g.S.PageStore.free c.insert_under.new.store) (g.S.PageStore.size c.args.store.now) c.args.self.now rs
-      (inserting g (goal.at.returns-in-Done-clause-inserts g c).Start)
-      c.if-self-eq0.false (rw c.in-Done.is at c.in_ok-insert_under.ensures.inserted) w;
+      let h = whole_done c.args.r.now.key (edit.Put c.args.r.now ∷ []) (g.S.PageStore.told c.insert_under.new.store)
+      (g.S.PageStore.free c.insert_under.new.store) (inserting g (goal.at.returns-in-Done-clause-inserts g c).Start) c.if-self-eq0.false w
+      (c.args.self.now.records + 1) (more_records c.args.r.now rs c.args.self.now.records w.number)
+      (places_one None _ (rw c.in-Done.is at c.in_ok-insert_under.ensures.inserted)) in
+      (one_due _ h.0, h.1);
   answer =
       λ rs is.
       ap not (finds_root (g.S.PageStore.told c.args.store.now) c.args.r.now.key false c.args.self.now rs c.if-self-eq0.false (rw c.in-Done.is at c.in_ok-insert_under.ensures.finds) is);
@@ -104,7 +110,7 @@ returns-in-Done-clause-inserts g c = record {
       λ rs w room.
       kept_done c.args.r.now (g.S.PageStore.told c.args.store.now) (g.S.PageStore.told c.insert_under.new.store) (g.S.PageStore.free c.args.store.now)
       (g.S.PageStore.free c.insert_under.new.store) (g.S.PageStore.size c.args.store.now) c.args.self.now rs c.if-self-eq0.false
-      (rw c.in-Done.is at c.in_ok-insert_under.ensures.inserted) room w;
+      (places_one None _ (rw c.in-Done.is at c.in_ok-insert_under.ensures.inserted)) room w;
   count = λ e. refl;
 }
 
@@ -112,32 +118,31 @@ pub returns-in_err-root-in-Split-clause-sound : goal.returns-in_err-root-in-Spli
 returns-in_err-root-in-Split-clause-sound g c =
     rw (handed_on c.from_residual-in_err-root-in-Split.result c.from_residual-in_err-root-in-Split.ensures.1)
     (λ rs w.
-    c.in_err-root-in-Split.ensures.sound (root_room c.args.r.now (g.S.PageStore.told c.args.store.now) (g.S.PageStore.told c.insert_under.new.store)
-    (g.S.PageStore.free c.args.store.now) (g.S.PageStore.free c.insert_under.new.store) (g.S.PageStore.size c.args.store.now)
-    (g.S.PageStore.size c.insert_under.new.store) c.args.self.now rs
-    (inserting g (goal.at.returns-in_err-root-in-Split-clause-sound g c).Start)
+    c.in_err-root-in-Split.ensures.sound (root_room (g.S.PageStore.free c.insert_under.new.store) (g.S.PageStore.size c.insert_under.new.store)
+    c.args.self.now rs (inserting g (goal.at.returns-in_err-root-in-Split-clause-sound g c).Start)
     c.if-self-eq0.false c.in_ok-insert_under.ensures.left.size c.in_ok-insert_under.ensures.leaves.room w))
 
 pub returns-in_ok-root-in-Split-clause-inserts : goal.returns-in_ok-root-in-Split-clause-inserts
 returns-in_ok-root-in-Split-clause-inserts g c = record {
   inserted =
       λ rs w.
-      let ne = c.if-self-eq0.false in
-      let tall : c.args.self.now.height ≡ suc (c.args.self.now.height - 1) = omega arith in
       let right_in : (1 ≤ c.in-Split.right) × (c.in-Split.right < g.S.PageStore.size c.args.store.now) =
       rw c.in-Split.is at c.in_ok-insert_under.ensures.leaves.right in
       let new_in : (1 ≤ c.in_ok-root-in-Split.root) × (c.in_ok-root-in-Split.root < g.S.PageStore.size c.args.store.now) =
       subst (λ n. (1 ≤ c.in_ok-root-in-Split.root) × (c.in_ok-root-in-Split.root < n)) c.in_ok-insert_under.ensures.left.size c.in_ok-root-in-Split.ensures.page in
-      whole_split c.args.r.now (g.S.PageStore.told c.args.store.now) (g.S.PageStore.told c.write_new-in-Split.new.store)
-      (g.S.PageStore.free c.args.store.now) (g.S.PageStore.free c.write_new-in-Split.new.store) (g.S.PageStore.size c.args.store.now)
-      c.args.self.now rs c.in_ok-root-in-Split.root c.bytes-in-Split.result.now (inserting g (goal.at.returns-in_ok-root-in-Split-clause-inserts g c).Start) w (g.S.PageStore.told c.insert_under.new.store) (g.S.PageStore.free c.insert_under.new.store) c.in-Split.key c.in-Split.right (c.args.self.now.height - 1) tall (rw c.in-Split.is at c.in_ok-insert_under.ensures.inserted) (record {
+      let h = whole_split {mid_told = g.S.PageStore.told c.insert_under.new.store} {mid = g.S.PageStore.free c.insert_under.new.store}
+      {key = c.in-Split.key} {right = c.in-Split.right} c.args.r.now.key (edit.Put c.args.r.now ∷ [])
+      (inserting g (goal.at.returns-in_ok-root-in-Split-clause-inserts g c).Start) c.if-self-eq0.false w (c.args.self.now.records + 1)
+      (more_records c.args.r.now rs c.args.self.now.records w.number)
+      (places_one None _ (rw c.in-Split.is at c.in_ok-insert_under.ensures.inserted)) (record {
         is_written = subst (λ (x : Inner). IsWritten c.bytes-in-Split.result.now x) c.pair-page.ensures c.bytes-in-Split.ensures.inner;
         right_in = right_in;
         new_in = new_in;
         was_free = c.in_ok-root-in-Split.ensures.free;
         taken = c.in_ok-root-in-Split.ensures.taken;
         wrote = c.in_ok-root-in-Split.ensures.told;
-      });
+      }) in
+      (one_due _ h.0, h.1);
   answer =
       λ rs is.
       ap not (finds_root (g.S.PageStore.told c.args.store.now) c.args.r.now.key false c.args.self.now rs c.if-self-eq0.false (rw c.in-Split.is at c.in_ok-insert_under.ensures.finds) is);
@@ -149,7 +154,7 @@ returns-in_ok-root-in-Split-clause-inserts g c = record {
       rw c.in-Split.is at c.in_ok-insert_under.ensures.leaves.right in
       let new_in : (1 ≤ c.in_ok-root-in-Split.root) × (c.in_ok-root-in-Split.root < (g.S.PageStore.size c.args.store.now)) =
       subst (λ n. (1 ≤ c.in_ok-root-in-Split.root) × (c.in_ok-root-in-Split.root < n)) c.in_ok-insert_under.ensures.left.size c.in_ok-root-in-Split.ensures.page in
-      kept_split c.args.r.now c.requires.rooted (g.met.S.PageStore.as_many c.args.store.now) tall (rw c.in-Split.is at c.in_ok-insert_under.ensures.inserted)
+      kept_split c.args.r.now c.requires.rooted (g.met.S.PageStore.as_many c.args.store.now) tall (places_one None _ (rw c.in-Split.is at c.in_ok-insert_under.ensures.inserted))
       (record {
         is_written = subst (λ (x : Inner). IsWritten c.bytes-in-Split.result.now x) c.pair-page.ensures c.bytes-in-Split.ensures.inner;
         right_in = right_in;
@@ -167,8 +172,8 @@ returns-in_err-root-clause-goes g c =
 
 pub returns-then-self-eq3-clause-goes : goal.returns-then-self-eq3-clause-goes
 returns-then-self-eq3-clause-goes g c rs w n room =
-    absurd (kept_low c.args.r.now c.requires.room (g.met.S.PageStore.in_range c.args.store.now).1 c.if-self-eq3.true (rw c.in-Split.is at c.in_ok-insert_under.ensures.inserted)
-    room n w)
+    absurd (kept_low c.args.r.now c.requires.room (g.met.S.PageStore.in_range c.args.store.now).1 c.if-self-eq3.true
+    (places_one None _ (rw c.in-Split.is at c.in_ok-insert_under.ensures.inserted)) room n w)
 
 pub returns-in_err-insert_under-clause-goes : goal.returns-in_err-insert_under-clause-goes
 returns-in_err-insert_under-clause-goes g c =

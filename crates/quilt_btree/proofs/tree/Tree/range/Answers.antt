@@ -9,7 +9,7 @@ use Rattle.quilt_btree.proofs.stores.Looks.{only_reads_handed, found_read, first
 use Rattle.quilt_btree.proofs.ranges.Spans.{first_within, above_bound}
 use Rattle.quilt_btree.proofs.subtrees.Whole.{sound_whole}
 use Rattle.quilt_btree.proofs.ranges.Rests.{no_range}
-use Rattle.quilt_btree.proofs.Spots.{leads_from, spot_ends, spot_fills, spot_sound, spot_rest}
+use Rattle.quilt_btree.proofs.Spots.{added_along, leads_from, spot_ends, spot_fills, spot_sound, spot_rest}
 use Rattle.quilt_btree.proofs.ways.Leaves.{same_le}
 use Rattle.quilt_btree.proofs.Handed.{handed_on}
 use Rattle.quilt_btree.proofs.tree.Tree.range.Goals as goal
@@ -26,26 +26,26 @@ returns-in_err-found-clause-sound g c =
 pub returns-then-now-most-clause-range : goal.returns-then-now-most-clause-range
 returns-then-now-most-clause-range g c =
     spot_fills (leads_from _ _ _ _ _ (let ne = c.if-self-eq0.false in omega arith) c.in_ok-found.ensures.arrives) (same_le c.args.low.now)
-    (c.in_ok-found.ensures.range.above refl) c.in_ok-found.ensures.left.told c.in_ok-now.ensures.adds c.new-records.ensures.items
+    (c.in_ok-found.ensures.range.above refl) (added_along c.in_ok-found.ensures.left.told c.in_ok-now.ensures.adds) c.new-records.ensures.items
     (let e = c.in_ok-now.ensures.number in let t = c.if-now-most.true in omega arith)
 
 pub returns-in-None-clause-range : goal.returns-in-None-clause-range
 returns-in-None-clause-range g c =
     spot_ends (leads_from _ _ _ _ _ (let ne = c.if-self-eq0.false in omega arith) c.in_ok-found.ensures.arrives) (same_le c.args.low.now)
-    (c.in_ok-found.ensures.range.above refl) c.in_ok-found.ensures.left.told c.in_ok-now.ensures.adds c.new-records.ensures.items
+    (c.in_ok-found.ensures.range.above refl) (added_along c.in_ok-found.ensures.left.told c.in_ok-now.ensures.adds) c.new-records.ensures.items
     c.in-None.ensures
 
 pub returns-in_err-add_rest-in-Some-clause-sound : goal.returns-in_err-add_rest-in-Some-clause-sound
 returns-in_err-add_rest-in-Some-clause-sound g c =
     rw (handed_on c.from_residual-in_err-add_rest-in-Some.result c.from_residual-in_err-add_rest-in-Some.ensures.1)
     (spot_sound (leads_from _ _ _ _ _ (let ne = c.if-self-eq0.false in omega arith) c.in_ok-found.ensures.arrives) (same_le c.args.low.now)
-    (c.in_ok-found.ensures.range.above refl) c.in_ok-found.ensures.left.told c.in_ok-now.ensures.adds c.new-records.ensures.items
+    (c.in_ok-found.ensures.range.above refl) (added_along c.in_ok-found.ensures.left.told c.in_ok-now.ensures.adds) c.new-records.ensures.items
     _ (c.in_ok-now.ensures.looks.left.told ∙ c.in_ok-found.ensures.left.told) c.in-Some.ensures.0 c.in_err-add_rest-in-Some.ensures.sound)
 
 pub returns-in_ok-add_rest-in-Some-clause-range : goal.returns-in_ok-add_rest-in-Some-clause-range
 returns-in_ok-add_rest-in-Some-clause-range g c =
     spot_rest (leads_from _ _ _ _ _ (let ne = c.if-self-eq0.false in omega arith) c.in_ok-found.ensures.arrives) (same_le c.args.low.now)
-    (c.in_ok-found.ensures.range.above refl) c.in_ok-found.ensures.left.told c.in_ok-now.ensures.adds c.new-records.ensures.items
+    (c.in_ok-found.ensures.range.above refl) (added_along c.in_ok-found.ensures.left.told c.in_ok-now.ensures.adds) c.new-records.ensures.items
     c.add_rest.new.records.items (c.in_ok-now.ensures.looks.left.told ∙ c.in_ok-found.ensures.left.told) c.in-Some.ensures.0 c.in_ok-add_rest-in-Some.ensures.rest
 
 pub returns-then-self-eq0-clause-within : goal.returns-then-self-eq0-clause-within
