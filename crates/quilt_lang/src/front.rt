@@ -104,6 +104,9 @@ pub fn waits_on(level: u8, text: &[u8], waiting: Waiting, ended: bool) -> Option
         return None;
     }
     let Waiting { line, what, cut } = waiting;
+    if what.is_met(level, cut.count, false) {
+        return None;
+    }
     let behind = &text[line + 1..];
     let cut = count_lines(level, what, behind, cut);
     if !what.is_met(level, cut.count, false) {

@@ -25,13 +25,13 @@ WantsMemory (Rows line rows) = IsSome rows ⊎ (8 < length (words_of line))
 WantsMemory (PointLines line points) = IsSome points ⊎ (8 < length (words_of line))
 WantsMemory (RingLines line rings) = IsSome rings ⊎ (8 < length (words_of line))
 
--- the answer is made of parts that have these values, or it is the code
-abbrev pub MakesOf : {A B : Type 0} → (A → List Value) → (A → B → Type 0) → Result B Code → Result (List Value) Code → Type 0
-MakesOf {A} values made (Ok y) r = (x : A) × (r ≡ Ok (values x)) × made x y
-MakesOf values made (Err code) r = r ≡ Err code
+-- the value is made of what was read, or the code is the refusal of what was read
+abbrev pub MakesOf : {A B : Type 0} → (Result A Code → Type 0) → (A → B → Type 0) → Result B Code → Type 0
+MakesOf {A} read made (Ok y) = (x : A) × read (Ok x) × made x y
+MakesOf read made (Err code) = read (Err code)
 
--- the value is what the answer is, or the code is the answer's
-abbrev pub ReadsOne : {A : Type 0} → (A → Value) → Result A Code → Result Value Code → Type 0
+-- what the answer holds has this value, or the code is the answer's
+abbrev pub ReadsOne : {A V : Type 0} → (A → V) → Result A Code → Result V Code → Type 0
 ReadsOne value (Ok x) r = r ≡ Ok (value x)
 ReadsOne value (Err code) r = r ≡ Err code
 

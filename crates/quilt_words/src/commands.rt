@@ -6,7 +6,7 @@ ghost use Rattle.quilt_words.specs.Made.{formed, row_formed, recoloured_command,
 use crate::command::Word;
 use crate::recolour::recolour_command;
 use crate::shapes::{
-    name_colour, name_colour_rings, name_few, name_id_segment, name_number, name_pixel,
+    made, name_colour, name_colour_rings, name_few, name_id_segment, name_number, name_pixel,
     name_pixel_colour, name_pixel_number, name_radius_name, name_shift_name, name_window,
     name_window_colour, name_window_name, nothing, one_name, three_names, two_names,
 };
@@ -24,60 +24,103 @@ pub fn command(
 ) -> Result<Command, Code>
     ensures { formed format (spelled_by further.old) (spelling word) (map (λ w. w.now) words.now) ≡ result }
 {
+    use Command::*;
+
     match word {
-        Word::Region => name_colour(format, words, |(a, c)| Command::Region { a, c }),
+        Word::Region => made(
+            words,
+            |words| name_colour(format, words),
+            |(a, c)| Region { a, c },
+        ),
         Word::Points => points_command(words),
-        Word::Lines => name_few(words, 32, |(l, t)| Command::Lines { l, t }),
-        Word::Drop => one_name(words, |a| Command::Drop { a }),
-        Word::Copy => two_names(words, |(a, b)| Command::Copy { a, b }),
-        Word::Layers => nothing(words, |_| Command::Layers),
-        Word::Blocks => one_name(words, |a| Command::Blocks { a }),
-        Word::Records => nothing(words, |_| Command::Records),
-        Word::Set => name_pixel_colour(format, words, |(a, at, c)| Command::Set { a, at, c }),
-        Word::Rect => name_window_colour(format, words, |(a, w, c)| Command::Rect { a, w, c }),
+        Word::Lines => made(words, |words| name_few(words, 32), |(l, t)| Lines { l, t }),
+        Word::Drop => made(words, one_name, |a| Drop { a }),
+        Word::Copy => made(words, two_names, |(a, b)| Copy { a, b }),
+        Word::Layers => made(words, nothing, |()| Layers),
+        Word::Blocks => made(words, one_name, |a| Blocks { a }),
+        Word::Records => made(words, nothing, |()| Records),
+        Word::Set => made(
+            words,
+            |words| name_pixel_colour(format, words),
+            |(a, at, c)| Set { a, at, c },
+        ),
+        Word::Rect => made(
+            words,
+            |words| name_window_colour(format, words),
+            |(a, w, c)| Rect { a, w, c },
+        ),
         Word::Raster => {
             let rows = further.rows.take();
-            one_name(words, |a| Command::Raster { a, rows })
+            made(words, one_name, |a| Raster { a, rows })
         }
-        Word::At => name_pixel(words, |(a, at)| Command::At { a, at }),
-        Word::Show => name_window(words, |(a, w)| Command::Show { a, w }),
-        Word::Leaves => one_name(words, |a| Command::Leaves { a }),
-        Word::Union => three_names(words, |(a, b, c)| Command::Union { a, b, c }),
-        Word::Inter => three_names(words, |(a, b, c)| Command::Inter { a, b, c }),
-        Word::Diff => three_names(words, |(a, b, c)| Command::Diff { a, b, c }),
+        Word::At => made(words, name_pixel, |(a, at)| At { a, at }),
+        Word::Show => made(words, name_window, |(a, w)| Show { a, w }),
+        Word::Leaves => made(words, one_name, |a| Leaves { a }),
+        Word::Union => made(words, three_names, |(a, b, c)| Union { a, b, c }),
+        Word::Inter => made(words, three_names, |(a, b, c)| Inter { a, b, c }),
+        Word::Diff => made(words, three_names, |(a, b, c)| Diff { a, b, c }),
         Word::Recolour => recolour_command(format, words),
-        Word::Window => name_window_name(words, |(a, w, c)| Command::Window { a, w, c }),
-        Word::Shift => name_shift_name(words, |(a, dx, dy, c)| Command::Shift { a, dx, dy, c }),
-        Word::Buffer => name_radius_name(words, |(a, r, c)| Command::Buffer { a, r, c }),
-        Word::Area => name_colour(format, words, |(a, c)| Command::Area { a, c }),
-        Word::Perimeter => name_colour(format, words, |(a, c)| Command::Perimeter { a, c }),
-        Word::Put => {
-            let make = |(p, at, label)| Command::Put { p, at, label };
-            name_pixel_number(words, 0, u32::MAX, make)
-        }
-        Word::Del => name_pixel(words, |(p, at)| Command::Del { p, at }),
+        Word::Window => made(words, name_window_name, |(a, w, c)| Window { a, w, c }),
+        Word::Shift => made(
+            words,
+            name_shift_name,
+            |(a, dx, dy, c)| Shift { a, dx, dy, c },
+        ),
+        Word::Buffer => made(words, name_radius_name, |(a, r, c)| Buffer { a, r, c }),
+        Word::Area => made(
+            words,
+            |words| name_colour(format, words),
+            |(a, c)| Area { a, c },
+        ),
+        Word::Perimeter => made(
+            words,
+            |words| name_colour(format, words),
+            |(a, c)| Perimeter { a, c },
+        ),
+        Word::Put => made(
+            words,
+            |words| name_pixel_number(words, 0, u32::MAX),
+            |(p, at, label)| Put { p, at, label },
+        ),
+        Word::Del => made(words, name_pixel, |(p, at)| Del { p, at }),
         Word::Scatter => {
             let points = further.points.take();
-            name_number(words, 1, 100_000, |(p, _)| Command::Scatter { p, points })
+            made(
+                words,
+                |words| name_number(words, 1, 100_000),
+                |(p, _)| Scatter { p, points },
+            )
         }
-        Word::Find => name_pixel(words, |(p, at)| Command::Find { p, at }),
-        Word::Within => name_window(words, |(p, w)| Command::Within { p, w }),
-        Word::Line => name_id_segment(words, |(l, id, seg)| Command::Line { l, id, seg }),
-        Word::Unline => name_number(words, 0, u32::MAX, |(l, id)| Command::Unline { l, id }),
-        Word::Cross => name_window(words, |(l, w)| Command::Cross { l, w }),
-        Word::Clip => name_window(words, |(l, w)| Command::Clip { l, w }),
-        Word::Nearest => name_pixel(words, |(l, at)| Command::Nearest { l, at }),
-        Word::Over => two_names(words, |(l, a)| Command::Over { l, a }),
-        Word::Edition => nothing(words, |_| Command::Edition),
-        Word::Publish => nothing(words, |_| Command::Publish),
-        Word::Upgrade => nothing(words, |_| Command::Upgrade),
-        Word::Revert => nothing(words, |_| Command::Revert),
+        Word::Find => made(words, name_pixel, |(p, at)| Find { p, at }),
+        Word::Within => made(words, name_window, |(p, w)| Within { p, w }),
+        Word::Line => made(words, name_id_segment, |(l, id, seg)| Line { l, id, seg }),
+        Word::Unline => made(
+            words,
+            |words| name_number(words, 0, u32::MAX),
+            |(l, id)| Unline { l, id },
+        ),
+        Word::Cross => made(words, name_window, |(l, w)| Cross { l, w }),
+        Word::Clip => made(words, name_window, |(l, w)| Clip { l, w }),
+        Word::Nearest => made(words, name_pixel, |(l, at)| Nearest { l, at }),
+        Word::Over => made(words, two_names, |(l, a)| Over { l, a }),
+        Word::Edition => made(words, nothing, |()| Edition),
+        Word::Publish => made(words, nothing, |()| Publish),
+        Word::Upgrade => made(words, nothing, |()| Upgrade),
+        Word::Revert => made(words, nothing, |()| Revert),
         Word::Polygon => {
             let rings = further.rings.take();
-            name_colour_rings(format, words, |(a, c, _)| Command::Polygon { a, c, rings })
+            made(
+                words,
+                |words| name_colour_rings(format, words),
+                |(a, c, _)| Polygon { a, c, rings },
+            )
         }
-        Word::Rank => name_pixel_number(words, 1, 100_000, |(l, at, k)| Command::Rank { l, at, k }),
-        Word::Crossings => two_names(words, |(l, m)| Command::Crossings { l, m }),
+        Word::Rank => made(
+            words,
+            |words| name_pixel_number(words, 1, 100_000),
+            |(l, at, k)| Rank { l, at, k },
+        ),
+        Word::Crossings => made(words, two_names, |(l, m)| Crossings { l, m }),
     }
 }
 
@@ -85,7 +128,11 @@ fn points_command(words: &[&[u8]]) -> Result<Command, Code>
     ensures { (f : ℕ) (more : Further) → formed f more (codes "points") (map (λ w. w.now) words.now) ≡ result }
 {
     if words.len() == 1 {
-        return one_name(words, |p| Command::Points { p, bucket: 1 });
+        return made(words, one_name, |p| Command::Points { p, bucket: 1 });
     }
-    name_few(words, 16, |(p, bucket)| Command::Points { p, bucket })
+    made(
+        words,
+        |words| name_few(words, 16),
+        |(p, bucket)| Command::Points { p, bucket },
+    )
 }
