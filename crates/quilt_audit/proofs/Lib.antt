@@ -1,3 +1,4 @@
+pub mod CodeCount
 pub mod Bits
 pub mod Lists
 pub mod Covering

@@ -1,5 +1,5 @@
 -- Lists with an element more at the end, and lists that begin others.
-use Rattle.std.proofs.Common.{◌≡◌, ℕ, ◌+◌, ◌<◌, ◌≤◌, ◌⊎◌, List, [], ◌∷◌, ◌++◌, length, take, get_or, refl, sym, ◌∙◌, ap, ap₂, subst, inl, inr, ⊎_elim, arith}
+use Rattle.std.proofs.Common.{◌≡◌, ℕ, ◌+◌, ◌<◌, ◌≤◌, ◌⊎◌, List, [], ◌∷◌, ◌++◌, length, take, get_or, refl, sym, ◌∙◌, ap, subst, inl, inr, ⊎_elim, arith}
 use Rattle.std.proofs.Common.{Contains, length-append, Ordering, Less, Equal}
 use Rattle.std.specs.Cmp.{IsTotalOrder, tied_itself}
 use Rattle.std.proofs.lemmas.List.{take_more, take_all}
@@ -62,12 +62,6 @@ module _ {X : Type 0} where
   same_tail [] (y ∷ ys) s t l e = let n = ap length e in let a = length-append ys t in absurd (omega arith)
   same_tail (x ∷ xs) [] s t l e = let n = ap length e in let a = length-append xs s in absurd (omega arith)
   same_tail (x ∷ xs) (y ∷ ys) s t l e = let r : xs ++ s ≡ ys ++ t = cc in same_tail xs ys s t l r
-
-  pub same_front : (xs ys s : List X) → xs ++ s ≡ ys ++ s → xs ≡ ys
-  same_front [] [] s e = refl
-  same_front [] (y ∷ ys) s e = let n = ap length e in let a = length-append ys s in absurd (omega arith)
-  same_front (x ∷ xs) [] s e = let n = ap length e in let a = length-append xs s in absurd (omega arith)
-  same_front (x ∷ xs) (y ∷ ys) s e = let h : x ≡ y = cc in let r : xs ++ s ≡ ys ++ s = cc in ap₂ ◌∷◌ h (same_front xs ys s r)
 
   -- what stands before another element of a rising list
   pub rises_before : (R : X → X → Ordering) (xs ys : List X) (x y : X) → Rises R (xs ++ ys) → Contains xs x → Contains ys y → R x y ≡ Less

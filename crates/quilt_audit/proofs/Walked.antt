@@ -1,22 +1,20 @@
 -- Tests of the keys of a page, and the children of one with their bounds.
-use Rattle.std.proofs.Common.{◌≡◌, ℕ, zero, suc, ◌+◌, ◌-◌, ◌<◌, ◌≤◌, Bool, true, false, ◌&&◌, nat_le, nat_lt, List, [], ◌∷◌, ◌++◌, map, length, take, drop}
-use Rattle.std.proofs.lemmas.Bool.{and_parts, leb-true}
-use Rattle.std.proofs.Common.{get_or, Option, Some, None, refl, sym, ◌∙◌, ap, subst, arith, slice_index, slice_index_or, ltb-true, cond, eqb, eq-eqb, ⊎_elim}
+use Rattle.std.proofs.Common.{◌≡◌, ℕ, zero, suc, ◌+◌, ◌-◌, ◌<◌, ◌≤◌, Bool, true, false, ◌&&◌, List, [], ◌∷◌, ◌++◌, map, length, take, drop}
+use Rattle.std.proofs.Common.{Option, Some, None, refl, sym, ◌∙◌, ap, subst, arith, slice_index, slice_index_or, cond, eqb, eq-eqb, ⊎_elim}
 use Rattle.std.proofs.Common.{Result, Ok, Err, OnOk, OnErr, IfErr}
 use Rattle.std.specs.Prelude.{◌==◌}
 use Rattle.std.specs.List.{list_all, list_any, slice_get, range_with_len}
 use Rattle.std.proofs.lemmas.List.FromFn.{length-range_with_len}
 use Rattle.std.specs.Option.{option_or, option_map}
 use Rattle.std.proofs.lemmas.Option.{slice_get-map, slice_get_within, get_or_from_slice_get}
-use Rattle.std.proofs.lemmas.List.{take_more, take_all, get_or_default, drop_all}
+use Rattle.std.proofs.lemmas.List.{take_more}
 use Rattle.quilt_record.specs.declared.key.Key.{Key}
 use Rattle.quilt_record.specs.declared.record.Record.{Record}
-use Rattle.quilt_loc.proofs.Members.{list_all-at, Contains-nil, Contains-cons_cases, Contains-range}
-use Rattle.quilt_node.specs.Nodes.{are_pages}
+use Rattle.quilt_loc.proofs.Members.{Contains-nil, Contains-cons_cases, Contains-range}
 use Rattle.quilt_node.specs.Pages.{leaf_of, inner_of}
 use Rattle.quilt_node.specs.Tree.{Bounds, Walk, Whole, Damaged, bounded, behind, each_child, leaf_walk, inner_walk, walk}
 use Rattle.quilt_world.specs.Tale.{Goes}
-use Rattle.quilt_btree.proofs.subtrees.Walks.{if_true, if_false}
+use Rattle.quilt_btree.proofs.subtrees.Walks.{if_false}
 use Rattle.quilt_types.specs.declared.stop.Stop.{Stop}
 use Rattle.quilt_types.specs.declared.stop.Stop.TheVariants.{Device, Memory, Damaged as Says}
 use Rattle.quilt_audit.specs.Surveys.{OnDamaged}
@@ -66,9 +64,6 @@ all_stops p (y ∷ ys) (suc i) x at f = later (p y) (all_stops p ys i x at f)
     later : (b : Bool) → false ≡ list_all p ys → false ≡ (b && list_all p ys)
     later true e = e
     later false e = refl
-
-pub all_whole : {X : Type 0} (p : X → Bool) (xs : List X) (i : ℕ) → length xs ≤ i → list_all p (take i xs) ≡ true → true ≡ list_all p xs
-all_whole p xs i le h = sym (sym (ap (list_all p) (take_all i xs le)) ∙ h)
 
 pub key_of_record : (rs : List Record) (i : ℕ) (r : Record) → slice_get rs i ≡ Some r → slice_get (map (λ (s : Record). s.key) rs) i ≡ Some r.key
 key_of_record rs i r at = slice_get-map (λ (s : Record). s.key) rs i ∙ ap (option_map (λ (s : Record). s.key)) at
@@ -162,16 +157,6 @@ bounded_at (d ∷ ds) [] (suc i) c low high lt long is = absurd (omega arith)
 bounded_at (d ∷ ds) (k ∷ ks) zero c low high lt long is = ap (λ z. (z, from_to low (Some k)) ∷ bounded ds ks (from_to (Some k) high)) (sym is)
 bounded_at (d ∷ ds) (k ∷ ks) (suc i) c low high lt long is = bounded_at ds ks i c low high (omega arith) (omega arith) is
 
-pub child_in_range : (size : ℕ) (children : List ℕ) (i c : ℕ) → are_pages size children ≡ true → i < length children
-    → c ≡ slice_index children i → (1 ≤ c) × (c < size)
-child_in_range size children i c all lt is =
-    let t = list_all-at (λ n. nat_le 1 n && nat_lt n size) children c all (i, lt, member) in
-    let both = and_parts (nat_le 1 c) (nat_lt c size) t in
-    (leb-true 1 c both.0, ltb-true c size both.1)
-  where
-    member : get_or children i c ≡ c
-    member = get_or_default children i c 0 lt ∙ sym is
-
 module _ (size : ℕ) (told : Option (List (List ℕ))) (height : ℕ) (children : List ℕ) (keys : List Key) (low high : Option Key) where
   -- the walk of all children, and of those from a place on
   abbrev pub of_all : List ℕ → List (List ℕ) → Walk
@@ -221,24 +206,6 @@ module _ (size : ℕ) (told : Option (List (List ℕ))) (height : ℕ) (children
         h.walks pages e
         ∙ ap (λ l. each_child visit l (Whole h.rs h.now)) (bounded_at children keys i c from high lt long is)
         ∙ ap (λ v. each_child visit rest (behind h.rs v)) w' ∙ damaged_stays visit rest p
-
-  -- where all were visited
-  pub reached_all : (i : ℕ) (from : Option Key) (visited : List ℕ) (old new : Surveying) (x y : Option ℕ) → length children ≤ i
-      → Reached size told (of_all visited) (of_rest i from) visited old new x y → Found size told (of_all visited) visited old new x y
-  reached_all i from visited old new x y le h = record {
-    rs = h.rs;
-    now = h.now;
-    added = h.added;
-    walks = λ pages e. h.walks pages e
-        ∙ ap (λ l. each_child (walk pages height false) (bounded l (drop i keys) (from_to from high)) (Whole h.rs h.now)) (drop_all i children le);
-  }
-
--- ---- a page
-pub walk_seen : (pages : List (List ℕ)) (height : ℕ) (is_root : Bool) (at : ℕ × Bounds) (visited : List ℕ) → 1 ≤ height
-    → list_any (λ v. v == at.0) visited ≡ true → walk pages height is_root at visited ≡ Damaged at.0
-walk_seen pages zero is_root at visited some t = absurd (omega arith)
-walk_seen pages (suc zero) is_root at visited some t = if_true _ _ _ t
-walk_seen pages (suc (suc h)) is_root at visited some t = if_true _ _ _ t
 
 pub walk_leaf : (pages : List (List ℕ)) (is_root : Bool) (at : ℕ × Bounds) (visited : List ℕ) → list_any (λ v. v == at.0) visited ≡ false
     → walk pages 1 is_root at visited ≡ leaf_walk is_root at.1 at.0 visited (leaf_of (slice_index_or pages at.0 []))

@@ -135,12 +135,6 @@ module _ (size : ℕ) (told : Option (List (List ℕ))) (head : Head) (s : Surve
         (ap length same ∙ count);
   }
 
-  pub reads_from : (records : List Record) (visited : List ℕ) → walk_of pages head.root head.height ≡ Whole records visited
-      → Goes {A = ℕ} (λ was is. is ≤ was + length visited) before after
-  reads_from records visited w =
-      let same = (whole_same h.rs records h.now visited (sym (h.walks pages is_told) ∙ w)).1 in
-      subst (λ (l : List ℕ). Goes {A = ℕ} (λ was is. is ≤ was + length l) before after) same h.reads
-
 -- where a page is damaged
 pub damage_at : (pages : List (List ℕ)) (head : Head) (page : ℕ) → walk_of pages head.root head.height ≡ Damaged page → IsDamage pages head page
 damage_at pages head page w = record {

@@ -12,7 +12,6 @@ use Rattle.quilt_types.specs.Layers.{SegMap, BlockSet}
 use Rattle.quilt_types.specs.Facts.{Fact, line_facts}
 use Rattle.quilt_loc.proofs.Members.{Contains-nil, Contains-here, Contains-cons_cases}
 use Rattle.quilt_record.specs.declared.record.Record.{Record}
-use Rattle.quilt_spell.specs.Apart.{Apart}
 use Rattle.quilt_line_laws.specs.Lines.{IsMet, none_on}
 use Rattle.quilt_line_laws.specs.Merging.{is_one, coming_in, going_in, staying_in}
 use Rattle.quilt_line_laws.specs.Counting.{gone_of_quarter}
@@ -42,21 +41,6 @@ list_all-next p (c ∷ bs) b = ap (λ (u : Bool). p c && u) (list_all-next p bs 
     and_more false v w = refl
 
 module _ (n layer t id : ℕ) (segs : SegMap) (cover : BlockSet) (s : Seg) (k : ℕ) where
-  pub gathers_none : (x : Settled) → x.one ≡ true → x.ids.items ≡ [] → x.parts.items ≡ [] → x.coming.items ≡ [] → x.going.items ≡ [] → x.staying.items ≡ []
-      → x.emptied.items ≡ []
-      → Gathers n layer t id segs cover s k [] x
-  gathers_none x one ids parts coming going staying emptied = record {
-    one = one;
-    once = subst Apart (sym ids) tt;
-    from = λ _ i c. absurd (Contains-nil i (subst (λ (l : List ℕ). Contains l i) ids c));
-    all = λ _ _ b c. absurd (Contains-nil b c);
-    parts = λ _. parts;
-    coming = coming;
-    going = going;
-    staying = staying;
-    emptied = emptied;
-  }
-
   pub gathers_next : (bs : List Block) (b : Block) (x y z : Settled) → Gathers n layer t id segs cover s k bs x → SettlesBlock n layer t id segs cover s k b y
       → IsGathered t x y z
       → Gathers n layer t id segs cover s k (bs ++ b ∷ []) z

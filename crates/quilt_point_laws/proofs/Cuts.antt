@@ -1,22 +1,15 @@
 -- No block stands twice in a cut, and no fact twice among the facts of blocks that differ.
-use Rattle.std.proofs.Common.{◌≡◌, ℕ, zero, suc, ◌+◌, ◌/◌, ◌^◌, ◌<◌, ◌≤◌, Bool, true, false, cond, List, [], ◌∷◌, map, ap, subst, arith, ⊎_elim, Contains}
-use Rattle.std.proofs.Common.{filter, flat_map, pow-suc, pow_pos}
-use Rattle.std.specs.FinMap as finmap
+use Rattle.std.proofs.Common.{◌≡◌, ℕ, zero, suc, ◌+◌, ◌/◌, ◌^◌, ◌<◌, ◌≤◌, Bool, true, false, cond, [], ◌∷◌, ap, subst, arith, ⊎_elim, Contains}
+use Rattle.std.proofs.Common.{flat_map, pow-suc, pow_pos}
 use Rattle.quilt_types.specs.declared.plane.Block.{Block}
-use Rattle.quilt_types.specs.declared.plane.Pixel.{Pixel}
-use Rattle.quilt_types.specs.Plane.{corner, quarters_of, in_block, IsBlock, Within}
-use Rattle.quilt_types.specs.Layers.{PointMap}
-use Rattle.quilt_types.specs.Facts.{Fact, HoldsPoint, HoldsNoPoint, point_facts}
+use Rattle.quilt_types.specs.Plane.{corner, quarters_of, IsBlock, Within}
 use Rattle.quilt_blocks.specs.Cutting.{cut}
 use Rattle.quilt_spell.specs.Apart.{Apart}
 use Rattle.quilt_loc.proofs.Members.{Contains-nil, Contains-cons_cases, Contains-flat_map_from}
 use Rattle.quilt_loc.proofs.Nesting.{Within-holds, Within-trans, Holds-corner, same_block_from}
-use Rattle.quilt_spell.proofs.Lists.{Apart-filter, Apart-map, Apart-flat_map}
+use Rattle.quilt_spell.proofs.Lists.{Apart-flat_map}
 use Rattle.quilt_loc.proofs.Quartered.{quarters_are}
 use Rattle.quilt_blocks.proofs.Maximal.{Within-self}
-use Rattle.quilt_point_laws.proofs.Counts.{entries_apart}
-use Rattle.quilt_point_laws.proofs.OnBlocks.{on_one, on_from}
-use Rattle.quilt_spell.proofs.facts.FactKeys.{or_none_apart}
 
 pub Apart-one : {X : Type 0} (x : X) → Apart (x ∷ [])
 Apart-one x = (λ c. Contains-nil x c, tt)
@@ -94,21 +87,3 @@ module _ (n : ℕ) (fits : Block → Bool) where
       let l = cut_part k u v.block (omega arith) e y in
       let on = Holds-corner n e m.block in
       same_block_from n r u (corner e) q.block v.block (omega arith) (Within-holds e r (corner e) m.within on) (Within-holds e u (corner e) l.within on))
-
-  pub cut_apart : (k : ℕ) (b : Block) → IsBlock n b → b.side ≡ 2 ^ k → Apart (cut fits k b)
-  cut_apart zero b hb s = Apart-one b
-  cut_apart (suc k) b hb s = apart_step k b hb s (λ r hr sr. cut_apart k r hr sr) (fits b)
-
-pub point_facts_apart : (points : PointMap) (b : Block) → Apart (point_facts points b)
-point_facts_apart points b =
-    let es = finmap.entries points in
-    let test : Pixel × ℕ → Bool = λ e. in_block b e.0 in
-    let fact : Pixel × ℕ → Fact = λ e. HoldsPoint b e.0 e.1 in
-    or_none_apart (HoldsNoPoint b) (map fact (filter test es))
-    (Apart-map fact (filter test es) (λ x y _ _ e. let p : x.0 ≡ y.0 = cc in let l : x.1 ≡ y.1 = cc in λ i. (p i, l i))
-    (Apart-filter test es (entries_apart points)))
-
-pub blocks_facts_apart : (points : PointMap) (bs : List Block) → Apart bs → Apart (flat_map (point_facts points) bs)
-blocks_facts_apart points bs h =
-    Apart-flat_map (point_facts points) bs h (λ b _. point_facts_apart points b)
-    (λ b d f _ _ c k. on_one points points b d f (on_from points b f c) (on_from points d f k))

@@ -11,7 +11,5 @@ pub mod Plans
 pub mod Merging
 pub mod Scattering
 pub mod Gains
-pub mod Finding
-pub mod Stepping
 pub mod Fewer
 pub mod Beginnings

@@ -1,12 +1,11 @@
 -- What a del has to read on its way up, and what it takes out: whole blocks beside the path, and their points together.
-use Rattle.std.proofs.Common.{◌≡◌, ℕ, ◌^◌, ◌<◌, Bool, true, nat_le, List, length, inl, sym, ◌∙◌, ap, arith, ⊎_elim, Contains, flat_map, pow_pos, pow-suc}
+use Rattle.std.proofs.Common.{◌≡◌, ℕ, ◌^◌, ◌<◌, Bool, true, List, inl, sym, ◌∙◌, ap, arith, ⊎_elim, Contains, flat_map, pow_pos, pow-suc}
 use Rattle.std.specs.FinMap as finmap
 use Rattle.quilt_types.specs.declared.plane.Block.{Block}
 use Rattle.quilt_types.specs.declared.plane.Pixel.{Pixel}
 use Rattle.quilt_types.specs.Plane.{in_block, parent_of, quarters_of, whole, IsBlock, Holds, Within}
-use Rattle.quilt_types.specs.Layers.{Points, PointMap}
+use Rattle.quilt_types.specs.Layers.{PointMap}
 use Rattle.quilt_types.specs.Quadtrees.{holds_few}
-use Rattle.quilt_types.specs.Facts.{Fact, facts}
 use Rattle.quilt_loc.proofs.Members.{Contains-filter, Contains-filter_from, Contains-flat_map, Contains-flat_map_from}
 use Rattle.quilt_loc.proofs.Blocks.{Holds-from, in_block-true}
 use Rattle.quilt_loc.proofs.Nesting.{around, Within-holds, nested, same_block_from, side_pos, parent_within, IsBlock-parent_of, Within-parent_of}
@@ -14,13 +13,10 @@ use Rattle.quilt_loc.proofs.Around.{IsBlock-around, Holds-around}
 use Rattle.quilt_spell.proofs.Lists.{Apart-flat_map}
 use Rattle.quilt_loc.proofs.Quartered.{quarters_are, side_le, Within-whole, halved}
 use Rattle.quilt_blocks.proofs.Maximal.{IsMaximal, GoesDown, quarter_with}
-use Rattle.quilt_point_laws.proofs.Narrowing.{Narrows, in_or_out, one_maximal, in_maximal, stays, comes_from}
-use Rattle.quilt_point_laws.proofs.Counts.{Comes, few_down, few_narrows}
-use Rattle.quilt_point_laws.proofs.OnBlocks.{OfBlock, fact_is}
-use Rattle.quilt_point_laws.proofs.LocalFacts.{on_grows, on_shrinks}
+use Rattle.quilt_point_laws.proofs.Narrowing.{Narrows}
+use Rattle.quilt_point_laws.proofs.Counts.{Comes, few_narrows}
 use Rattle.quilt_point_laws.proofs.Cuts.{quarters_apart}
 use Rattle.quilt_point_laws.specs.Laws.{AreIn}
-use Rattle.quilt_point_laws.proofs.Plans.{AreIn-length}
 
 -- b: the block around the pixel, x: one on the way up. Where the parent of x passes, its other quarters are maximal blocks of before
 pub siblings : (n : ℕ) (wide thin : Block → Bool) (p : Pixel) → GoesDown n wide → GoesDown n thin → Narrows wide thin p
@@ -107,43 +103,7 @@ AreIn-same small big p label h r out held are =
       );
     }
 
--- the test of a parent is how long the lists of its quarters are together
-pub parent_test : (n capacity : ℕ) (points : PointMap) (b : Block) → IsBlock n b → 1 < b.side → (hs : Block → List (Pixel × ℕ))
-    → ((r : Block) → Contains (quarters_of b) r → AreIn points r (hs r))
-    → holds_few capacity points b ≡ nat_le (length (flat_map hs (quarters_of b))) capacity
-parent_test n capacity points b hb wide hs are =
-    ap (λ m. nat_le m capacity) (sym (AreIn-length points b (flat_map hs (quarters_of b)) (AreIn-quarters n points b hb wide hs are)))
-
 module _ (small big : PointMap) (p : Pixel) (label : ℕ) (h : Comes small big p label) (n capacity : ℕ) (c : Block)
     (gc : IsMaximal n (holds_few capacity small) c) (hc : Holds c p) where
   abbrev nar : Narrows (holds_few capacity small) (holds_few capacity big) p
   nar = few_narrows small big p label h capacity
-
-  -- a fact on another block stays
-  pub others_stay : (f : Fact) (w : OfBlock n capacity small f) → (w.block ≡ c → ⊥) → Contains (facts n (Points capacity big)) f
-  others_stay f w other =
-      let ds = few_down n capacity small in
-      ⊎_elim (λ on. absurd (other (one_maximal n (holds_few capacity small) ds w.block c p w.maximal gc on hc)))
-      (λ out.
-      ⊎_elim
-      (λ o. fact_is n capacity big f
-      (record {
-        block = w.block;
-        maximal = stays n (holds_few capacity small) (holds_few capacity big) p ds (few_down n capacity big) nar w.block w.maximal out;
-        on = o;
-      }))
-      (λ x. absurd (out x.0)) (on_grows small big p label h w.block f w.on))
-      (in_or_out w.block p)
-
-  -- and a fact on a block that does not lie in it was there
-  pub others_were : (f : Fact) (w : OfBlock n capacity big f) → (Within w.block c → ⊥) → Contains (facts n (Points capacity small)) f
-  others_were f w other =
-      let ds = few_down n capacity small in
-      let db = few_down n capacity big in
-      ⊎_elim (λ on. absurd (other (in_maximal n (holds_few capacity small) ds w.block c p (w.maximal).block (nar.less w.block (w.maximal).passes) on gc hc)))
-      (λ out. ⊎_elim
-      (λ g. ⊎_elim (λ o. fact_is n capacity small f (record { block = w.block; maximal = g; on = o })) (λ x. absurd (out x.0))
-      (on_shrinks small big p label h w.block f w.on))
-      (λ v. absurd (other v))
-      (comes_from n (holds_few capacity small) (holds_few capacity big) p ds db nar c gc hc w.block w.maximal out))
-      (in_or_out w.block p)

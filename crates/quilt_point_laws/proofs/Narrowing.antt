@@ -105,19 +105,6 @@ module _ (n : ℕ) (wide thin : Block → Bool) (p : Pixel) (goes_wide : GoesDow
             (λ r. r.0) h,
       )
 
-      pub wide_are : (e : Block) → IsMaximal n wide e ↔ ((IsMaximal n thin e × (Within e c → ⊥)) ⊎ (e ≡ c))
-      wide_are e = (
-        λ ge. ⊎_elim
-            (λ on. inr (one_maximal n wide goes_wide e c p ge gc on hc))
-            (λ out. inl (stays e ge out, λ w. out (subst (λ (z : Block). Holds z p) (sym (alone n wide goes_wide e c ge gc.block gc.passes w)) hc)))
-            (in_or_out e p),
-        λ h. ⊎_elim
-            (λ l. ⊎_elim
-            (λ on. absurd (l.1 (in_maximal n wide goes_wide e c p (l.0).block (nar.less e (l.0).passes) on gc hc)))
-            (λ out. ⊎_elim (λ g. g) (λ w. absurd (l.1 w)) (comes_from e l.0 out)) (in_or_out e p))
-            (λ is. subst (IsMaximal n wide) (sym is) gc) h,
-      )
-
       -- the thin test's blocks within it are what the recursion over quarters finds
       pub cut_within : ((b : Block) → IsBlock n b → b.side ≡ 1 → thin b ≡ true) → (k : ℕ) → c.side ≡ 2 ^ k → (e : Block) → Contains (cut thin k c) e
           ↔ (IsMaximal n thin e × Within e c)

@@ -62,11 +62,6 @@ shaped_on n capacity points valid b hb f o = absurd o
 pub shaped : (n capacity : ℕ) (points : PointMap) → IsPointMap 2 n capacity points → (f : Fact) → (w : OfBlock n capacity points f) → IsShaped n w.block f
 shaped n capacity points valid f w = shaped_on n capacity points valid w.block (w.maximal).block f w.on
 
--- the block of a fact that fits
-pub fits_block : (n : ℕ) (b : Block) (held : Option Point) → FactFits n (point_fact b held) → IsBlock n b
-fits_block n b None h = h
-fits_block n b (Some p) h = h.0
-
 -- the record does not depend on the layer's name
 pub point_record_is : (n capacity layer : ℕ) (b : Block) (held : Option Point) → 1 ≤ layer → layer ≤ 255 → FactFits n (point_fact b held)
     → IsRecordOf n capacity (block_record n capacity layer (point_fact b held)) layer (point_fact b held)

@@ -153,11 +153,6 @@ single_held n capacity points b c held one same r =
     let read = subst (λ (z : Block). IsBlockRead n capacity points z held) same r in
     record { block = read.block; are = one_held n points b capacity held one read }
 
--- ---- what a search knows after a call that only reads
-pub seen_along : (old new : Option (List (List ℕ))) (t : Tree) (n capacity number : ℕ) (b : Block) (held : Option Point) → new ≡ old
-    → IsSeen old t n capacity number b held → IsSeen new t n capacity number b held
-seen_along old new t n capacity number b held e h = subst (λ (o : Option (List (List ℕ))). IsSeen o t n capacity number b held) (sym e) h
-
 pub search_along : (old new : Option (List (List ℕ))) (t : Tree) (n capacity number : ℕ) (s : Search) → new ≡ old
     → IsSearch old t n capacity number s → IsSearch new t n capacity number s
 search_along old new t n capacity number s e h = subst (λ (o : Option (List (List ℕ))). IsSearch o t n capacity number s) (sym e) h

@@ -1,5 +1,5 @@
 -- Two walks in step: which leaves are in one list alone.
-use Rattle.std.proofs.Common.{◌≡◌, ℕ, ◌+◌, ◌*◌, ◌^◌, ◌<◌, ◌≤◌, Bool, true, false, not, List, [], ◌∷◌, ◌++◌, map, filter, Contains, ◌↔◌, Option}
+use Rattle.std.proofs.Common.{◌≡◌, ℕ, ◌+◌, ◌*◌, ◌^◌, ◌<◌, ◌≤◌, Bool, true, false, not, List, [], ◌∷◌, ◌++◌, map, filter, Contains, ◌↔◌, ◌⊎◌, Option}
 use Rattle.std.proofs.Common.{Some, None, IfSome, IsNone, refl, sym, ◌∙◌, ap, subst, ⊎_elim, arith, eqb, eqb-true, eq-eqb, ◌&&◌, append-nil}
 use Rattle.std.specs.Option.{option_zip, is_some}
 use Rattle.quilt_types.specs.declared.plane.Block.{Block}
@@ -196,6 +196,26 @@ pub within_alone : (n : ℕ) (h : Grid) (at : ℕ) (b : Leaf) → n ≤ 12 → I
     → code_from b.block < code_from e.0 → code_from e.0 < code_to b.block → only_test n h e ≡ true
 within_alone n h at b le leaf e low high =
     inside_alone n h e (leaf_pair b) le leaf.member (omega arith) high (λ same. let z = ap (λ (d : Block × ℕ). code_from d.0) same in absurd (omega arith))
+
+-- of two leaves at one code, one of each grid, the larger block
+module _ (n : ℕ) (g h : Grid) (le : n ≤ 12) (at : ℕ) (a b : Leaf) (first : IsLeafAt n g at (leaf_pair a)) (second : IsLeafAt n h at (leaf_pair b))
+    (whole : Block) (one : (whole ≡ a.block) ⊎ (whole ≡ b.block)) where
+  pub larger_from : code_from whole ≡ at
+  larger_from = ⊎_elim (λ e. ap code_from e ∙ first.from) (λ e. ap code_from e ∙ second.from) one
+
+  pub larger_block : IsBlock n whole
+  larger_block = ⊎_elim (λ e. subst (IsBlock n) (sym e) first.block) (λ e. subst (IsBlock n) (sym e) second.block) one
+
+  -- what begins within it, not at its first code, is in one list alone
+  pub larger_alone : (e : Block × ℕ) → Contains (leaves n g) e → code_from whole < code_from e.0 → code_from e.0 < code_to whole → only_test n h e ≡ true
+  larger_alone e member low high =
+      ⊎_elim
+      (λ is. let own = within_alone n g at a le first e (subst (λ (w : Block). code_from w < code_from e.0) is low)
+      (subst (λ (w : Block). code_from e.0 < code_to w) is high) in
+      let no : true ≡ false = sym own ∙ both_have n g e member in cc)
+      (λ is. within_alone n h at b le second e (subst (λ (w : Block). code_from w < code_from e.0) is low)
+      (subst (λ (w : Block). code_from e.0 < code_to w) is high))
+      one
 
 -- the level and the grid go by other names
 pub go_on_at : (k n layer : ℕ) (g h : Grid) (b : Block) (old new : List Record) (before rest : List (Block × ℕ)) → k ≡ n → g ≡ h

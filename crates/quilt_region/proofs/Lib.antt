@@ -2,7 +2,7 @@ pub mod Trees
 pub mod Records
 pub mod Floors
 pub mod Leaves
-pub mod Progress
+pub mod Whole
 pub mod Parts
 pub mod Results
 pub mod Edited

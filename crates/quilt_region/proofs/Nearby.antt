@@ -1,5 +1,5 @@
 -- Blocks around a window, and what the quarters of a block around another one say.
-use Rattle.std.proofs.Common.{◌≡◌, ℕ, suc, pow-suc, ◌+◌, ◌*◌, ◌^◌, ◌<◌, ◌≤◌, true, false, ◌&&◌, List, [], ◌∷◌, length, get_or, refl, sym, ◌∙◌, ap, subst}
+use Rattle.std.proofs.Common.{◌≡◌, ℕ, suc, pow-suc, ◌+◌, ◌*◌, ◌^◌, ◌<◌, ◌≤◌, true, false, ◌&&◌, [], ◌∷◌, length, get_or, refl, sym, ◌∙◌, ap, subst}
 use Rattle.std.proofs.Common.{⊎_elim, Contains, arith, nat_le}
 use Rattle.std.proofs.lemmas.Nat.{pow_below}
 use Rattle.std.proofs.lemmas.Bool.{cases_lt, cases_Bool, and_parts, leb-true}
@@ -26,7 +26,6 @@ use Rattle.quilt_blocks.proofs.Inside.{smaller_inside}
 use Rattle.quilt_blocks.proofs.Leaves.{uniform_down}
 use Rattle.quilt_blocks.proofs.Listed.{held_in}
 use Rattle.quilt_blocks.proofs.Maximal.{alone}
-use Rattle.quilt_spell.specs.Apart.{Apart}
 use Rattle.quilt_spell.proofs.Lists.{Apart-le, Apart-rises}
 use Rattle.quilt_region.specs.Windows.{HoldsWindow, IsLeafWith, IsCutOut, HasAround, leaves_within}
 use Rattle.quilt_region.proofs.Beside.{not_held, held_not}
@@ -296,30 +295,6 @@ pixel_block n w t =
     let right = i.right in
     let bottom = i.bottom in
     record { level = 0; low = omega arith; size = refl; on_x = omega arith; on_y = omega arith; in_x = omega arith; in_y = omega arith }
-
-pub pixel_holds : (w : Window) → w.w ≡ 1 → w.h ≡ 1 → HoldsWindow (record { y = w.y; x = w.x; side = 1 }) w
-pixel_holds w a b = record { left = omega arith; right = omega arith; top = omega arith; bottom = omega arith }
-
--- at most one leaf begins at it
-pub pixel_within : (n : ℕ) (g : Grid) (x y : ℕ) → n ≤ 12 → IsBlock n (record { y = y; x = x; side = 1 })
-    → length (leaves_within n g (record { y = y; x = x; side = 1 })) ≤ 1
-pixel_within n g x y le hb =
-    let b : Block = record { y = y; x = x; side = 1 } in
-    few (leaves_within n g b) (Apart-rises _ leaf_total (leaves_within n g b) (within_rise n g b le hb))
-    (λ d e c k.
-    let run = leaves_run n g le in
-    let u = within_from n g b le hb d c in
-    let v = within_from n g b le hb e k in
-    let du = u.1 in
-    let dv = u.2 in
-    let eu = v.1 in
-    let ev = v.2 in
-    let pos = member_pos n d.0 (leaf_is n g d u.0).maximal.block in
-    same_member n 0 (leaves_by_code n g) d e run.follows ((leaves_members n g d).1 u.0) ((leaves_members n g e).1 v.0) (omega arith) (omega arith))
-  where
-    few : (es : List (Block × ℕ)) → Apart es → ((d e : Block × ℕ) → Contains es d → Contains es e → d ≡ e) → length es ≤ 1
-    few [] apart same = omega arith
-    few (x ∷ xs) apart same = Apart-le (x ∷ xs) (x ∷ []) apart (λ d c. subst (Contains (x ∷ [])) (same x d (Contains-here x xs) c) (Contains-here x []))
 
 -- a power of two that is at most another one
 pub power_le : (i j : ℕ) {s : ℕ} → s ≡ 2 ^ j → 2 ^ i ≤ s → i ≤ j

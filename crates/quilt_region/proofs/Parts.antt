@@ -42,6 +42,10 @@ HasColours-push n f old new b c le h at same is has =
 pub HasColours-at : (n m : ℕ) (f : Pixel → ℕ) (colours : List ℕ) → n ≡ m → HasColours n f colours → HasColours m f colours
 HasColours-at n m f colours e h = subst (λ (k : ℕ). HasColours k f colours) e h
 
+-- and so are the colours that are added there
+pub HasColours-added : (n m : ℕ) (f : Pixel → ℕ) (old new : List ℕ) → n ≡ m → (HasColours n f old → HasColours n f new) → HasColours m f old → HasColours m f new
+HasColours-added n m f old new e h = subst (λ (k : ℕ). HasColours k f old → HasColours k f new) e h
+
 pub IsBlock-at : (n m : ℕ) (b : Block) → n ≡ m → IsBlock n b → IsBlock m b
 IsBlock-at n m b e h = subst (λ (k : ℕ). IsBlock k b) e h
 

@@ -1,11 +1,17 @@
 -- What is answered of the records of a layer, said of a tree that has the layer.
 use Rattle.std.proofs.Common.{◌≡◌, ℕ, List, Option, Result, Ok, Err, IfOk, IfErr}
+use Rattle.std.specs.Prelude.{IsErrOf}
+use Rattle.std.specs.Result.{IsErrAnd}
 use Rattle.quilt_types.specs.declared.stop.Stop.{Stop}
+use Rattle.quilt_types.specs.declared.stop.Stop.TheVariants.{Device}
 use Rattle.quilt_types.specs.Layers.{Grid, IsGrid}
 use Rattle.quilt_record.specs.declared.record.Record.{Record}
 use Rattle.quilt_blocks.specs.Raster.{Raster}
 use Rattle.quilt_btree.specs.declared.tree.Tree.{Tree}
+use Rattle.quilt_store.specs.declared.store.PageStore.{Ghosts}
+use Rattle.quilt_store.specs.Calls.{OnlyReads}
 use Rattle.quilt_store.specs.Stops.{IsNotDamage}
+use Rattle.quilt_store.proofs.Reading.{only_reads_free}
 use Rattle.quilt_region.specs.Regions.{region_records, HasRegion}
 
 module _ (told : Option (List (List ℕ))) (t : Tree) (layer n : ℕ) (items : List Record) (read : (g : Grid) → HasRegion told t layer n g
@@ -29,3 +35,12 @@ if_ok (Err e) P p = tt
 pub if_ok_from : {T E : Type 0} {P Q R : T → Type 0} (r : Result T E) → IfOk r P → IfOk r Q → ((x : T) → P x → Q x → R x) → IfOk r R
 if_ok_from (Ok x) p q f = f x p q
 if_ok_from (Err e) p q f = tt
+
+-- a call, and behind it an error handed on that is no fault of the device
+pub only_reads_no_fault : {S T U V : Type 0} (g : Ghosts S) {s t : S} {first : Result T Stop} {e : Stop} (r : Result V Stop) → IsErrAnd r (λ y. y ≡ e)
+    → (IsErrOf {T = U} {E = Stop} (Err e) Device → ⊥) → OnlyReads g s t first → OnlyReads g s t r
+only_reads_no_fault g (Ok v) on never a = absurd on
+only_reads_no_fault g {e = e} (Err y) on never a = only_reads_free g (Err y) a (λ is. never (same e y on is))
+  where
+    same : {T U : Type 0} (x z : Stop) → z ≡ x → IsErrOf {T = U} {E = Stop} (Err z) Device → IsErrOf {T = T} {E = Stop} (Err x) Device
+    same {T} {U} x z e is = cc

@@ -10,7 +10,7 @@ ghost use Rattle.quilt_region.specs.Painting.{HasColours};
 ghost use Rattle.quilt_region.specs.Windows.{IsKnown, IsCutOut, records_within, known_colour};
 
 use crate::known::Known;
-use crate::leaf_records::put_records;
+use crate::leaf_records::{put_one, put_records};
 use quilt_blocks::{LeafList, Maker};
 use quilt_loc::{covers, quarters, whole_square};
 use quilt_record::Record;
@@ -73,34 +73,12 @@ fn put_around(
         y: known.read.y,
     };
     if !covers(b, read) {
-        return put_beside(maker, b, known);
+        return put_one(maker, b, colour_beside(b, known));
     }
     for q in quarters(b) {
         put_around(maker, records, layer, level, q, known)?;
     }
     Ok(())
-}
-
-/// Puts a block down that has no pixel of the block that was read.
-fn put_beside(maker: &mut Maker, b: Block, known: &Known) -> Result<(), Stop>
-    requires most { maker.old.level ≤ 12 }
-    requires known { IsKnown maker.old.level known.now }
-    requires block { IsBlock maker.old.level b }
-    requires wide { known.now.read.side ≤ b.side }
-    requires apart { in_block b (corner known.now.read) ≡ false }
-    requires next { length maker.old.colours ≡ code_from b }
-    ensures level { OnOk result (maker.new.level ≡ maker.old.level) }
-    ensures end { OnOk result (length maker.new.colours ≡ code_to b) }
-    ensures colours { OnOk result ((g : Grid) → HasColours maker.old.level (known_colour maker.old.level g known.now) maker.old.colours
-        → HasColours maker.old.level (known_colour maker.old.level g known.now) maker.new.colours) }
-    ensures sound { IfErr result IsNotDamage }
-    ensures zero { IfErr result (NamesPage 1) }
-    ensures no_fault { IsErrOf result Device → ⊥ }
-{
-    match maker.push(b, colour_beside(b, known)) {
-        Ok(()) => Ok(()),
-        Err(_) => Err(Stop::Memory),
-    }
 }
 
 /// The one colour of a block that has no pixel of the block that was read.

@@ -15,9 +15,9 @@ ghost use Rattle.quilt_region.specs.Regions.{region_records};
 ghost use Rattle.quilt_region.specs.Windows.{IsCutOut, records_within};
 
 use quilt_blocks::{Leaf, LeafList, Maker};
-use quilt_loc::{code_of, end_of};
+use quilt_loc::{code_of, end_of, whole_square};
 use quilt_record::{Record, read_region};
-use quilt_types::{Block, Pixel, Stop};
+use quilt_types::{Block, Colour, Pixel, Stop};
 use std::alloc::Global;
 
 /// What is answered where records are none of a region layer, or their blocks do not cover the square.
@@ -50,23 +50,28 @@ pub fn list_of(alloc: Global, records: &[Record], layer: u8, level: u8) -> Resul
     ensures no_fault { IsErrOf result Device → ⊥ }
 {
     let mut maker = Maker::new(alloc, level);
-    let mut end = 0;
-    for r in records {
-        let Some(leaf) = leaf_of(r, layer, level) else {
-            return Err(DAMAGED);
-        };
-        if r.key.code != end {
-            return Err(DAMAGED);
-        }
-        if maker.push(leaf.block, leaf.colour).is_err() {
-            return Err(Stop::Memory);
-        }
-        end = end_of(leaf.block);
-    }
-    if end != 1 << (2 * level) {
-        return Err(DAMAGED);
-    }
+    let whole = whole_square(level);
+    put_records(&mut maker, records, layer, level, whole)?;
     Ok(maker.finish())
+}
+
+/// Puts a block of one colour down.
+pub fn put_one(maker: &mut Maker, b: Block, c: Colour) -> Result<(), Stop>
+    requires most { maker.old.level ≤ 12 }
+    requires block { IsBlock maker.old.level b }
+    requires next { length maker.old.colours ≡ code_from b }
+    ensures level { OnOk result (maker.new.level ≡ maker.old.level) }
+    ensures end { OnOk result (length maker.new.colours ≡ code_to b) }
+    ensures colours { OnOk result ((f : AnyPixel → ℕ) → ((p : AnyPixel) → Holds b p → f p ≡ c.0) → HasColours maker.old.level f maker.old.colours
+        → HasColours maker.old.level f maker.new.colours) }
+    ensures sound { IfErr result IsNotDamage }
+    ensures zero { IfErr result (NamesPage 1) }
+    ensures no_fault { IsErrOf result Device → ⊥ }
+{
+    match maker.push(b, c) {
+        Ok(()) => Ok(()),
+        Err(_) => Err(Stop::Memory),
+    }
 }
 
 /// Puts down the leaves that the records are, which stand one behind the other from the first code of a block to its last.

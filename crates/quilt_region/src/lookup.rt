@@ -1,11 +1,12 @@
-ghost use Rattle.std.specs.Prelude.{◌≡◌, ◌≢◌, true, Some, ◌+◌, ◌*◌, ◌<◌, ◌≤◌, IfOk, IfErr, OnOk, List, length};
+ghost use Rattle.std.specs.Prelude.{◌≡◌, ◌≢◌, ℕ, true, Option, Some, ◌+◌, ◌*◌, ◌<◌, ◌≤◌, IfOk, IfErr, IsErrOf, OnOk, List, length};
 ghost use Rattle.quilt_record.specs.declared.record.Record.{Record};
-ghost use Rattle.quilt_types.specs.declared.stop.Stop.TheVariants.{Damaged};
+ghost use Rattle.quilt_types.specs.declared.stop.Stop.TheVariants.{Damaged, Device};
 ghost use Rattle.quilt_types.specs.Plane.{side, in_block, IsBlock};
 ghost use Rattle.quilt_types.specs.Layers.{Grid, colour_at as colour_in};
 ghost use Rattle.quilt_store.specs.Calls.{OnlyReads};
 ghost use Rattle.quilt_world.specs.Tale.{Goes};
 ghost use Rattle.quilt_blocks.specs.Cutting.{leaves_by_code, leaf_pair};
+ghost use Rattle.quilt_btree.specs.declared.tree.Tree.{Tree as AnyTree};
 ghost use Rattle.quilt_btree.specs.Lists.{floor_of};
 ghost use Rattle.quilt_btree.specs.Floors.{floor_pages, HoldsFirst, ReadsNone};
 ghost use Rattle.quilt_btree.specs.Damage.{NamesBad};
@@ -116,7 +117,28 @@ pub(crate) fn leaf_with<S: PageStore>(
         (S.reads store.old) (S.reads store.new) }
 {
     let k = key_with(layer, p);
-    let Some(r) = tree.floor(store, &k)? else {
+    let found = tree.floor(store, &k)?;
+    leaf_said(found, layer, level, p)
+}
+
+/// The leaf of the region layer that holds a pixel, where the last record up to the pixel is that leaf's.
+fn leaf_said(found: Option<LeafRecord>, layer: u8, level: u8, p: Pixel) -> Result<Leaf, Stop>
+    requires layer { 1 ≤ layer }
+    requires level { (1 ≤ level) × (level ≤ 12) }
+    requires in_x { p.x < side level }
+    requires in_y { p.y < side level }
+    ensures leaf { IfOk result (λ l. (told : Option (List (List ℕ))) (t : AnyTree) (g : Grid)
+        → ((rs : List Record) → IsTree told t rs → found ≡ floor_of (pixel_key layer p) rs) → HasRegion told t layer level g
+        → IsLeafWith level g p (leaf_pair l)) }
+    ensures block { IfOk result (λ l. IsBlock level l.block) }
+    ensures holds { IfOk result (λ l. in_block l.block p ≡ true) }
+    ensures row { IfOk result (λ l. found ≡ Some (leaf_record level layer (leaf_pair l))) }
+    ensures sound { IfErr result (λ e. (told : Option (List (List ℕ))) (t : AnyTree) (g : Grid)
+        → ((rs : List Record) → IsTree told t rs → found ≡ floor_of (pixel_key layer p) rs) → HasRegion told t layer level g → IsNotDamage e) }
+    ensures zero { IfErr result (NamesPage 1) }
+    ensures no_fault { IsErrOf result Device → ⊥ }
+{
+    let Some(r) = found else {
         return Err(DAMAGED);
     };
     match leaf_of(&r, layer, level) {

@@ -1,12 +1,13 @@
-ghost use Rattle.std.specs.Prelude.{◌≡◌, ◌≢◌, ℕ, ◌+◌, ◌*◌, ◌≤◌, ◌==◌, List, [], ◌∷◌, slice_index, count_by, length, IfOk, IfErr};
+ghost use Rattle.std.specs.Prelude.{◌≡◌, ◌≢◌, ℕ, ◌+◌, ◌*◌, ◌≤◌, ◌==◌, List, [], ◌∷◌, slice_index, count_by, length, Some, IfOk, IfErr, IsErrOf};
 ghost use Rattle.quilt_types.specs.declared.plane.Block.{Block as AnyBlock};
-ghost use Rattle.quilt_types.specs.declared.stop.Stop.TheVariants.{Damaged};
+ghost use Rattle.quilt_types.specs.declared.stop.Stop.TheVariants.{Damaged, Device};
 ghost use Rattle.quilt_types.specs.Plane.{side as side_of, IsBlock};
 ghost use Rattle.quilt_types.specs.Layers.{Grid};
 ghost use Rattle.quilt_types.specs.Quadtrees.{leaves};
 ghost use Rattle.quilt_loc.specs.Codes.{code_from};
 ghost use Rattle.quilt_record.specs.declared.record.Record.{Record};
-ghost use Rattle.quilt_blocks.specs.Cutting.{leaves_by_code};
+ghost use Rattle.quilt_blocks.specs.Cutting.{leaves_by_code, leaf_pair};
+ghost use Rattle.quilt_spell.specs.OfLayer.{leaf_record};
 ghost use Rattle.quilt_store.specs.Calls.{OnlyReads};
 ghost use Rattle.quilt_world.specs.Tale.{Goes};
 ghost use Rattle.quilt_store.specs.Stops.{IsNotDamage};
@@ -22,6 +23,7 @@ use quilt_blocks::Leaf;
 use quilt_btree::{Cursor, Tree};
 use quilt_loc::{end_of, whole_square};
 use quilt_measure::exponent_of;
+use quilt_record::Record as LeafRecord;
 use quilt_store::PageStore;
 use quilt_types::Stop;
 
@@ -111,7 +113,24 @@ fn next_leaf<S: PageStore>(
     ensures left { OnlyReads S.PageStore store.old store.new result }
     ensures reads { Goes (λ old new. new ≤ old + 3) (S.reads store.old) (S.reads store.new) }
 {
-    let Some(r) = tree.next(store, cursor)? else {
+    let found = tree.next(store, cursor)?;
+    leaf_at(found, layer, level, code)
+}
+
+/// The leaf that the next record is, which begins at this code.
+fn leaf_at(found: Option<LeafRecord>, layer: u8, level: u8, code: u32) -> Result<Leaf, Stop>
+    requires layer { 1 ≤ layer }
+    requires level { (1 ≤ level) × (level ≤ 12) }
+    ensures block { IfOk result (λ l. IsBlock level l.block) }
+    ensures begins { IfOk result (λ l. code_from l.block ≡ code) }
+    ensures row { IfOk result (λ l. found ≡ Some (leaf_record level layer (leaf_pair l))) }
+    ensures next { IfOk result (λ l. (e : AnyBlock × ℕ) → IsBlock level e.0 → found ≡ Some (leaf_record level layer e) → l.block ≡ e.0) }
+    ensures sound { IfErr result (λ stop. (e : AnyBlock × ℕ) → IsBlock level e.0 → code_from e.0 ≡ code → found ≡ Some (leaf_record level layer e)
+        → IsNotDamage stop) }
+    ensures zero { IfErr result (NamesPage 1) }
+    ensures no_fault { IsErrOf result Device → ⊥ }
+{
+    let Some(r) = found else {
         return Err(DAMAGED);
     };
     match leaf_of(&r, layer, level) {

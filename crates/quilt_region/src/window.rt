@@ -17,7 +17,7 @@ ghost use Rattle.quilt_region.specs.Regions.{HasRegion};
 ghost use Rattle.quilt_region.specs.Windows.{leaves_within};
 ghost use Rattle.quilt_region.specs.Covers.{AgreesIn, IsSideOver, window_meets, cover_of, cover_colour, cost_in};
 
-use crate::leaf_records::put_records;
+use crate::leaf_records::{put_one, put_records};
 use crate::lookup::{leaf_with, records_in};
 use quilt_blocks::{LeafList, Maker};
 use quilt_btree::Tree;
@@ -105,10 +105,7 @@ fn put_window<S: PageStore>(
         → Goes (λ old new. new ≤ old + cost_in level g (cover_of side w) b) (S.reads store.old) (S.reads store.new)) }
 {
     if !meets(w, b) {
-        return match maker.push(b, Colour(0)) {
-            Err(_) => Err(Stop::Memory),
-            Ok(()) => Ok(()),
-        };
+        return put_one(maker, b, Colour(0));
     }
     if b.side == side {
         return put_read(alloc, store, tree, layer, level, b, maker);
@@ -149,10 +146,7 @@ fn put_read<S: PageStore>(
 {
     let leaf = leaf_with(store, tree, layer, level, Pixel { x: b.x, y: b.y })?;
     if b.side <= leaf.block.side {
-        return match maker.push(b, leaf.colour) {
-            Err(_) => Err(Stop::Memory),
-            Ok(()) => Ok(()),
-        };
+        return put_one(maker, b, leaf.colour);
     }
     let records = records_in(alloc, store, tree, layer, level, b)?;
     put_records(maker, &records, layer, level, b)

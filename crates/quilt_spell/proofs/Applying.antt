@@ -1,5 +1,5 @@
 -- What a list in order is after records were taken out and put in one after another.
-use Rattle.std.proofs.Common.{◌≡◌, ℕ, suc, ◌↔◌, Bool, true, false, not, cond, ◌⊎◌, List, [], ◌∷◌, length, refl, sym, ◌∙◌, ap, subst, inl, inr, ⊎_elim, Contains}
+use Rattle.std.proofs.Common.{◌≡◌, ℕ, ◌↔◌, Bool, true, false, not, cond, ◌⊎◌, List, [], ◌∷◌, refl, sym, ◌∙◌, ap, subst, inl, inr, ⊎_elim, Contains}
 use Rattle.std.proofs.Common.{Ordering, Less, Equal, Greater}
 use Rattle.std.specs.Ordering.{is_lt, is_eq, ordering_reverse}
 use Rattle.std.specs.Cmp.{tied_itself}
@@ -103,14 +103,6 @@ put_rises r (t ∷ ts) h fresh = by_case (is_lt (key_cmp r.key t.key)) refl (put
       ih,
     )
 
-pub put_length : (r : Record) (rs : List Record) → length (put r rs) ≡ suc (length rs)
-put_length r [] = refl
-put_length r (t ∷ ts) = by_case (is_lt (key_cmp r.key t.key)) (put_length r ts)
-  where
-    by_case : (b : Bool) → length (put r ts) ≡ suc (length ts) → length (cond b (r ∷ t ∷ ts) (t ∷ put r ts)) ≡ suc (suc (length ts))
-    by_case true ih = refl
-    by_case false ih = ap suc ih
-
 -- ---- one after another
 pub taken_rises : (rs removed : List Record) → Rises by_key rs → Rises by_key (taken rs removed)
 taken_rises rs [] up = up
@@ -153,11 +145,6 @@ given_rises rs (r ∷ added) up once fresh =
     given_rises (put r rs) added (put_rises r rs up (λ s c. fresh r s (Contains-here r added) c)) once.1
     (λ a s c d e. ⊎_elim (λ is. once.0 a c (ap (λ (q : Record). q.key) (sym is) ∙ sym e)) (λ m. fresh a s (Contains-there r added a c) m e)
     ((put_members r rs s).0 d))
-
--- records that rise have keys of which none stands twice
-pub rising_keys : (rs : List Record) → Rises by_key rs → KeysApart rs
-rising_keys [] h = tt
-rising_keys (r ∷ rs) h = (λ s c e. not_less (key_cmp r.key s.key) (h.0 s c) (ap (key_cmp r.key) (sym e) ∙ tied_itself key_total r.key), rising_keys rs h.1)
 
 -- removed one after another, and added one after another
 module _ (rs removed added : List Record) (up : Rises by_key rs) (once : Apart removed) (there : (r : Record) → Contains removed r → Contains rs r) where

@@ -29,9 +29,6 @@ moved_is n c j k a b (IsSegment x y) h = (refl, refl)
 moved_is n c j k a b (IsMetBy x y) h = (refl, refl)
 moved_is n c j k a b (IsMetByNone x) h = (refl, refl)
 
-layer_zero : (n c k : ℕ) (a : List ℕ) (x y : ℕ) → (record_of n c a k (IsOfKind x y)).key.layer ≡ 0
-layer_zero n c k a x y = refl
-
 moved_alone : (j k : ℕ) (r s : Record) → r.key.layer ≡ k → s.key.layer ≡ k → renumbered j r ≡ renumbered j s → r ≡ s
 moved_alone j k r s a b e =
     let layer : r.key.layer ≡ s.key.layer = a ∙ sym b in

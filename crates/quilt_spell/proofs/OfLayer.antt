@@ -1,6 +1,6 @@
 -- A list that spells a map spells each of its layers, and its catalog.
-use Rattle.std.proofs.Common.{◌≡◌, ℕ, ◌≤◌, Bool, not, ◌⊎◌, List, map, length, Option, Some, None, refl, sym, ◌∙◌, ap, ap₂, subst, inl, inr, ⊎_elim, arith}
-use Rattle.std.proofs.Common.{Contains, filter, eqb, eqb-true, ne_eqb, eq-eqb}
+use Rattle.std.proofs.Common.{◌≡◌, ℕ, ◌≤◌, Bool, not, ◌⊎◌, List, map, Option, Some, None, refl, sym, ◌∙◌, ap, ap₂, subst, inl, inr, ⊎_elim, arith}
+use Rattle.std.proofs.Common.{Contains, filter, eqb, ne_eqb}
 use Rattle.std.specs.Prelude.{◌==◌}
 use Rattle.std.specs.FinMap as finmap
 use Rattle.std.proofs.lemmas.Bool.{cases_Bool, cond-false}
@@ -11,20 +11,17 @@ use Rattle.quilt_types.specs.Facts.{Fact, IsOfKind, HasColour, HoldsPoint, Holds
 use Rattle.quilt_types.specs.Quadtrees.{leaves}
 use Rattle.quilt_record.specs.declared.record.Record.{Record}
 use Rattle.quilt_record.specs.Records.{Numbering, capacity_of, record_of}
-use Rattle.quilt_loc.specs.Codes.{Rises}
-use Rattle.quilt_spell.specs.Written.{number_of, number_in, by_key, layer_records, IsWritten, IsNumbering}
+use Rattle.quilt_spell.specs.Written.{number_of, number_in, layer_records, IsWritten, IsNumbering}
 use Rattle.quilt_spell.specs.Spelled.{SpellsUnder}
 use Rattle.quilt_spell.specs.Changing.{facts_in, is_among, facts_alone, records_with, records_alone, KeepsCapacity, IsOne, LeadsTo}
 use Rattle.quilt_spell.specs.OfLayer.{kind_fact, kind_record, SpellsLayer, leaf_record, SpellsRegion}
 use Rattle.quilt_loc.proofs.Members.{Contains-here, Contains-there, Contains-cons_cases, Contains-map, Contains-map_from, Contains-filter, Contains-filter_from}
-use Rattle.quilt_loc.proofs.Rising.{Rises-filter}
-use Rattle.quilt_spell.proofs.Lists.{Apart-rises, same_length}
 use Rattle.quilt_spell.proofs.facts.FactKeys.{fact_alone}
 use Rattle.quilt_spell.proofs.facts.FactMembers.{layer_says}
 use Rattle.quilt_spell.proofs.facts.SameFacts.{among_from, among_is}
 use Rattle.quilt_spell.proofs.Changes.{not_true, not_from}
 use Rattle.quilt_spell.proofs.Edits.{record_with_from, same_capacity}
-use Rattle.quilt_spell.proofs.Written.{by_key_total, number_in_layer, layer_record, layer_record_from, layer_length, layer_apart, number_is, number_fits}
+use Rattle.quilt_spell.proofs.Written.{number_in_layer, layer_record, layer_record_from, number_is, number_fits}
 use Rattle.quilt_spell.proofs.Written.{name_alone, layer_fits}
 
 pub kind_there : (n : ℕ) (l : Layer) → Contains (facts n l) (kind_fact l)
@@ -97,28 +94,6 @@ module _ (form n : ℕ) (numbers : Numbering) (rs : List Record) (layers : Map) 
             (Contains-map (leaf_record n k) (leaves n g) d.0 d.1))
             (Contains-cons_cases (IsOfKind 1 0) (map fact (leaves n g)) m.0 m.1);
       }
-
-  -- the records of a layer, in order: those of its number rise, and are as many as its facts but the one of its kind
-  pub layer_ascends : (k : ℕ) → Rises by_key (filter (λ r. number_in r.key == k) rs)
-  layer_ascends k = Rises-filter by_key (λ (r : Record). number_in r.key == k) rs s.ascending
-
-  pub layer_count : (name : List ℕ) (l : Layer) → finmap.get layers name ≡ Some l
-      → length (filter (λ r. number_in r.key == number_of numbers name) rs) ≡ length (facts n l)
-  layer_count name l at =
-      let k = number_of numbers name in
-      let test : Record → Bool = λ r. number_in r.key == k in
-      let spelled = layer_spelled name l at in
-      let least = (number_fits layers numbers s.numbering name l at).0 in
-      same_length (filter test rs) (layer_records n name k l)
-      (Apart-rises by_key by_key_total (filter test rs) (layer_ascends k))
-      (layer_apart form n name k l le least (layer_fits form n numbers layers le s.map s.numbering name l at))
-      (λ r. (
-        λ c. let w = Contains-filter_from test rs r c in spelled.only r w.0 (eqb-true (number_in r.key) k w.1),
-        λ c.
-            let m = layer_record_from n name k l r c in
-            Contains-filter test rs r (subst (Contains rs) m.2 (spelled.each m.0 m.1)) (eq-eqb (number_in r.key) k (number_in_layer n name k l r least c)),
-      ))
-      ∙ layer_length n name k l
 
 -- the records that one grid alone has: those of its leaves that are no leaves of the other
 module _ (n : ℕ) (name : List ℕ) (k : ℕ) (g other : Grid) where

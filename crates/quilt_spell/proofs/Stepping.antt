@@ -1,49 +1,30 @@
 -- The one law of a command: the list that spelled the map spells the new map after the edits, and the counts agree.
-use Rattle.std.proofs.Common.{◌≡◌, ℕ, ◌+◌, ◌≤◌, true, false, List, [], ◌∷◌, length, Option, Some, None, refl, sym, ◌∙◌, ap, subst, ⊎_elim, arith, Contains}
-use Rattle.std.proofs.Common.{nat_cmp, eqb, eqb-true, eq-eqb}
-use Rattle.std.specs.Prelude.{unwrap_or, slice_index}
-use Rattle.std.specs.List.{range_with_len}
-use Rattle.std.specs.Cmp.{nat_cmp_total}
+use Rattle.std.proofs.Common.{◌≡◌, ℕ, ◌+◌, ◌≤◌, List, [], ◌∷◌, length, Option, Some, None, refl, sym, ◌∙◌, ap, subst, ⊎_elim, arith, Contains}
+use Rattle.std.proofs.Common.{nat_cmp}
+use Rattle.std.specs.Prelude.{unwrap_or}
 use Rattle.std.specs.Cmp.Lexicographic.{slice_cmp, nat_list_cmp_total}
 use Rattle.std.specs.FinMap as finmap
-use Rattle.std.proofs.lemmas.Bool.{cases_Bool}
-use Rattle.std.proofs.lemmas.List.{length-map}
-use Rattle.std.proofs.lemmas.List.FromFn.{length-range_with_len}
-use Rattle.quilt_types.specs.Layers.{Layer, Map, is_name}
+use Rattle.quilt_types.specs.Layers.{Layer, Map}
 use Rattle.quilt_types.specs.Facts.{records, changes}
 use Rattle.quilt_record.specs.declared.record.Record.{Record}
-use Rattle.quilt_types.specs.Bytes.{filled}
-use Rattle.quilt_record.specs.Records.{Numbering, capacity_of, record_of, kind_number}
+use Rattle.quilt_record.specs.Records.{Numbering}
 use Rattle.quilt_loc.specs.Codes.{Rises}
-use Rattle.quilt_spell.specs.Apart.{Apart}
 use Rattle.quilt_spell.specs.Written.{number_of, by_key}
 use Rattle.quilt_spell.specs.Spelled.{SpellsUnder}
-use Rattle.quilt_spell.specs.Changing.{with_layer, with_number, facts_in, facts_alone, KeepsCapacity, IsOne, LeadsTo, IsEdited}
-use Rattle.quilt_spell.specs.OfLayer.{kind_record}
+use Rattle.quilt_spell.specs.Changing.{with_layer, with_number, KeepsCapacity, IsOne, LeadsTo, IsEdited}
 use Rattle.quilt_spell.specs.Stepping.{IsPlaced, IsStep}
-use Rattle.quilt_loc.proofs.Members.{Contains-range_from}
-use Rattle.quilt_loc.proofs.Rising.{Rises-range}
-use Rattle.quilt_spell.proofs.Lists.{Apart-rises, Apart-le}
 use Rattle.quilt_spell.proofs.Maps.{get_inserted, get_others, get_kept, same_or_not}
-use Rattle.quilt_spell.proofs.Written.{name_same, by_key_total, number_is, number_fits, layer_fits, records_count}
+use Rattle.quilt_spell.proofs.Written.{name_same, number_is, number_fits, layer_fits, records_count}
 use Rattle.quilt_spell.proofs.Spelling.{spelled_are}
-use Rattle.quilt_spell.proofs.Edits.{record_with_from, alone_from, facts_some, removed_there, edits_count, edits_records}
+use Rattle.quilt_spell.proofs.Edits.{removed_there, edits_count, edits_records}
 use Rattle.quilt_spell.proofs.Session.{layer_becomes, layer_comes, layer_goes}
-use Rattle.quilt_spell.proofs.OfLayer.{added_apart, kind_only}
-use Rattle.quilt_spell.proofs.facts.Decoding.{fact_of, facts_fit}
-use Rattle.quilt_spell.proofs.facts.LayerAlone.{kind_of}
-use Rattle.quilt_spell.proofs.facts.OneMap.{extent_of, kind_value, some_part, kinds_alone}
-use Rattle.quilt_record.proofs.Names as names
+use Rattle.quilt_spell.proofs.OfLayer.{added_apart}
 
 -- how many records there are
 pub spelled_count : (form n : ℕ) (numbers : Numbering) (rs : List Record) (layers : Map) → n ≤ 12 → SpellsUnder form n numbers rs layers
     → length rs ≡ records n layers
 spelled_count form n numbers rs layers le s =
     ap length (spelled_are form n rs layers le numbers s) ∙ records_count form n numbers layers le s.map s.numbering
-
--- records that rise by their keys stand once each
-pub once_from_rising : (rs : List Record) → Rises by_key rs → Apart rs
-once_from_rising rs h = Apart-rises by_key by_key_total rs h
 
 -- a number that a name has already
 pub same_number : (numbers : Numbering) (name : List ℕ) (number : ℕ) → finmap.get numbers name ≡ Some number → finmap.insert numbers name number ≡ numbers
@@ -138,56 +119,3 @@ module _ (form n : ℕ) (numbers : Numbering) (rs : List Record) (layers : Map) 
           (subst (λ (o : Option Layer). LeadsTo n name number o (Some m) removed added) e step.leads)) in
           let at = number_is layers numbers s.numbering name l e ∙ ap Some (sym p) in
           subst (λ (w : Numbering). SpellsUnder form n w now (finmap.insert layers name m)) (sym (same_number numbers name number at)) done
-
--- no record both goes and comes
-module _ (form n : ℕ) (name : List ℕ) (number : ℕ) (le : n ≤ 12) (least : 1 ≤ number) (named : is_name name ≡ true) where
-  pub edits_apart : (old new : Option Layer) (removed added : List Record) → IsOne form n old → IsOne form n new
-      → LeadsTo n name number old new removed added → (r : Record) → Contains removed r → Contains added r → ⊥
-  edits_apart old new removed added ho hn leads r c d =
-      let a = record_with_from n name number old (facts_alone n old new) r ((leads.remove r).0 c) in
-      let b = record_with_from n name number new (facts_alone n new old) r ((leads.add r).0 d) in
-      let fa = alone_from n old new a.fact a.of in
-      let fb = alone_from n new old b.fact b.of in
-      let hl = subst (IsOne form n) a.is ho in
-      let hm = subst (IsOne form n) b.is hn in
-      let l = a.value in
-      let m = b.value in
-      let in_l = facts_some n old l a.fact a.is fa.0 in
-      let in_m = facts_some n new m b.fact b.is fb.0 in
-      let same : record_of n (capacity_of l) name number a.fact ≡ record_of n (capacity_of m) name number b.fact = a.written ∙ sym b.written in
-      ⊎_elim
-      (λ t.
-      let zero' = eqb-true r.key.layer 0 t in
-      let ka = kind_only form n l (capacity_of l) number name a.fact hl least in_l (ap (λ (q : Record). q.key.layer) a.written ∙ zero') in
-      let kb = kind_only form n m (capacity_of m) number name b.fact hm least in_m (ap (λ (q : Record). q.key.layer) b.written ∙ zero') in
-      let both : kind_record n name number l ≡ kind_record n name number m =
-      ap (record_of n (capacity_of l) name number) (sym ka) ∙ same ∙ ap (record_of n (capacity_of m) name number) kb in
-      let value = sym (kind_value n name number l) ∙ ap (λ (q : Record). q.value) both ∙ kind_value n name number m in
-      let rest_l = kind_of l ∷ kind_number (kind_of l) (extent_of l) ∷ 0 ∷ 0 ∷ [] in
-      let rest_m = kind_of m ∷ kind_number (kind_of m) (extent_of m) ∷ 0 ∷ 0 ∷ [] in
-      let long = names.name_long name named in
-      let kind : kind_of l ≡ kind_of m =
-      sym (names.place_behind (filled 12 name) rest_l 0 long) ∙ ap (λ (v : List ℕ). slice_index v 12) value
-      ∙ names.place_behind (filled 12 name) rest_m 0 long in
-      let extent : kind_number (kind_of l) (extent_of l) ≡ kind_number (kind_of m) (extent_of m) =
-      sym (names.place_behind (filled 12 name) rest_l 1 long) ∙ ap (λ (v : List ℕ). slice_index v 13) value
-      ∙ names.place_behind (filled 12 name) rest_m 1 long in
-      let kinds = kinds_alone form n l m hl hm kind extent in
-      fa.1 (subst (Contains (facts_in n new)) (sym (ka ∙ kinds ∙ sym kb)) fb.0))
-      (λ no.
-      let part = some_part n (capacity_of l) number name a.fact (λ e. let t =
-      eq-eqb r.key.layer 0 (ap (λ (q : Record). q.key.layer) (sym a.written) ∙ e) in let z : true ≡ false = sym t ∙ no in cc) in
-      let one = fact_of n le (capacity_of l) (capacity_of m) number name name a.fact b.fact (facts_fit n le form l hl a.fact in_l)
-      (facts_fit n le form m hm b.fact in_m) part same in
-      fa.1 (subst (Contains (facts_in n new)) (sym one) fb.0))
-      (cases_Bool (eqb r.key.layer 0))
-
--- not all numbers are taken while there is room
-pub some_number_free : (numbers : Numbering) → finmap.len numbers ≤ 254 → ((k : ℕ) → 1 ≤ k → k ≤ 255 → Contains (finmap.values numbers) k) → ⊥
-some_number_free numbers few all =
-    let each = Apart-le (range_with_len 1 255) (finmap.values numbers) (Apart-rises nat_cmp nat_cmp_total (range_with_len 1 255) (Rises-range 1 255))
-    (λ k c. let r = Contains-range_from 1 255 k c in all k r.0 (omega arith)) in
-    let long = length-range_with_len 1 255 in
-    let short = length-map (finmap.entries numbers) (λ (e : List ℕ × ℕ). e.1) in
-    let many = finmap.len-entries numbers in
-    omega arith

@@ -104,12 +104,6 @@ module _ (n : ℕ) (numbers : Numbering) (layers : Map) where
       (all_is r).1 (Contains-flat_map all_of (finmap.entries layers) (w.name, w.layer) r
       (entry_from_get (slice_cmp nat_cmp) nat_list_cmp_total name_same layers w.name w.layer w.at) w.written)
 
-  -- a list in order with exactly these members is the records of the map
-  pub records_are : (rs : List Record) → Rises record_cmp rs → ((r : Record) → Contains rs r ↔ IsWritten n numbers layers r) → rs ≡ records_of n numbers layers
-  records_are rs up w =
-      same_rising record_cmp record_total rs (records_of n numbers layers) up records_rise
-      (λ r. (λ c. written_is r ((w r).0 c), λ c. (w r).1 (written_from r c)))
-
 -- ---- the keys of records of a layer
 pub number_in_key : (n c k : ℕ) (name : List ℕ) (f : Fact) → 1 ≤ k → number_in (record_of n c name k f).key ≡ k
 number_in_key n c k name (IsOfKind kind number) le = refl

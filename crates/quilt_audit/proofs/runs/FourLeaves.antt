@@ -57,14 +57,6 @@ last_quarter n a b c d w s =
     let e : d.block ≡ q = ap (λ (l : List (Block × ℕ)). (get_or l 3 (leaf_pair d)).0) s.quarters in
     subst (IsQuarter n w.0) (sym e) (quarters_are n w.0 q s.block s.wide (3, omega arith, refl))
 
-pub siblings_small : (n : ℕ) (a b c d : Leaf) (w : Block × ℕ) → AreSiblings n (a ∷ b ∷ c ∷ d ∷ []) w → d.block.side ≡ side n → ⊥
-siblings_small n a b c d w s e =
-    let q = last_quarter n a b c d w s in
-    let half = q.half in
-    let top = side_le n w.0 s.block in
-    let wide = s.wide in
-    omega arith
-
 -- the third and the fourth have one colour and one side
 pub siblings_alike : (n : ℕ) (a b c d : Leaf) (w : Block × ℕ) → AreSiblings n (a ∷ b ∷ c ∷ d ∷ []) w
     → (c.colour.0 ≡ d.colour.0) × (c.block.side ≡ d.block.side)

@@ -37,12 +37,6 @@ module _ (form n : ℕ) (rs : List Record) (layer : ℕ) (P : Kind → Type 0) w
       subst (λ (b : ℕ). P (kinds.Points b)) h.bucket (f (subst (λ (b : ℕ). IsPointRun form n rs layer b run) (sym h.bucket) h))
   by_points run f (kinds.Lines threshold) h = absurd h
 
-  pub by_lines : (run : LineRun) → ((threshold : ℕ) → IsLineRun n rs layer threshold run → P (kinds.Lines threshold)) → (kind : Kind)
-      → IsRun form n rs layer kind (runs.Lines run) → P kind
-  by_lines run f kinds.Region h = absurd h
-  by_lines run f (kinds.Points bucket) h = absurd h
-  by_lines run f (kinds.Lines threshold) h = f threshold h
-
 -- ---- no record yet of a line layer
 pub lines_none : (n : ℕ) (rs : List Record) (layer threshold : ℕ) (run : LineRun) → 1 ≤ threshold → threshold ≤ 32 → IsLineStart run
     → ((r : Record) → Contains rs r → r.key.layer ≡ layer → ⊥)

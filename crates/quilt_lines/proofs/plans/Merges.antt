@@ -25,15 +25,6 @@ some_pairs n layer b (i ∷ ids) e = ap (λ l. pair_of n layer b i ∷ l) (pairs
 pub adds_none : (most : ℕ) (ids : List ℕ) → AddsIds most ids [] ids
 adds_none most ids = record { once = λ h. h; kept = λ i c. c; from = λ i c. inl c; grows = omega arith; all = λ lt i c. absurd (Contains-nil i c) }
 
-pub adds_full : (most id : ℕ) (ids : List ℕ) → (length ids ≤ most → Contains ids id) → AddsIds most ids (id ∷ []) ids
-adds_full most id ids there = record {
-  once = λ h. h;
-  kept = λ i c. c;
-  from = λ i c. inl c;
-  grows = omega arith;
-  all = λ le i c. subst (Contains ids) (⊎_elim (λ e. e) (λ d. absurd (Contains-nil i d)) (Contains-cons_cases id [] i c)) (there le);
-}
-
 pub adds_one : (most id : ℕ) (ids : List ℕ) → (Contains ids id → ⊥) → AddsIds most ids (id ∷ []) (ids ++ id ∷ [])
 adds_one most id ids away = record {
   once = λ h. Apart-append ids (id ∷ []) h ((λ c. Contains-nil id c), tt)

@@ -71,3 +71,6 @@ pub returns-in_err-edits-clause-zero : goal.returns-in_err-edits-clause-zero
 returns-in_err-edits-clause-zero g c =
     zero_handed _ c.from_residual-in_err-edits.result c.from_residual-in_err-edits.ensures.1
     c.args.tree.now c.in_ok-s.ensures.left.told c.in_err-edits.ensures.zero
+
+pub returns-in_err-s-clause-zero : goal.returns-in_err-s-clause-zero
+returns-in_err-s-clause-zero g c = rw (handed_on c.from_residual.result c.from_residual.ensures.1) c.in_err-s.ensures.zero

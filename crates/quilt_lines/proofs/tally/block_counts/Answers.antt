@@ -8,6 +8,7 @@ use Rattle.quilt_types.specs.Quadtrees.{is_reached}
 use Rattle.quilt_near.proofs.Reached.{reached_whole}
 use Rattle.quilt_lines.specs.Counting.{held_in, pages_in}
 use Rattle.quilt_lines.proofs.Counts.{all_held, zeros_at, first_room}
+use Rattle.quilt_btree.proofs.Handed.{handed_on}
 use Rattle.quilt_lines.proofs.tally.block_counts.Goals as goal
 
 pub count_in-requires-clause-room : goal.count_in-requires-clause-room
@@ -36,3 +37,6 @@ pub returns-clause-reads : goal.returns-clause-reads
 returns-clause-reads g c t segs cover h =
     subst (λ (b : Block). Goes {A = ℕ} (λ old new. new ≤ old + pages_in cover c.args.level b) (g.S.PageStore.reads c.args.store.now)
     (g.S.PageStore.reads c.count_in.new.store)) c.whole_square.ensures (c.in_ok-count_in.ensures.reads t segs cover h)
+
+pub returns-in_err-count_in-clause-zero : goal.returns-in_err-count_in-clause-zero
+returns-in_err-count_in-clause-zero g c = rw (handed_on c.from_residual.result c.from_residual.ensures.1) c.in_err-count_in.ensures.zero

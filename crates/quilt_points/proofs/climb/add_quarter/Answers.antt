@@ -3,11 +3,13 @@ use Rattle.std.proofs.lemmas.Result.{IfOk-weaker, IfErr-weaker}
 use Rattle.std.proofs.lemmas.Option.{MatchOption-at_none, MatchOption-at_some}
 use Rattle.quilt_types.specs.declared.plane.Point.{Point}
 use Rattle.quilt_types.specs.Plane.{is_pixel}
+use Rattle.quilt_store.proofs.Reading.{only_reads_same}
 use Rattle.quilt_points.proofs.Finds.{false_true, if_some_at}
 use Rattle.quilt_points.proofs.plans.Adds.{added_all}
 use Rattle.quilt_world.proofs.ReadCounts.{reads_none}
 use Rattle.quilt_points.proofs.Bounds.{if_ok_of}
-use Rattle.quilt_points.proofs.Results.{memory_zero}
+use Rattle.quilt_points.proofs.Results.{memory_zero, only_reads_memory}
+use Rattle.quilt_btree.proofs.Handed.{handed_on}
 use Rattle.quilt_points.proofs.climb.add_quarter.Goals as goal
 
 pub returns-in-None-clause-other : goal.returns-in-None-clause-other
@@ -52,3 +54,19 @@ returns-then-is_same-clause-zero g c = IfErr-weaker c.add_all.result _ _ (λ e m
 
 pub returns-in-Some-clause-zero : goal.returns-in-Some-clause-zero
 returns-in-Some-clause-zero g c = IfErr-weaker c.add_all-in-Some.result _ _ (λ e memory rs is. memory_zero e memory) c.add_all-in-Some.ensures.memory
+
+pub returns-then-is_same-clause-left : goal.returns-then-is_same-clause-left
+returns-then-is_same-clause-left g c =
+    only_reads_memory _ c.add_all.result c.add_all.ensures.memory (only_reads_same _ true _ (g.met.S.PageStore.same_time c.args.store.now))
+
+pub returns-in-Some-clause-left : goal.returns-in-Some-clause-left
+returns-in-Some-clause-left g c = only_reads_memory _ c.add_all-in-Some.result c.add_all-in-Some.ensures.memory c.in_ok-points_of.ensures.left
+
+pub returns-in_err-points_of-clause-sound : goal.returns-in_err-points_of-clause-sound
+returns-in_err-points_of-clause-sound g c = rw (handed_on c.from_residual.result c.from_residual.ensures.1) c.in_err-points_of.ensures.sound
+
+pub returns-in_err-points_of-clause-zero : goal.returns-in_err-points_of-clause-zero
+returns-in_err-points_of-clause-zero g c = rw (handed_on c.from_residual.result c.from_residual.ensures.1) c.in_err-points_of.ensures.zero
+
+pub returns-in_err-points_of-clause-bad : goal.returns-in_err-points_of-clause-bad
+returns-in_err-points_of-clause-bad g c = rw (handed_on c.from_residual.result c.from_residual.ensures.1) c.in_err-points_of.ensures.bad

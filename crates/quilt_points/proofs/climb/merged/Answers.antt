@@ -4,13 +4,14 @@ use Rattle.quilt_types.specs.declared.plane.Block.{Block}
 use Rattle.quilt_types.specs.declared.plane.Point.{Point}
 use Rattle.quilt_types.specs.Plane.{IsBlock}
 use Rattle.quilt_types.specs.Quadtrees.{holds_few}
-use Rattle.quilt_loc.proofs.Nesting.{IsBlock-parent_of}
+use Rattle.quilt_loc.proofs.Nesting.{IsBlock-parent_of, side_pos}
 use Rattle.quilt_point_laws.specs.Laws.{AreIn}
 use Rattle.quilt_points.specs.Layers.{point_entries}
 use Rattle.quilt_points.specs.Climbing.{IsOnWay}
 use Rattle.quilt_points.proofs.Finds.{if_some_at}
 use Rattle.quilt_world.proofs.ReadCounts.{reads_none}
 use Rattle.quilt_points.proofs.Ways.{way_last, way_up, way_many, inner_from}
+use Rattle.quilt_btree.proofs.Handed.{handed_on}
 use Rattle.quilt_points.proofs.climb.merged.Goals as goal
 
 true_false : true ≡ false → ⊥
@@ -77,3 +78,21 @@ pub returns-clause-top : goal.returns-clause-top
 returns-clause-top g c e =
     let inner = inner_from c.args.layer.level c.args.leaf.now.block c.requires.block (λ e. true_false (c.in-Some.ensures.whole.1 e)) in
     absurd (omega arith)
+
+pub returns-clause-pixels : goal.returns-clause-pixels
+returns-clause-pixels g c = if_some_at c.in_ok-points.field-0 _ c.in-Some-2.points c.in-Some-2.is c.in_ok-points.ensures.pixels
+
+pub returns-clause-wider : goal.returns-clause-wider
+returns-clause-wider g c =
+    let twice : c.in-Some.block.side ≡ 2 * c.args.leaf.now.block.side = ap (λ (b : Block). b.side) c.in-Some.ensures.value in
+    let pos = side_pos c.args.layer.level c.args.leaf.now.block c.requires.block in
+    omega arith
+
+pub returns-in_err-points-clause-sound : goal.returns-in_err-points-clause-sound
+returns-in_err-points-clause-sound g c = rw (handed_on c.from_residual.result c.from_residual.ensures.1) c.in_err-points.ensures.sound
+
+pub returns-in_err-points-clause-zero : goal.returns-in_err-points-clause-zero
+returns-in_err-points-clause-zero g c = rw (handed_on c.from_residual.result c.from_residual.ensures.1) c.in_err-points.ensures.zero
+
+pub returns-in_err-points-clause-bad : goal.returns-in_err-points-clause-bad
+returns-in_err-points-clause-bad g c = rw (handed_on c.from_residual.result c.from_residual.ensures.1) c.in_err-points.ensures.bad

@@ -6,8 +6,8 @@ use Rattle.quilt_types.specs.Plane.{is_pixel}
 use Rattle.quilt_point_laws.specs.Laws.{AreIn}
 use Rattle.quilt_points.specs.Layers.{point_entries}
 use Rattle.quilt_store.proofs.Reading.{only_reads_then, only_reads_err, only_reads_ok, only_reads_free}
-use Rattle.quilt_points.proofs.Finds.{has_along}
-use Rattle.quilt_world.proofs.ReadCounts.{reads_then}
+use Rattle.quilt_points.proofs.Finds.{has_along, if_some_at}
+use Rattle.quilt_world.proofs.ReadCounts.{reads_then, reads_more}
 use Rattle.quilt_points.proofs.Singles.{one_held, all_held}
 use Rattle.quilt_btree.proofs.Handed.{handed_on}
 use Rattle.quilt_btree.proofs.Stops.{zero_handed, bad_handed}
@@ -69,3 +69,18 @@ pub returns-in_err-points_of-clause-bad : goal.returns-in_err-points_of-clause-b
 returns-in_err-points_of-clause-bad g c =
     bad_handed _ c.from_residual-in_err-points_of.result c.from_residual-in_err-points_of.ensures.1
     c.args.tree.now c.in_ok-block.ensures.left.told c.in_err-points_of.ensures.bad
+
+pub returns-in-Ok-clause-reads : goal.returns-in-Ok-clause-reads
+returns-in-Ok-clause-reads g c = reads_more 6 (12 + 3 * c.args.layer.bucket) _ _ (omega arith) c.in_ok-block.ensures.reads
+
+pub returns-in-Some-clause-pixels : goal.returns-in-Some-clause-pixels
+returns-in-Some-clause-pixels g c = if_some_at c.in_ok-points_of.field-0 _ c.in-Some.points c.in-Some.is c.in_ok-points_of.ensures.pixels
+
+pub returns-in_err-block-clause-sound : goal.returns-in_err-block-clause-sound
+returns-in_err-block-clause-sound g c = rw (handed_on c.from_residual.result c.from_residual.ensures.1) c.in_err-block.ensures.sound
+
+pub returns-in_err-block-clause-zero : goal.returns-in_err-block-clause-zero
+returns-in_err-block-clause-zero g c = rw (handed_on c.from_residual.result c.from_residual.ensures.1) c.in_err-block.ensures.zero
+
+pub returns-in_err-block-clause-bad : goal.returns-in_err-block-clause-bad
+returns-in_err-block-clause-bad g c = rw (handed_on c.from_residual.result c.from_residual.ensures.1) c.in_err-block.ensures.bad

@@ -1,6 +1,7 @@
 use Rattle.std.proofs.Common.{[], List, Contains, ◌∙◌, refl, sym, ap, subst, arith}
 use Rattle.std.proofs.lemmas.Result.{IfOk-weaker, IfErr-weaker}
 use Rattle.quilt_record.specs.declared.record.Record.{Record}
+use Rattle.quilt_store.proofs.Reading.{only_reads_free}
 use Rattle.quilt_points.specs.Reads.{AreRecordsOf}
 use Rattle.quilt_points.proofs.Bounds.{if_ok_of, reads_range}
 use Rattle.quilt_points.proofs.Finds.{if_some_weaker}
@@ -59,3 +60,6 @@ returns-in_err-records-clause-bad g c =
 
 pub returns-clause-bad : goal.returns-clause-bad
 returns-clause-bad g c = zero_named c.points_said.result _ _ _ c.points_said.ensures.zero
+
+pub returns-clause-left : goal.returns-clause-left
+returns-clause-left g c = only_reads_free _ c.points_said.result c.in_ok-records.ensures.left c.points_said.ensures.no_fault

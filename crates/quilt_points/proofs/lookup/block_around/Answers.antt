@@ -1,6 +1,7 @@
 use Rattle.std.proofs.Common.{◌∙◌, ap}
 use Rattle.std.proofs.lemmas.Result.{IfOk-weaker, IfErr-weaker}
 use Rattle.quilt_record.specs.declared.key.Key.{Key}
+use Rattle.quilt_store.proofs.Reading.{only_reads_free}
 use Rattle.quilt_btree.specs.Lists.{floor_of}
 use Rattle.quilt_btree.proofs.Handed.{handed_on}
 use Rattle.quilt_btree.proofs.Stops.{sound_handed}
@@ -40,3 +41,6 @@ returns-in_err-found-clause-bad g c =
 
 pub returns-clause-bad : goal.returns-clause-bad
 returns-clause-bad g c = zero_named c.block_said.result _ _ _ c.block_said.ensures.zero
+
+pub returns-clause-left : goal.returns-clause-left
+returns-clause-left g c = only_reads_free _ c.block_said.result c.in_ok-found.ensures.left c.block_said.ensures.no_fault

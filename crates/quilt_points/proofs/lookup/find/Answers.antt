@@ -1,10 +1,14 @@
-use Rattle.std.proofs.Common.{ℕ, List, Option, ◌∙◌, sym, subst, arith}
+use Rattle.std.proofs.Common.{◌≡◌, ◌≤◌, ℕ, List, Option, ◌∙◌, sym, subst, arith}
+use Rattle.std.specs.Prelude.{◌==◌, if◌then◌else◌}
 use Rattle.std.proofs.lemmas.Result.{IfOk-weaker, IfErr-weaker}
+use Rattle.std.proofs.lemmas.Bool.Decides.{nat_tests}
+use Rattle.quilt_world.proofs.ReadCounts.{reads_then}
 use Rattle.quilt_btree.specs.Trees.{IsTree}
 use Rattle.quilt_store.proofs.Reading.{only_reads_then}
 use Rattle.quilt_points.proofs.Finds.{one_found_at, has_along}
 use Rattle.quilt_btree.proofs.Stops.{zero_along}
 use Rattle.quilt_btree.proofs.ways.Damage.{named_along}
+use Rattle.quilt_btree.proofs.Handed.{handed_on}
 use Rattle.quilt_points.proofs.lookup.find.Goals as goal
 
 pub returns-then-bucket-eq1-clause-label : goal.returns-then-bucket-eq1-clause-label
@@ -49,3 +53,19 @@ returns-else-bucket-eq1-clause-zero g c =
 pub returns-else-bucket-eq1-clause-bad : goal.returns-else-bucket-eq1-clause-bad
 returns-else-bucket-eq1-clause-bad g c =
     named_along c.label_in.result _ _ _ _ c.in_ok-b.ensures.left.told c.label_in.ensures.bad
+
+nine : (b : ℕ) → (b ≡ 1 → ⊥) → 9 ≤ (if b == 1 then 6 else 9)
+nine b more = grind (arith, nat_tests)
+
+pub returns-else-bucket-eq1-clause-reads : goal.returns-else-bucket-eq1-clause-reads
+returns-else-bucket-eq1-clause-reads g c =
+    reads_then 6 3 (if c.args.bucket == 1 then 6 else 9) _ _ _ (nine c.args.bucket c.if-bucket-eq1.false) c.in_ok-b.ensures.reads c.label_in.ensures.reads
+
+pub returns-in_err-b-clause-sound : goal.returns-in_err-b-clause-sound
+returns-in_err-b-clause-sound g c = rw (handed_on c.from_residual.result c.from_residual.ensures.1) c.in_err-b.ensures.sound
+
+pub returns-in_err-b-clause-zero : goal.returns-in_err-b-clause-zero
+returns-in_err-b-clause-zero g c = rw (handed_on c.from_residual.result c.from_residual.ensures.1) c.in_err-b.ensures.zero
+
+pub returns-in_err-b-clause-bad : goal.returns-in_err-b-clause-bad
+returns-in_err-b-clause-bad g c = rw (handed_on c.from_residual.result c.from_residual.ensures.1) c.in_err-b.ensures.bad

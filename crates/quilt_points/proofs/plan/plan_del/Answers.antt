@@ -74,3 +74,12 @@ pub returns-in_err-edits-clause-bad : goal.returns-in_err-edits-clause-bad
 returns-in_err-edits-clause-bad g c =
     bad_handed _ c.from_residual-in_err-edits.result c.from_residual-in_err-edits.ensures.1
     c.args.tree.now c.in_ok-leaf.ensures.left.told c.in_err-edits.ensures.bad
+
+pub returns-in_err-leaf-clause-sound : goal.returns-in_err-leaf-clause-sound
+returns-in_err-leaf-clause-sound g c = rw (handed_on c.from_residual.result c.from_residual.ensures.1) c.in_err-leaf.ensures.sound
+
+pub returns-in_err-leaf-clause-zero : goal.returns-in_err-leaf-clause-zero
+returns-in_err-leaf-clause-zero g c = rw (handed_on c.from_residual.result c.from_residual.ensures.1) c.in_err-leaf.ensures.zero
+
+pub returns-in_err-leaf-clause-bad : goal.returns-in_err-leaf-clause-bad
+returns-in_err-leaf-clause-bad g c = rw (handed_on c.from_residual.result c.from_residual.ensures.1) c.in_err-leaf.ensures.bad

@@ -4,6 +4,7 @@ use Rattle.std.proofs.lemmas.List.Elements.{All-filter}
 use Rattle.quilt_types.specs.declared.plane.Point.{Point}
 use Rattle.quilt_types.specs.Plane.{is_pixel}
 use Rattle.quilt_types.specs.Facts.{same_pixel}
+use Rattle.quilt_store.proofs.Reading.{only_reads_free}
 use Rattle.quilt_points.specs.Climbing.{IsOnWay}
 use Rattle.quilt_points.proofs.plans.Dels.{way_first}
 use Rattle.quilt_points.proofs.Bounds.{if_ok_of}
@@ -56,3 +57,12 @@ returns-clause-zero g c = IfErr-weaker c.take_out.result _ _ (λ e zero rs is. z
 
 pub returns-clause-bad : goal.returns-clause-bad
 returns-clause-bad g c = zero_named c.take_out.result _ _ _ c.take_out.ensures.zero
+
+pub returns-clause-left : goal.returns-clause-left
+returns-clause-left g c = only_reads_free _ c.take_out.result c.in_ok-top.ensures.left c.take_out.ensures.no_fault
+
+pub returns-in_err-top-clause-zero : goal.returns-in_err-top-clause-zero
+returns-in_err-top-clause-zero g c = rw (handed_on c.from_residual.result c.from_residual.ensures.1) c.in_err-top.ensures.zero
+
+pub returns-in_err-top-clause-bad : goal.returns-in_err-top-clause-bad
+returns-in_err-top-clause-bad g c = rw (handed_on c.from_residual.result c.from_residual.ensures.1) c.in_err-top.ensures.bad

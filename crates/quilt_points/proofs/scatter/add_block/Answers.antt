@@ -1,8 +1,8 @@
-use Rattle.std.proofs.Common.{◌≡◌, ◌++◌, ◌-◌, true, List, map, take, sym, ◌∙◌, ap, subst, Contains}
-use Rattle.std.proofs.lemmas.List.Elements.{All-contains}
+use Rattle.std.proofs.Common.{◌≡◌, ◌++◌, ◌-◌, true, List, map, take, sym, ◌∙◌, ap, subst, All, Contains}
+use Rattle.std.proofs.lemmas.List.Elements.{All-contains, All-take}
 use Rattle.quilt_types.specs.declared.plane.Point.{Point}
 use Rattle.quilt_types.specs.Codes.{depth}
-use Rattle.quilt_types.specs.Plane.{in_block}
+use Rattle.quilt_types.specs.Plane.{in_block, is_pixel}
 use Rattle.quilt_loc.proofs.Blocks.{IsBlock-up}
 use Rattle.quilt_edits.proofs.Lists.{taken_there}
 use Rattle.quilt_point_laws.specs.Growing.{gone_of, come_of}
@@ -11,6 +11,7 @@ use Rattle.quilt_points.specs.Layers.{point_entries, block_record}
 use Rattle.quilt_points.proofs.plans.Puts.{free_from, taken_from}
 use Rattle.quilt_points.proofs.Codings.{InOrder-take}
 use Rattle.quilt_points.proofs.plans.Scatters.{pixels_up, block_order, some_taken, left_outside}
+use Rattle.quilt_btree.proofs.Handed.{handed_on}
 use Rattle.quilt_points.proofs.scatter.add_block.Goals as goal
 
 pub count_in-count-requires-clause-block : goal.count_in-count-requires-clause-block
@@ -73,3 +74,20 @@ returns-clause-added g c old h =
           (point_entries (take c.count_in-count.result c.args.news.now))))
           c.deref-2.ensures.value;
     }
+
+pub add_delta-requires-clause-held : goal.add_delta-requires-clause-held
+add_delta-requires-clause-held g c =
+    subst (All (λ (p : Point). is_pixel c.args.layer.level p.at ≡ true)) (sym c.deref-2.ensures.value) c.in_ok-leaf.ensures.pixels
+
+pub add_delta-requires-clause-news : goal.add_delta-requires-clause-news
+add_delta-requires-clause-news g c =
+    All-take (λ (p : Point). is_pixel c.args.layer.level p.at ≡ true) c.count_in-count.result c.args.news.now c.requires.pixels
+
+pub returns-in_err-leaf-clause-sound : goal.returns-in_err-leaf-clause-sound
+returns-in_err-leaf-clause-sound g c = rw (handed_on c.from_residual.result c.from_residual.ensures.1) c.in_err-leaf.ensures.sound
+
+pub returns-in_err-leaf-clause-zero : goal.returns-in_err-leaf-clause-zero
+returns-in_err-leaf-clause-zero g c = rw (handed_on c.from_residual.result c.from_residual.ensures.1) c.in_err-leaf.ensures.zero
+
+pub returns-in_err-leaf-clause-bad : goal.returns-in_err-leaf-clause-bad
+returns-in_err-leaf-clause-bad g c = rw (handed_on c.from_residual.result c.from_residual.ensures.1) c.in_err-leaf.ensures.bad

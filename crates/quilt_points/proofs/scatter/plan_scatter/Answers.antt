@@ -15,6 +15,7 @@ use Rattle.quilt_points.proofs.Results.{memory_sound}
 use Rattle.quilt_points.proofs.plans.Scatters.{pixels_up, all_new, scatter_can, scatter_plan}
 use Rattle.quilt_btree.proofs.Stops.{zero_page}
 use Rattle.quilt_btree.proofs.ways.Damage.{zero_names}
+use Rattle.quilt_btree.proofs.Handed.{handed_on}
 use Rattle.quilt_points.proofs.scatter.plan_scatter.Goals as goal
 
 pub in_order-requires : goal.in_order-requires
@@ -116,3 +117,12 @@ pub returns-in_err-edits-clause-bad : goal.returns-in_err-edits-clause-bad
 returns-in_err-edits-clause-bad g c =
     let p = err_from_is_err_and c.from_residual-in_err-edits.result c.from_residual-in_err-edits.ensures.1 in
     rw (p.1, p.2) (zero_names _ _ _ _ (zero_page _ c.in_err-edits.ensures.zero))
+
+pub returns-in_err-delta-clause-sound : goal.returns-in_err-delta-clause-sound
+returns-in_err-delta-clause-sound g c = rw (handed_on c.from_residual.result c.from_residual.ensures.1) c.in_err-delta.ensures.sound
+
+pub returns-in_err-delta-clause-zero : goal.returns-in_err-delta-clause-zero
+returns-in_err-delta-clause-zero g c = rw (handed_on c.from_residual.result c.from_residual.ensures.1) c.in_err-delta.ensures.zero
+
+pub returns-in_err-delta-clause-bad : goal.returns-in_err-delta-clause-bad
+returns-in_err-delta-clause-bad g c = rw (handed_on c.from_residual.result c.from_residual.ensures.1) c.in_err-delta.ensures.bad

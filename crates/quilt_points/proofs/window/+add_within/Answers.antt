@@ -168,3 +168,13 @@ pub returns-in_err-add_within-clause-bad : goal.returns-in_err-add_within-clause
 returns-in_err-add_within-clause-bad g t c =
     bad_handed _ c.from_residual-in_err-add_within.result c.from_residual-in_err-add_within.ensures.1
     c.args.tree.now c.loop-q.invariant.left.told c.in_err-add_within.ensures.bad
+
+pub returns-then-branch-clause-covered : goal.returns-then-branch-clause-covered
+returns-then-branch-clause-covered g t c rs p is inside on =
+    record { block = c.args.b; holds = on; has = c.in_ok-visit.ensures.covered c.if-branch.true rs is }
+
+pub returns-in_err-visit-clause-zero : goal.returns-in_err-visit-clause-zero
+returns-in_err-visit-clause-zero g t c = rw (handed_on c.from_residual.result c.from_residual.ensures.1) c.in_err-visit.ensures.zero
+
+pub returns-in_err-visit-clause-bad : goal.returns-in_err-visit-clause-bad
+returns-in_err-visit-clause-bad g t c = rw (handed_on c.from_residual.result c.from_residual.ensures.1) c.in_err-visit.ensures.bad

@@ -9,6 +9,7 @@ use Rattle.quilt_world.specs.Tale.{Goes}
 use Rattle.quilt_points.specs.Windows.{visited}
 use Rattle.quilt_points.specs.Reads.{ArePointsOf}
 use Rattle.quilt_points.proofs.Windows.{open_whole, inside_whole, whole_pixel, rows_are}
+use Rattle.quilt_btree.proofs.Handed.{handed_on}
 use Rattle.quilt_points.proofs.window.within.Goals as goal
 
 pub add_within-requires-clause-block : goal.add_within-requires-clause-block
@@ -43,3 +44,9 @@ returns-in-Ok-clause-reads g c points h =
 pub add_within-requires-clause-search : goal.add_within-requires-clause-search
 add_within-requires-clause-search g c =
     c.new-search.ensures (g.S.PageStore.told c.args.store.now) c.args.tree.now c.args.level c.args.bucket c.args.layer
+
+pub returns-in_err-add_within-clause-zero : goal.returns-in_err-add_within-clause-zero
+returns-in_err-add_within-clause-zero g c = rw (handed_on c.from_residual.result c.from_residual.ensures.1) c.in_err-add_within.ensures.zero
+
+pub returns-in_err-add_within-clause-bad : goal.returns-in_err-add_within-clause-bad
+returns-in_err-add_within-clause-bad g c = rw (handed_on c.from_residual.result c.from_residual.ensures.1) c.in_err-add_within.ensures.bad

@@ -1,8 +1,9 @@
-use Rattle.std.proofs.Common.{ℕ, ◌^◌, ◌<◌, [], refl, ◌∙◌, ap, arith}
+use Rattle.std.proofs.Common.{ℕ, ◌^◌, ◌<◌, List, [], ◌∷◌, ◌++◌, refl, sym, subst, ◌∙◌, ap, arith}
 use Rattle.quilt_blocks.specs.Cutting.{leaf_pair}
 use Rattle.quilt_loc.specs.Codes.{code_from, code_to}
-use Rattle.quilt_loc.proofs.Intervals.{square_pos}
 use Rattle.quilt_blocks.proofs.Chains.{member_pos}
+use Rattle.quilt_record.specs.declared.record.Record.{Record}
+use Rattle.quilt_region.specs.Plans.{AreSoFar}
 use Rattle.quilt_region.proofs.Nested.{ends_within}
 use Rattle.quilt_region.proofs.InStep.{side_small, code_room, squares, at_same, one_passes}
 use Rattle.quilt_region.proofs.comparison.add_up_to.Goals as goal
@@ -15,12 +16,21 @@ area_of-done-requires c = let s = side_small c.args.level c.args.whole c.require
 
 pub loop-done-init : goal.loop-done-init
 loop-done-init c =
-    let first = square_pos c.args.first c.requires.some in
-    let less = squares c.args.first c.args.whole.side c.requires.inside in
+    let first = member_pos c.args.level c.args.first.block c.requires.leaf in
+    let less = squares c.args.first.block.side c.args.whole.side c.requires.inside in
     let size = c.area_of-size.ensures in
     let done = c.area_of-done.ensures in
     let at = c.requires.at in
-    record { level = refl; grid = refl; some = omega arith; most = omega arith; at = omega arith; made = λ p all each so. so }
+    record {
+      level = refl;
+      grid = refl;
+      some = omega arith;
+      most = omega arith;
+      at = omega arith;
+      made = λ p all each so.
+          subst (λ (l : List Record). AreSoFar c.args.level c.args.layer p l c.args.leaves.now.rest all)
+          (sym (c.in_ok-push.ensures.ok ∙ ap (λ (r : Record). c.args.records.now ++ r ∷ []) (c.region_record.ensures.written []))) so;
+    }
 
 pub returns-in_default-clause-at : goal.returns-in_default-clause-at
 returns-in_default-clause-at c =
@@ -32,8 +42,8 @@ returns-in_default-clause-at c =
     let at = inv.at in
     absurd (omega arith)
 
-pub region_record-requires-clause-block : goal.region_record-requires-clause-block
-region_record-requires-clause-block c =
+pub region_record-requires-in-loop-done-clause-block : goal.region_record-requires-in-loop-done-clause-block
+region_record-requires-in-loop-done-clause-block c =
     let inv = c.loop-done.invariant in
     (at_same c.loop-done.leaves.level c.args.level c.loop-done.leaves.grid c.args.leaves.now.grid c.loop-done.leaves.at (leaf_pair c.in-Some.leaf)
     (inv.level ∙ c.requires.same_level) inv.grid c.in-Some.ensures.leaf).block
@@ -70,7 +80,7 @@ loop-done-preserved c =
       most = omega arith;
       at = omega arith;
       made = λ p all each so.
-          one_passes n c.args.layer p c.loop-done.records c.push.new.self all c.region_record.result e c.loop-done.leaves.rest c.next.new.self.rest
-          c.in_ok-push.ensures.ok (c.region_record.ensures.written [])
+          one_passes n c.args.layer p c.loop-done.records c.push-in-loop-done.new.self all c.region_record-in-loop-done.result e c.loop-done.leaves.rest c.next.new.self.rest
+          c.in_ok-push-2.ensures.ok (c.region_record-in-loop-done.ensures.written [])
           c.in-Some.ensures.first (each e here.member low high) (inv.made p all each so);
     }

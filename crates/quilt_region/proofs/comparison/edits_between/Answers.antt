@@ -1,13 +1,15 @@
-use Rattle.std.proofs.Common.{ℕ, ◌+◌, ◌*◌, [], List, Contains, arith, subst, sym, ◌∙◌, ap}
+use Rattle.std.proofs.Common.{ℕ, ◌+◌, ◌*◌, [], ◌∷◌, ◌++◌, List, Contains, inl, inr, ⊎_elim, arith, refl, subst, sym, ◌∙◌, ap}
 use Rattle.quilt_types.specs.declared.plane.Block.{Block}
+use Rattle.quilt_types.specs.Plane.{IsBlock}
 use Rattle.quilt_blocks.specs.Cutting.{leaves_by_code, leaf_pair}
 use Rattle.quilt_blocks.specs.Walk.{IsLeafAt}
 use Rattle.quilt_blocks.proofs.Paired.{zip_some}
+use Rattle.quilt_blocks.proofs.Chains.{member_pos}
 use Rattle.quilt_record.specs.declared.record.Record.{Record}
 use Rattle.quilt_spell.specs.OfLayer.{leaf_record}
 use Rattle.quilt_region.proofs.Leaves.{only_test, only_apart}
 use Rattle.quilt_region.proofs.InStep.{has_passed, both_end, none_left, none_so_far, one_passes, one_fails, same_pass, first_alone, second_alone}
-use Rattle.quilt_region.proofs.InStep.{within_alone, go_on_at, leaves_equal, leaves_differ}
+use Rattle.quilt_region.proofs.InStep.{larger_from, larger_block, larger_alone, go_on_at, leaves_equal, leaves_differ}
 use Rattle.quilt_region.proofs.comparison.edits_between.Goals as goal
 
 pub loop-a-init : goal.loop-a-init
@@ -62,34 +64,12 @@ loop-a-preserved c =
       added = one_fails n c.args.layer (only_test n g) c.loop-a.add _ (leaf_pair b) c.loop-a.news.rest c.next-in-loop-a.new.self.rest q.rest both.1 inv.added;
     }
 
-pub loop-a-smaller-in-Continue-branch-3 : goal.loop-a-smaller-in-Continue-branch-3
-loop-a-smaller-in-Continue-branch-3 c =
-    let n = c.args.old.now.level in
-    let inv = c.loop-a.invariant in
-    let a = c.in-Some.a in
-    let b = c.in-Some.b in
-    let e = zip_some c.next.result c.next-in-loop-a.result a b (sym c.zip.ensures ∙ c.in-Some.is) in
-    let le = c.level-level.ensures.raster.most in
-    let p = has_passed n c.args.old.now.grid c.loop-a.olds c.next.new.self c.next.result a le e.0 inv.old_level inv.old_grid c.next.ensures.first
-    c.next.ensures.leaf c.next.ensures.at c.next.ensures.level c.next.ensures.grid in
-    let q = has_passed n c.args.new.now.grid c.loop-a.news c.next-in-loop-a.new.self c.next-in-loop-a.result b le e.1 inv.new_level inv.new_grid
-    c.next-in-loop-a.ensures.first c.next-in-loop-a.ensures.leaf c.next-in-loop-a.ensures.at c.next-in-loop-a.ensures.level c.next-in-loop-a.ensures.grid in
-    let room = p.room in
-    let end = c.in_ok-add_up_to.ensures.at in
-    let from = q.leaf.from in
-    let at = q.at in
-    let more = q.more in
-    let place = inv.place in
-    omega arith
-
-pub loop-a-preserved-in-Continue-branch-3 : goal.loop-a-preserved-in-Continue-branch-3
-loop-a-preserved-in-Continue-branch-3 c =
+pub add_up_to-requires-clause-block : goal.add_up_to-requires-clause-block
+add_up_to-requires-clause-block c =
     let n = c.args.old.now.level in
     let g = c.args.old.now.grid in
     let h = c.args.new.now.grid in
-    let layer = c.args.layer in
     let le = c.level-level.ensures.raster.most in
-    let level = c.level-level.ensures.value in
     let inv = c.loop-a.invariant in
     let a = c.in-Some.a in
     let b = c.in-Some.b in
@@ -98,78 +78,107 @@ loop-a-preserved-in-Continue-branch-3 c =
     c.next.ensures.at c.next.ensures.level c.next.ensures.grid in
     let q = has_passed n h c.loop-a.news c.next-in-loop-a.new.self c.next-in-loop-a.result b le e.1 inv.new_level inv.new_grid
     c.next-in-loop-a.ensures.first c.next-in-loop-a.ensures.leaf c.next-in-loop-a.ensures.at c.next-in-loop-a.ensures.level c.next-in-loop-a.ensures.grid in
-    let differ = leaves_differ a b (c.if-ne.ensures {u = tt}) in
     let second = subst (λ (i : ℕ). IsLeafAt n h i (leaf_pair b)) (sym inv.place) q.leaf in
-    let more = c.in_ok-add_up_to.ensures in
-    let go = go_on_at c.level-level.result n layer c.next.new.self.grid g b.block c.push.new.self c.add_up_to.new.records c.next.new.self.rest
-    c.add_up_to.new.leaves.rest level p.grid more.records in
+    subst (λ (k : ℕ). IsBlock k c.larger_of-whole.result) (sym c.level-level.ensures.value)
+    (larger_block n g h le c.loop-a.olds.at a b p.leaf second c.larger_of-whole.result c.larger_of-whole.ensures.one)
+
+pub add_up_to-requires-clause-at : goal.add_up_to-requires-clause-at
+add_up_to-requires-clause-at c =
+    let n = c.args.old.now.level in
+    let g = c.args.old.now.grid in
+    let h = c.args.new.now.grid in
+    let le = c.level-level.ensures.raster.most in
+    let inv = c.loop-a.invariant in
+    let a = c.in-Some.a in
+    let b = c.in-Some.b in
+    let e = zip_some c.next.result c.next-in-loop-a.result a b (sym c.zip.ensures ∙ c.in-Some.is) in
+    let p = has_passed n g c.loop-a.olds c.next.new.self c.next.result a le e.0 inv.old_level inv.old_grid c.next.ensures.first c.next.ensures.leaf
+    c.next.ensures.at c.next.ensures.level c.next.ensures.grid in
+    let q = has_passed n h c.loop-a.news c.next-in-loop-a.new.self c.next-in-loop-a.result b le e.1 inv.new_level inv.new_grid
+    c.next-in-loop-a.ensures.first c.next-in-loop-a.ensures.leaf c.next-in-loop-a.ensures.at c.next-in-loop-a.ensures.level c.next-in-loop-a.ensures.grid in
+    let second = subst (λ (i : ℕ). IsLeafAt n h i (leaf_pair b)) (sym inv.place) q.leaf in
+    p.at ∙ ap (λ i. i + a.block.side * a.block.side) (sym (larger_from n g h le c.loop-a.olds.at a b p.leaf second c.larger_of-whole.result c.larger_of-whole.ensures.one))
+
+pub add_up_to-requires-then-ne-clause-at : goal.add_up_to-requires-then-ne-clause-at
+add_up_to-requires-then-ne-clause-at c =
+    let n = c.args.old.now.level in
+    let g = c.args.old.now.grid in
+    let h = c.args.new.now.grid in
+    let le = c.level-level.ensures.raster.most in
+    let inv = c.loop-a.invariant in
+    let a = c.in-Some.a in
+    let b = c.in-Some.b in
+    let e = zip_some c.next.result c.next-in-loop-a.result a b (sym c.zip.ensures ∙ c.in-Some.is) in
+    let p = has_passed n g c.loop-a.olds c.next.new.self c.next.result a le e.0 inv.old_level inv.old_grid c.next.ensures.first c.next.ensures.leaf
+    c.next.ensures.at c.next.ensures.level c.next.ensures.grid in
+    let q = has_passed n h c.loop-a.news c.next-in-loop-a.new.self c.next-in-loop-a.result b le e.1 inv.new_level inv.new_grid
+    c.next-in-loop-a.ensures.first c.next-in-loop-a.ensures.leaf c.next-in-loop-a.ensures.at c.next-in-loop-a.ensures.level c.next-in-loop-a.ensures.grid in
+    let second = subst (λ (i : ℕ). IsLeafAt n h i (leaf_pair b)) (sym inv.place) q.leaf in
+    q.at ∙ ap (λ i. i + b.block.side * b.block.side) (sym (larger_from n g h le c.loop-a.olds.at a b p.leaf second c.larger_of-whole.result c.larger_of-whole.ensures.one ∙ inv.place))
+
+pub loop-a-smaller-in-Continue-branch-2 : goal.loop-a-smaller-in-Continue-branch-2
+loop-a-smaller-in-Continue-branch-2 c =
+    let n = c.args.old.now.level in
+    let g = c.args.old.now.grid in
+    let h = c.args.new.now.grid in
+    let le = c.level-level.ensures.raster.most in
+    let inv = c.loop-a.invariant in
+    let a = c.in-Some.a in
+    let b = c.in-Some.b in
+    let e = zip_some c.next.result c.next-in-loop-a.result a b (sym c.zip.ensures ∙ c.in-Some.is) in
+    let p = has_passed n g c.loop-a.olds c.next.new.self c.next.result a le e.0 inv.old_level inv.old_grid c.next.ensures.first c.next.ensures.leaf
+    c.next.ensures.at c.next.ensures.level c.next.ensures.grid in
+    let q = has_passed n h c.loop-a.news c.next-in-loop-a.new.self c.next-in-loop-a.result b le e.1 inv.new_level inv.new_grid
+    c.next-in-loop-a.ensures.first c.next-in-loop-a.ensures.leaf c.next-in-loop-a.ensures.at c.next-in-loop-a.ensures.level c.next-in-loop-a.ensures.grid in
+    let second = subst (λ (i : ℕ). IsLeafAt n h i (leaf_pair b)) (sym inv.place) q.leaf in
+    let from = larger_from n g h le c.loop-a.olds.at a b p.leaf second c.larger_of-whole.result c.larger_of-whole.ensures.one in
+    let wide = larger_block n g h le c.loop-a.olds.at a b p.leaf second c.larger_of-whole.result c.larger_of-whole.ensures.one in
+    let some = member_pos n c.larger_of-whole.result wide in
+    let end = c.in_ok-add_up_to.ensures.at in
+    let room = p.room in
+    omega arith
+
+pub loop-a-preserved-in-Continue-branch-2 : goal.loop-a-preserved-in-Continue-branch-2
+loop-a-preserved-in-Continue-branch-2 c =
+    let n = c.args.old.now.level in
+    let g = c.args.old.now.grid in
+    let h = c.args.new.now.grid in
+    let le = c.level-level.ensures.raster.most in
+    let inv = c.loop-a.invariant in
+    let a = c.in-Some.a in
+    let b = c.in-Some.b in
+    let e = zip_some c.next.result c.next-in-loop-a.result a b (sym c.zip.ensures ∙ c.in-Some.is) in
+    let p = has_passed n g c.loop-a.olds c.next.new.self c.next.result a le e.0 inv.old_level inv.old_grid c.next.ensures.first c.next.ensures.leaf
+    c.next.ensures.at c.next.ensures.level c.next.ensures.grid in
+    let q = has_passed n h c.loop-a.news c.next-in-loop-a.new.self c.next-in-loop-a.result b le e.1 inv.new_level inv.new_grid
+    c.next-in-loop-a.ensures.first c.next-in-loop-a.ensures.leaf c.next-in-loop-a.ensures.at c.next-in-loop-a.ensures.level c.next-in-loop-a.ensures.grid in
+    let second = subst (λ (i : ℕ). IsLeafAt n h i (leaf_pair b)) (sym inv.place) q.leaf in
+    let layer = c.args.layer in
+    let level = c.level-level.ensures.value in
+    let differ = leaves_differ a b (c.if-ne.ensures {u = tt}) in
+    let whole = c.larger_of-whole.result in
+    let one = c.larger_of-whole.ensures.one in
+    let old_more = c.in_ok-add_up_to.ensures in
+    let new_more = c.in_ok-add_up_to-2.ensures in
+    let old_go = go_on_at c.level-level.result n layer c.next.new.self.grid g whole (c.loop-a.remove ++ leaf_record c.level-level.result layer (leaf_pair a) ∷ [])
+    c.add_up_to.new.records c.next.new.self.rest c.add_up_to.new.leaves.rest level p.grid old_more.records in
+    let new_go = go_on_at c.level-level.result n layer c.next-in-loop-a.new.self.grid h whole (c.loop-a.add ++ leaf_record c.level-level.result layer (leaf_pair b) ∷ [])
+    c.add_up_to-then-ne.new.records c.next-in-loop-a.new.self.rest c.add_up_to-then-ne.new.leaves.rest level q.grid new_more.records in
+    let old_record = ap (λ (k : ℕ). leaf_record k layer (leaf_pair a)) level in
+    let new_record = ap (λ (k : ℕ). leaf_record k layer (leaf_pair b)) level in
     record {
-      old_level = more.level ∙ p.level;
-      old_grid = more.grid ∙ p.grid;
-      new_level = q.level;
-      new_grid = q.grid;
-      place = more.at ∙ ap (λ i. i + b.block.side * b.block.side) q.leaf.from ∙ sym q.at;
+      old_level = old_more.level ∙ p.level;
+      old_grid = old_more.grid ∙ p.grid;
+      new_level = new_more.level ∙ q.level;
+      new_grid = new_more.grid ∙ q.grid;
+      place = old_more.at ∙ sym new_more.at;
       removed =
-          go (only_test n h) _ (λ d _ low high. within_alone n h c.loop-a.news.at b le q.leaf d low high)
-          (one_passes n layer (only_test n h) c.loop-a.remove c.push.new.self _ c.region_record.result
-          (leaf_pair a) c.loop-a.olds.rest c.next.new.self.rest c.in_ok-push.ensures.ok
-          (c.region_record.ensures.written [] ∙ ap (λ (k : ℕ). leaf_record k layer (leaf_pair a)) level) p.rest
+          old_go (only_test n h) _ (larger_alone n g h le c.loop-a.olds.at a b p.leaf second whole one)
+          (one_passes n layer (only_test n h) c.loop-a.remove _ _ _ (leaf_pair a) c.loop-a.olds.rest c.next.new.self.rest refl old_record p.rest
           (first_alone n g h le c.loop-a.olds.at a b p.leaf second differ) inv.removed);
       added =
-          one_passes n layer (only_test n g) c.loop-a.add c.push-then-ne.new.self _ c.region_record-then-ne.result
-          (leaf_pair b) c.loop-a.news.rest c.next-in-loop-a.new.self.rest c.in_ok-push-2.ensures.ok
-          (c.region_record-then-ne.ensures.written [] ∙ ap (λ (k : ℕ). leaf_record k layer (leaf_pair b)) level) q.rest
-          (second_alone n g h le c.loop-a.olds.at a b p.leaf second differ) inv.added;
-    }
-
-pub loop-a-smaller-in-Continue-branch-4 : goal.loop-a-smaller-in-Continue-branch-4
-loop-a-smaller-in-Continue-branch-4 c =
-    let n = c.args.old.now.level in
-    let inv = c.loop-a.invariant in
-    let e = zip_some c.next.result c.next-in-loop-a.result c.in-Some.a c.in-Some.b (sym c.zip.ensures ∙ c.in-Some.is) in
-    let p = has_passed n c.args.old.now.grid c.loop-a.olds c.next.new.self c.next.result c.in-Some.a c.level-level.ensures.raster.most e.0
-    inv.old_level inv.old_grid c.next.ensures.first c.next.ensures.leaf c.next.ensures.at c.next.ensures.level c.next.ensures.grid in
-    let more = p.more in
-    let room = p.room in
-    omega arith
-
-pub loop-a-preserved-in-Continue-branch-4 : goal.loop-a-preserved-in-Continue-branch-4
-loop-a-preserved-in-Continue-branch-4 c =
-    let n = c.args.old.now.level in
-    let g = c.args.old.now.grid in
-    let h = c.args.new.now.grid in
-    let layer = c.args.layer in
-    let le = c.level-level.ensures.raster.most in
-    let level = c.level-level.ensures.value in
-    let inv = c.loop-a.invariant in
-    let a = c.in-Some.a in
-    let b = c.in-Some.b in
-    let e = zip_some c.next.result c.next-in-loop-a.result a b (sym c.zip.ensures ∙ c.in-Some.is) in
-    let p = has_passed n g c.loop-a.olds c.next.new.self c.next.result a le e.0 inv.old_level inv.old_grid c.next.ensures.first c.next.ensures.leaf
-    c.next.ensures.at c.next.ensures.level c.next.ensures.grid in
-    let q = has_passed n h c.loop-a.news c.next-in-loop-a.new.self c.next-in-loop-a.result b le e.1 inv.new_level inv.new_grid
-    c.next-in-loop-a.ensures.first c.next-in-loop-a.ensures.leaf c.next-in-loop-a.ensures.at c.next-in-loop-a.ensures.level c.next-in-loop-a.ensures.grid in
-    let differ = leaves_differ a b (c.if-ne.ensures {u = tt}) in
-    let second = subst (λ (i : ℕ). IsLeafAt n h i (leaf_pair b)) (sym inv.place) q.leaf in
-    let more = c.in_ok-add_up_to-2.ensures in
-    let go = go_on_at c.level-level.result n layer c.next-in-loop-a.new.self.grid h a.block c.push-then-ne.new.self c.add_up_to-else-a-b.new.records
-    c.next-in-loop-a.new.self.rest c.add_up_to-else-a-b.new.leaves.rest level q.grid more.records in
-    record {
-      old_level = p.level;
-      old_grid = p.grid;
-      new_level = more.level ∙ q.level;
-      new_grid = more.grid ∙ q.grid;
-      place = p.at ∙ ap (λ i. i + a.block.side * a.block.side) (sym p.leaf.from) ∙ sym more.at;
-      removed =
-          one_passes n layer (only_test n h) c.loop-a.remove c.push.new.self _ c.region_record.result
-          (leaf_pair a) c.loop-a.olds.rest c.next.new.self.rest c.in_ok-push.ensures.ok
-          (c.region_record.ensures.written [] ∙ ap (λ (k : ℕ). leaf_record k layer (leaf_pair a)) level) p.rest
-          (first_alone n g h le c.loop-a.olds.at a b p.leaf second differ) inv.removed;
-      added =
-          go (only_test n g) _ (λ d _ low high. within_alone n g c.loop-a.olds.at a le p.leaf d low high)
-          (one_passes n layer (only_test n g) c.loop-a.add c.push-then-ne.new.self _ c.region_record-then-ne.result
-          (leaf_pair b) c.loop-a.news.rest c.next-in-loop-a.new.self.rest c.in_ok-push-2.ensures.ok
-          (c.region_record-then-ne.ensures.written [] ∙ ap (λ (k : ℕ). leaf_record k layer (leaf_pair b)) level) q.rest
+          new_go (only_test n g) _ (larger_alone n h g le c.loop-a.olds.at b a second p.leaf whole (⊎_elim inr inl one))
+          (one_passes n layer (only_test n g) c.loop-a.add _ _ _ (leaf_pair b) c.loop-a.news.rest c.next-in-loop-a.new.self.rest refl new_record q.rest
           (second_alone n g h le c.loop-a.olds.at a b p.leaf second differ) inv.added);
     }
 

@@ -1,14 +1,15 @@
-use Rattle.std.proofs.Common.{◌≡◌, ◌+◌, ◌*◌, ◌/◌, sym, ◌∙◌, ap, subst, arith}
+use Rattle.std.proofs.Common.{◌≡◌, ℕ, ◌+◌, ◌*◌, ◌/◌, sym, ◌∙◌, ap, subst, arith}
 use Rattle.std.proofs.lemmas.Result.{on_ok_weaker}
 use Rattle.quilt_types.specs.declared.plane.Block.{Block}
-use Rattle.quilt_types.specs.Plane.{corner, Holds}
+use Rattle.quilt_types.specs.Plane.{corner, Holds, IsBlock}
 use Rattle.quilt_loc.specs.Codes.{code_from}
 use Rattle.quilt_loc.proofs.Blocks.{IsBlock-up, Holds-from}
 use Rattle.quilt_loc.proofs.Intervals.{half_codes}
 use Rattle.quilt_loc.proofs.Nesting.{side_pos, twice_le}
 use Rattle.quilt_blocks.proofs.Adding.{part_at}
 use Rattle.quilt_region.specs.Windows.{IsCutOut, known_colour, records_within}
-use Rattle.quilt_region.proofs.Beside.{wider, read_colour, blocks_equal, blocks_differ, if_err_weaker}
+use Rattle.quilt_region.proofs.Beside.{wider, read_colour, beside_colour, blocks_equal, blocks_differ, if_err_weaker}
+use Rattle.quilt_region.proofs.Parts.{HasColours-added}
 use Rattle.quilt_region.proofs.fill.+put_around.Goals as goal
 
 pub returns-then-eq-clause-colours : goal.returns-then-eq-clause-colours
@@ -89,3 +90,23 @@ returns-clause-end t c =
     let codes = half_codes n b c.requires.block c.requires.level.1 (omega arith) in
     let all = codes.all in
     c.loop-q.invariant.long ∙ ap (λ i. code_from b + i * (b.side / 2 * (b.side / 2))) four ∙ sym all
+
+pub colour_beside-requires : goal.colour_beside-requires
+colour_beside-requires t c = IsBlock-up c.args.level 12 c.args.known.now.top c.requires.level.1 c.requires.known.top
+
+pub put_one-requires-clause-block : goal.put_one-requires-clause-block
+put_one-requires-clause-block t c = subst (λ (n : ℕ). IsBlock n c.args.b) (sym c.requires.same_level) c.requires.block
+
+pub returns-then-not-covers-clause-colours : goal.returns-then-not-covers-clause-colours
+returns-then-not-covers-clause-colours t c =
+    let n = c.args.level in
+    let k = c.args.known.now in
+    on_ok_weaker c.put_one.result
+    (λ law g is.
+    HasColours-added _ _ (known_colour n g k) c.args.maker.now.colours c.put_one.new.maker.colours c.requires.same_level
+    (law (known_colour n g k) (λ p held. beside_colour n k c.args.b c.requires.known c.requires.block c.requires.wide
+    (sym (c.if-not-covers.ensures {u = tt})) g p held ∙ sym c.colour_beside.ensures)))
+    c.put_one.ensures.colours
+
+pub returns-then-not-covers-clause-sound : goal.returns-then-not-covers-clause-sound
+returns-then-not-covers-clause-sound t c = if_err_weaker c.put_one.result (λ e law g is out. law) c.put_one.ensures.sound

@@ -1,89 +1,46 @@
-use Rattle.std.proofs.Common.{◌≡◌, ℕ, ◌^◌, true, false, Result, Ok, Err, length, sym, ◌∙◌, ap, subst, arith}
-use Rattle.std.specs.Prelude.{OnOk}
-use Rattle.std.specs.Result.{is_err}
-use Rattle.quilt_loc.proofs.Blocks.{IsBlock-up}
+use Rattle.std.proofs.Common.{◌≡◌, ℕ, ◌^◌, length, refl, sym, ◌∙◌, ap, subst}
+use Rattle.quilt_types.specs.Layers.{colour_at}
+use Rattle.quilt_loc.specs.Codes.{code_to}
 use Rattle.quilt_blocks.specs.Painting.{Painted, grid_by_code}
-use Rattle.quilt_region.proofs.Progress.{IsAsFar, IsAsFar-none, IsAsFar-more, IsAsFar-full, IsAsFar-grid, read_some, read_next, next_from, codes_are}
+use Rattle.quilt_blocks.proofs.Painting.{Paints-none}
+use Rattle.quilt_blocks.proofs.Squares.{whole_at, code_to-whole}
+use Rattle.quilt_blocks.proofs.Adding.{whole_next}
+use Rattle.quilt_btree.proofs.Handed.{handed_on}
+use Rattle.quilt_region.specs.Painting.{HasColours}
+use Rattle.quilt_region.specs.Windows.{IsCutOut, records_within}
+use Rattle.quilt_region.proofs.Whole.{whole_records, whole_cut, whole_grid}
 use Rattle.quilt_region.proofs.leaf_records.list_of.Goals as goal
 
-on_ok : {T U : Type 0} (r : Result T U) (P : Type 0) → false ≡ is_err r → OnOk r P → P
-on_ok (Ok x) P e h = h
-on_ok (Err x) P e h = absurd (false_true e)
-  where
-    false_true : false ≡ true → ⊥
-    false_true e = cc
+pub put_records-requires-clause-block : goal.put_records-requires-clause-block
+put_records-requires-clause-block c = whole_at _ _ _ refl c.whole_square-whole.ensures
 
-pub loop-r-init : goal.loop-r-init
-loop-r-init c =
-    let none = ap (λ (m : Painted). m.colours) c.new-maker.ensures in
-    record {
-      level = ap (λ (m : Painted). m.level) c.new-maker.ensures;
-      long = sym (ap length none);
-      as_far = λ g is. subst (IsAsFar c.args.level g 0) (sym none) (IsAsFar-none c.args.level g);
-    }
+pub put_records-requires-clause-next : goal.put_records-requires-clause-next
+put_records-requires-clause-next c = sym (whole_next _ _ _ c.whole_square-whole.ensures c.new-maker.ensures)
 
-pub returns-in_default-clause-sound : goal.returns-in_default-clause-sound
-returns-in_default-clause-sound c g is page e =
-    read_some c.args.level c.args.layer g c.args.records.now c.loop-r.r-index _ c.leaf_of.result c.requires.layer c.requires.level.1 is
-    c.loop-r-test.true c.leaf_of.ensures.one c.in_default.is
-
-pub returns-then-r-end-clause-sound : goal.returns-then-r-end-clause-sound
-returns-then-r-end-clause-sound c g is page e =
-    let inv = c.loop-r.invariant in
-    let next = read_next c.args.level c.args.layer g c.args.records.now c.loop-r.r-index _ c.leaf_of.result c.requires.layer c.requires.level.1 is
-    c.loop-r-test.true c.leaf_of.ensures.one c.in-Some.leaf c.in-Some.is in
-    let from = next_from c.args.level c.args.layer g c.loop-r.r-index c.loop-r.end c.loop-r.maker.colours _ c.in-Some.leaf next inv.long (inv.as_far g is) in
-    let code = c.in-Some.ensures.code in
-    let differ = c.if-r-end.true in
-    omega arith
-
-pub end_of-end-requires : goal.end_of-end-requires
-end_of-end-requires c = IsBlock-up c.args.level 12 c.in-Some.leaf.block c.requires.level.1 c.in-Some.ensures.block
-
-pub loop-r-preserved : goal.loop-r-preserved
-loop-r-preserved c =
-    let inv = c.loop-r.invariant in
-    let ok = on_ok c.push.result _ c.if-is_err.ensures.value c.push.ensures.ok in
-    let end = on_ok c.push.result _ c.if-is_err.ensures.value c.push.ensures.end in
-    let colours = ap (λ (m : Painted). m.colours) ok in
-    record {
-      level = ap (λ (m : Painted). m.level) ok ∙ inv.level;
-      long = c.end_of-end.ensures.value ∙ sym end;
-      as_far = λ g is.
-          let next = read_next c.args.level c.args.layer g c.args.records.now c.loop-r.r-index _ c.leaf_of.result c.requires.layer c.requires.level.1
-          is c.loop-r-test.true c.leaf_of.ensures.one c.in-Some.leaf c.in-Some.is in
-          IsAsFar-more c.args.level c.args.layer g c.loop-r.r-index c.loop-r.maker.colours c.push.new.self.colours _ c.in-Some.leaf.block
-          c.in-Some.leaf.colour.0 c.requires.level.1
-          next.next next.block next.colour colours end (inv.as_far g is);
-    }
-
-pub returns-then-end-level-clause-sound : goal.returns-then-end-level-clause-sound
-returns-then-end-level-clause-sound c g is page e =
-    let inv = c.loop-r.invariant in
-    let all = IsAsFar-full c.args.level c.args.layer g c.args.records.now c.loop-r.r-index c.loop-r.maker.colours c.requires.level.1 is
-    (omega arith) (inv.as_far g is) in
-    let codes = codes_are c.args.level c.requires.level.1 in
-    let long = inv.long in
-    let differ = c.if-end-level.true in
-    omega arith
+pub returns-in_err-put_records-clause-sound : goal.returns-in_err-put_records-clause-sound
+returns-in_err-put_records-clause-sound c =
+    rw (handed_on c.from_residual.result c.from_residual.ensures.1)
+    (λ g is. c.in_err-put_records.ensures.sound g
+    (is ∙ whole_records c.args.level c.args.layer g c.requires.level.1 ∙ ap (records_within c.args.level c.args.layer g) (sym c.whole_square-whole.ensures))
+    (subst (IsCutOut c.args.level g) (sym c.whole_square-whole.ensures) (whole_cut c.args.level g)))
 
 pub finish-requires : goal.finish-requires
 finish-requires c =
-    let inv = c.loop-r.invariant in
-    let codes = codes_are c.args.level c.requires.level.1 in
-    let long = inv.long in
-    let same = c.if-end-level.false in
-    let level = ap (λ (k : ℕ). 4 ^ k) inv.level in
-    omega arith
+    c.in_ok-put_records.ensures.end ∙ ap code_to c.whole_square-whole.ensures ∙ code_to-whole c.args.level
+    ∙ ap (λ (k : ℕ). 4 ^ k) (sym c.in_ok-put_records.ensures.level)
 
 pub returns-clause-list : goal.returns-clause-list
 returns-clause-list c g grid is =
     let n = c.args.level in
-    let inv = c.loop-r.invariant in
-    let colours = c.loop-r.maker.colours in
-    let far = inv.as_far g is in
-    let all = IsAsFar-full n c.args.layer g c.args.records.now c.loop-r.r-index colours c.requires.level.1 is (omega arith) far in
-    let level = c.finish.ensures.level ∙ inv.level in
-    let made =
-    c.finish.ensures.value ∙ ap (λ (k : ℕ). grid_by_code k colours) inv.level ∙ IsAsFar-grid n g c.loop-r.r-index colours c.requires.level.1 grid all far in
+    let le = c.requires.level.1 in
+    let f = colour_at n g in
+    let start = Paints-none n f in
+    let empty : HasColours n f c.new-maker.result.colours =
+    subst (HasColours n f) (sym (ap (λ (m : Painted). m.colours) c.new-maker.ensures)) (record { each = start.each }) in
+    let within = is ∙ whole_records n c.args.layer g le ∙ ap (records_within n c.args.layer g) (sym c.whole_square-whole.ensures) in
+    let has = c.in_ok-put_records.ensures.colours g f within (λ p held. refl) empty in
+    let end : length c.put_records.new.maker.colours ≡ 4 ^ n = c.in_ok-put_records.ensures.end ∙ ap code_to c.whole_square-whole.ensures ∙ code_to-whole n in
+    let level = c.finish.ensures.level ∙ c.in_ok-put_records.ensures.level in
+    let made = c.finish.ensures.value ∙ ap (λ (k : ℕ). grid_by_code k c.put_records.new.maker.colours) c.in_ok-put_records.ensures.level
+    ∙ whole_grid n g c.put_records.new.maker.colours le grid end has in
     λ i. record { level = level i; grid = made i }

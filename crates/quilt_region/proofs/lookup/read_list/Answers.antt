@@ -56,3 +56,6 @@ returns-clause-reads g c =
 
 pub returns-clause-bad : goal.returns-clause-bad
 returns-clause-bad g c = zero_named c.list_of.result _ _ _ c.list_of.ensures.zero
+
+pub returns-in_err-records-clause-bad : goal.returns-in_err-records-clause-bad
+returns-in_err-records-clause-bad g c = rw (handed_on c.from_residual.result c.from_residual.ensures.1) c.in_err-records.ensures.bad

@@ -4,6 +4,7 @@ use Rattle.quilt_blocks.proofs.Cuts.{leaf_is}
 use Rattle.quilt_region.specs.Windows.{leaves_within}
 use Rattle.quilt_region.proofs.Parts.{block_room, window_room}
 use Rattle.quilt_region.proofs.Nearby.{window_in, leaf_cut, around_cut, one_within, more_within}
+use Rattle.quilt_btree.proofs.Handed.{handed_on}
 use Rattle.quilt_region.proofs.neighbours.block_with.Goals as goal
 
 pub leaf_with-requires-clause-in_x : goal.leaf_with-requires-clause-in_x
@@ -53,3 +54,12 @@ pub returns-clause-first : goal.returns-clause-first
 returns-clause-first g c grid h =
     let l = c.in_ok-leaf.ensures.leaf grid h in
     sym ((leaf_is c.args.level grid (leaf_pair c.in_ok-leaf.leaf) l.member).colour.each _ l.holds)
+
+pub returns-in_err-leaf-clause-sound : goal.returns-in_err-leaf-clause-sound
+returns-in_err-leaf-clause-sound g c = rw (handed_on c.from_residual.result c.from_residual.ensures.1) c.in_err-leaf.ensures.sound
+
+pub returns-in_err-leaf-clause-zero : goal.returns-in_err-leaf-clause-zero
+returns-in_err-leaf-clause-zero g c = rw (handed_on c.from_residual.result c.from_residual.ensures.1) c.in_err-leaf.ensures.zero
+
+pub returns-in_err-leaf-clause-bad : goal.returns-in_err-leaf-clause-bad
+returns-in_err-leaf-clause-bad g c = rw (handed_on c.from_residual.result c.from_residual.ensures.1) c.in_err-leaf.ensures.bad

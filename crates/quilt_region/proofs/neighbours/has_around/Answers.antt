@@ -122,3 +122,11 @@ returns-in_err-has_quarter-clause-zero g c =
 pub returns-in_err-has_quarter-clause-bad : goal.returns-in_err-has_quarter-clause-bad
 returns-in_err-has_quarter-clause-bad g c =
     bad_handed _ c.from_residual.result c.from_residual.ensures.1 c.args.tree.now c.loop-q.invariant.left.told c.in_err-has_quarter.ensures.bad
+
+pub returns-in_err-has_quarter-clause-reads : goal.returns-in_err-has_quarter-clause-reads
+returns-in_err-has_quarter-clause-reads g c =
+    reads_then (6 * c.loop-q.q-index) 6 24 _ _ _ (let lt = c.loop-q-test.true in omega arith) c.loop-q.invariant.reads c.in_err-has_quarter.ensures.reads
+
+pub returns-then-not-branch-clause-reads : goal.returns-then-not-branch-clause-reads
+returns-then-not-branch-clause-reads g c =
+    reads_then (6 * c.loop-q.q-index) 6 24 _ _ _ (let lt = c.loop-q-test.true in omega arith) c.loop-q.invariant.reads c.in_ok-has_quarter.ensures.reads

@@ -6,6 +6,7 @@ use Rattle.quilt_blocks.specs.Cutting.{leaf_pair}
 use Rattle.quilt_region.proofs.Beside.{true_false, blocks_equal, blocks_differ}
 use Rattle.quilt_region.proofs.InStep.{leaves_are, leaves_test}
 use Rattle.quilt_region.proofs.Nearby.{leaf_same}
+use Rattle.quilt_btree.proofs.Handed.{handed_on}
 use Rattle.quilt_region.proofs.neighbours.has_quarter.Goals as goal
 
 pub returns-then-eq-clause-yes : goal.returns-then-eq-clause-yes
@@ -26,3 +27,12 @@ returns-clause-no g c f grid h = (
       (record { member = there; holds = Holds-corner n c.args.q c.requires.block }) in
       true_false (sym (leaves_test c.in_ok-leaf.leaf (record { block = c.args.q; colour = c.args.c }) same) ∙ sym c.eq-2.ensures ∙ f),
 )
+
+pub returns-in_err-leaf-clause-sound : goal.returns-in_err-leaf-clause-sound
+returns-in_err-leaf-clause-sound g c = rw (handed_on c.from_residual.result c.from_residual.ensures.1) c.in_err-leaf.ensures.sound
+
+pub returns-in_err-leaf-clause-zero : goal.returns-in_err-leaf-clause-zero
+returns-in_err-leaf-clause-zero g c = rw (handed_on c.from_residual.result c.from_residual.ensures.1) c.in_err-leaf.ensures.zero
+
+pub returns-in_err-leaf-clause-bad : goal.returns-in_err-leaf-clause-bad
+returns-in_err-leaf-clause-bad g c = rw (handed_on c.from_residual.result c.from_residual.ensures.1) c.in_err-leaf.ensures.bad

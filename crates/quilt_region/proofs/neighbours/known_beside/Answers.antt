@@ -1,9 +1,10 @@
-use Rattle.std.proofs.Common.{sym, ◌∙◌, subst}
+use Rattle.std.proofs.Common.{sym, ◌∙◌, subst, le_refl, arith}
 use Rattle.quilt_types.specs.declared.plane.Block.{Block}
 use Rattle.quilt_store.proofs.Reading.{only_reads_then, only_reads_err, only_reads_ok}
 use Rattle.quilt_blocks.proofs.Maximal.{Within-self}
 use Rattle.quilt_region.specs.Regions.{HasRegion}
 use Rattle.quilt_region.specs.Windows.{HasAround}
+use Rattle.quilt_world.proofs.ReadCounts.{reads_then, reads_more}
 use Rattle.quilt_region.proofs.Beside.{true_false}
 use Rattle.quilt_region.proofs.Nearby.{not_whole, around_self}
 use Rattle.quilt_btree.proofs.Handed.{handed_on}
@@ -56,3 +57,27 @@ pub returns-in_err-has_around-clause-bad : goal.returns-in_err-has_around-clause
 returns-in_err-has_around-clause-bad g c =
     bad_handed _ c.from_residual-in_err-has_around.result c.from_residual-in_err-has_around.ensures.1
     c.args.tree.now c.in_ok-b.ensures.left.told c.in_err-has_around.ensures.bad
+
+pub returns-in_err-has_around-clause-reads : goal.returns-in_err-has_around-clause-reads
+returns-in_err-has_around-clause-reads g c = reads_then 6 24 30 _ _ _ (le_refl 30) c.in_ok-b.ensures.reads c.in_err-has_around.ensures.reads
+
+pub returns-then-branch-clause-reads : goal.returns-then-branch-clause-reads
+returns-then-branch-clause-reads g c = reads_then 6 24 30 _ _ _ (le_refl 30) c.in_ok-b.ensures.reads c.in_ok-has_around.ensures.reads
+
+pub returns-clause-reads : goal.returns-clause-reads
+returns-clause-reads g c = reads_then 6 24 30 _ _ _ (le_refl 30) c.in_ok-b.ensures.reads c.in_ok-has_around.ensures.reads
+
+pub returns-in_err-b-clause-reads : goal.returns-in_err-b-clause-reads
+returns-in_err-b-clause-reads g c = reads_more 6 30 _ _ (omega arith) c.in_err-b.ensures.reads
+
+pub returns-in_default-clause-reads : goal.returns-in_default-clause-reads
+returns-in_default-clause-reads g c = reads_more 6 30 _ _ (omega arith) c.in_ok-b.ensures.reads
+
+pub returns-in_err-b-clause-sound : goal.returns-in_err-b-clause-sound
+returns-in_err-b-clause-sound g c = rw (handed_on c.from_residual.result c.from_residual.ensures.1) c.in_err-b.ensures.sound
+
+pub returns-in_err-b-clause-zero : goal.returns-in_err-b-clause-zero
+returns-in_err-b-clause-zero g c = rw (handed_on c.from_residual.result c.from_residual.ensures.1) c.in_err-b.ensures.zero
+
+pub returns-in_err-b-clause-bad : goal.returns-in_err-b-clause-bad
+returns-in_err-b-clause-bad g c = rw (handed_on c.from_residual.result c.from_residual.ensures.1) c.in_err-b.ensures.bad

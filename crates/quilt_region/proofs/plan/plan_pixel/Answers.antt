@@ -107,3 +107,12 @@ returns-in_err-top-clause-bad g c =
 
 pub returns-clause-bad : goal.returns-clause-bad
 returns-clause-bad g c = zero_named c.plan_known.result _ _ _ c.plan_known.ensures.zero
+
+pub returns-in_err-leaf-clause-sound : goal.returns-in_err-leaf-clause-sound
+returns-in_err-leaf-clause-sound g c = rw (handed_on c.from_residual.result c.from_residual.ensures.1) c.in_err-leaf.ensures.sound
+
+pub returns-in_err-leaf-clause-zero : goal.returns-in_err-leaf-clause-zero
+returns-in_err-leaf-clause-zero g c = rw (handed_on c.from_residual.result c.from_residual.ensures.1) c.in_err-leaf.ensures.zero
+
+pub returns-in_err-leaf-clause-bad : goal.returns-in_err-leaf-clause-bad
+returns-in_err-leaf-clause-bad g c = rw (handed_on c.from_residual.result c.from_residual.ensures.1) c.in_err-leaf.ensures.bad

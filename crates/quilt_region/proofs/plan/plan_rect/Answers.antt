@@ -15,6 +15,7 @@ use Rattle.quilt_region.proofs.Nearby.{power_le}
 use Rattle.quilt_region.proofs.plans.QuarterPlans.{some_at}
 use Rattle.quilt_btree.proofs.Stops.{zero_along}
 use Rattle.quilt_btree.proofs.ways.Damage.{named_along}
+use Rattle.quilt_btree.proofs.Handed.{handed_on}
 use Rattle.quilt_region.proofs.plan.plan_rect.Goals as goal
 
 pub returns-in-Some-clause-reads : goal.returns-in-Some-clause-reads
@@ -88,3 +89,12 @@ returns-in-None-clause-zero g c =
 pub returns-in-None-clause-bad : goal.returns-in-None-clause-bad
 returns-in-None-clause-bad g c =
     named_along c.plan_together.result _ _ _ _ c.in_ok-edits.ensures.left.told c.plan_together.ensures.bad
+
+pub returns-in_err-edits-clause-sound : goal.returns-in_err-edits-clause-sound
+returns-in_err-edits-clause-sound g c = rw (handed_on c.from_residual.result c.from_residual.ensures.1) c.in_err-edits.ensures.sound
+
+pub returns-in_err-edits-clause-zero : goal.returns-in_err-edits-clause-zero
+returns-in_err-edits-clause-zero g c = rw (handed_on c.from_residual.result c.from_residual.ensures.1) c.in_err-edits.ensures.zero
+
+pub returns-in_err-edits-clause-bad : goal.returns-in_err-edits-clause-bad
+returns-in_err-edits-clause-bad g c = rw (handed_on c.from_residual.result c.from_residual.ensures.1) c.in_err-edits.ensures.bad

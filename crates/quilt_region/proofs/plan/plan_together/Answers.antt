@@ -76,3 +76,12 @@ returns-in_err-records-clause-bad g c =
 
 pub returns-clause-bad : goal.returns-clause-bad
 returns-clause-bad g c = zero_named c.plan_known.result _ _ _ c.plan_known.ensures.zero
+
+pub returns-in_err-known-clause-sound : goal.returns-in_err-known-clause-sound
+returns-in_err-known-clause-sound g c = rw (handed_on c.from_residual.result c.from_residual.ensures.1) c.in_err-known.ensures.sound
+
+pub returns-in_err-known-clause-zero : goal.returns-in_err-known-clause-zero
+returns-in_err-known-clause-zero g c = rw (handed_on c.from_residual.result c.from_residual.ensures.1) c.in_err-known.ensures.zero
+
+pub returns-in_err-known-clause-bad : goal.returns-in_err-known-clause-bad
+returns-in_err-known-clause-bad g c = rw (handed_on c.from_residual.result c.from_residual.ensures.1) c.in_err-known.ensures.bad

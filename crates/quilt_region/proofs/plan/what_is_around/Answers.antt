@@ -47,3 +47,12 @@ returns-in_err-top-clause-zero g c =
 pub returns-in_err-top-clause-bad : goal.returns-in_err-top-clause-bad
 returns-in_err-top-clause-bad g c =
     bad_handed _ c.from_residual-in_err-top.result c.from_residual-in_err-top.ensures.1 c.args.tree.now c.in_ok-read.ensures.left.told c.in_err-top.ensures.bad
+
+pub returns-in_err-read-clause-sound : goal.returns-in_err-read-clause-sound
+returns-in_err-read-clause-sound g c = rw (handed_on c.from_residual.result c.from_residual.ensures.1) c.in_err-read.ensures.sound
+
+pub returns-in_err-read-clause-zero : goal.returns-in_err-read-clause-zero
+returns-in_err-read-clause-zero g c = rw (handed_on c.from_residual.result c.from_residual.ensures.1) c.in_err-read.ensures.zero
+
+pub returns-in_err-read-clause-bad : goal.returns-in_err-read-clause-bad
+returns-in_err-read-clause-bad g c = rw (handed_on c.from_residual.result c.from_residual.ensures.1) c.in_err-read.ensures.bad

@@ -7,13 +7,14 @@ use Rattle.quilt_types.specs.Plane.{quarters_of, Holds}
 use Rattle.quilt_types.specs.Layers.{Grid}
 use Rattle.quilt_types.specs.Algebra.{painted}
 use Rattle.quilt_loc.proofs.Blocks.{IsBlock-up}
+use Rattle.quilt_btree.specs.Trees.{IsRooted}
 use Rattle.quilt_region.specs.declared.known.Known.{Known}
 use Rattle.quilt_region.specs.Plans.{records_without}
 use Rattle.quilt_region.specs.Quarters.{records_without_in}
 use Rattle.quilt_region.specs.Regions.{HasRegion}
-use Rattle.quilt_region.specs.Windows.{KnowsAround, leaves_within}
+use Rattle.quilt_region.specs.Windows.{IsKnown, KnowsAround, leaves_within}
 use Rattle.quilt_region.proofs.Beside.{if_ok_weaker}
-use Rattle.quilt_world.proofs.ReadCounts.{reads_then, reads_more}
+use Rattle.quilt_world.proofs.ReadCounts.{reads_then, reads_more, reads_none}
 use Rattle.quilt_region.proofs.Nearby.{more_within}
 use Rattle.quilt_region.proofs.Parts.{block_room, window_room}
 use Rattle.quilt_region.proofs.plans.QuarterPlans.{without_part, part_several, with_part, top_inside}
@@ -248,3 +249,45 @@ pub returns-in_err-plan_part-clause-bad : goal.returns-in_err-plan_part-clause-b
 returns-in_err-plan_part-clause-bad g t c =
     bad_handed _ c.from_residual-in_err-plan_part.result c.from_residual-in_err-plan_part.ensures.1
     c.args.tree.now (c.in_ok-plan_quarters.ensures.left.told ∙ c.in_ok-known.ensures.left.told) c.in_err-plan_part.ensures.bad
+
+pub returns-in_default-clause-tried : goal.returns-in_default-clause-tried
+returns-in_default-clause-tried g t c =
+    if_ok_weaker c.plan_quarters.result
+    (λ (u : Bool) law is. reads_more (30 * (c.args.count - 1)) (30 * c.args.count) _ _ (omega arith) (law is)) c.plan_quarters.ensures.tried
+
+pub returns-then-not-branch-clause-tried : goal.returns-then-not-branch-clause-tried
+returns-then-not-branch-clause-tried g t c _ =
+    reads_then 30 (30 * (c.args.count - 1)) (30 * c.args.count) _ _ _ (omega (arith, c.if-count-eq0.false)) c.in_ok-known.ensures.reads
+    (c.in_ok-plan_quarters.ensures.tried c.if-not-branch.true)
+
+pub returns-in_default-2-clause-tried : goal.returns-in_default-2-clause-tried
+returns-in_default-2-clause-tried g t c _ =
+    reads_more 30 (30 * c.args.count) _ _ (omega (arith, c.if-count-eq0.false)) c.in_ok-known.ensures.reads
+
+pub returns-then-count-eq0-clause-reads : goal.returns-then-count-eq0-clause-reads
+returns-then-count-eq0-clause-reads g t c _ grid h = reads_none _ (g.S.PageStore.reads c.args.store.now)
+
+pub returns-in_err-known-clause-sound : goal.returns-in_err-known-clause-sound
+returns-in_err-known-clause-sound g t c = rw (handed_on c.from_residual.result c.from_residual.ensures.1) c.in_err-known.ensures.sound
+
+pub returns-in_err-known-clause-zero : goal.returns-in_err-known-clause-zero
+returns-in_err-known-clause-zero g t c = rw (handed_on c.from_residual.result c.from_residual.ensures.1) c.in_err-known.ensures.zero
+
+pub returns-in_err-known-clause-bad : goal.returns-in_err-known-clause-bad
+returns-in_err-known-clause-bad g t c = rw (handed_on c.from_residual.result c.from_residual.ensures.1) c.in_err-known.ensures.bad
+
+pub plan_quarters-requires : goal.plan_quarters-requires
+plan_quarters-requires g t c κs within =
+    let some : 1 ≤ c.args.count = omega (arith, c.if-count-eq0.false) in
+    let most = c.requires.most in
+    (omega arith, (within, (c.requires.rooted, (c.requires.layer, (c.requires.level, (c.requires.window, (c.requires.block, (c.requires.wide, omega arith))))))))
+
+pub plan_quarters-requires-2 : goal.plan_quarters-requires-2
+plan_quarters-requires-2 g t c κs within =
+    let some : 1 ≤ c.args.count = omega (arith, c.if-count-eq0.false) in
+    let most = c.requires.most in
+    let rooted = subst (λ (size : ℕ). IsRooted size c.args.tree.now) (sym c.in_ok-known.ensures.left.size) c.requires.rooted in
+    (omega arith, (within, (rooted, (c.requires.layer, (c.requires.level, (c.requires.window, (c.requires.block, (c.requires.wide, omega arith))))))))
+
+pub plan_part-requires-clause-blocks : goal.plan_part-requires-clause-blocks
+plan_part-requires-clause-blocks g t c = some_at (λ (k : Known). IsKnown c.args.level k) c.in_ok-known.field-0 c.in-Some-2.known c.in-Some-2.is c.in_ok-known.ensures.blocks

@@ -5,6 +5,7 @@ use Rattle.quilt_types.specs.Algebra.{painted}
 use Rattle.quilt_region.specs.Windows.{leaves_within}
 use Rattle.quilt_world.proofs.ReadCounts.{reads_more}
 use Rattle.quilt_region.proofs.plans.KnownPlans.{corner_in}
+use Rattle.quilt_region.proofs.Results.{only_reads_no_fault}
 use Rattle.quilt_region.proofs.Nearby.{window_corner}
 use Rattle.quilt_region.proofs.plans.Quarters.{quarter_with, few_in_quarters}
 use Rattle.quilt_region.proofs.plans.QuarterPlans.{inside_from, quarters_whole, can_be, sorted_is, from_none}
@@ -62,3 +63,16 @@ returns-in_err-edits-clause-zero g c =
 pub returns-in_err-edits-clause-bad : goal.returns-in_err-edits-clause-bad
 returns-in_err-edits-clause-bad g c =
     rw (handed_on c.from_residual-in_err-edits.result c.from_residual-in_err-edits.ensures.1) (zero_names _ _ _ _ (zero_page _ c.in_err-edits.ensures.zero))
+
+pub returns-in_err-edits-clause-left : goal.returns-in_err-edits-clause-left
+returns-in_err-edits-clause-left g c =
+    only_reads_no_fault _ _ c.from_residual-in_err-edits.ensures.1 c.in_err-edits.ensures.no_fault c.in_ok-plan_quarters.ensures.left
+
+pub returns-in_err-plan_quarters-clause-sound : goal.returns-in_err-plan_quarters-clause-sound
+returns-in_err-plan_quarters-clause-sound g c = rw (handed_on c.from_residual.result c.from_residual.ensures.1) c.in_err-plan_quarters.ensures.sound
+
+pub returns-in_err-plan_quarters-clause-zero : goal.returns-in_err-plan_quarters-clause-zero
+returns-in_err-plan_quarters-clause-zero g c = rw (handed_on c.from_residual.result c.from_residual.ensures.1) c.in_err-plan_quarters.ensures.zero
+
+pub returns-in_err-plan_quarters-clause-bad : goal.returns-in_err-plan_quarters-clause-bad
+returns-in_err-plan_quarters-clause-bad g c = rw (handed_on c.from_residual.result c.from_residual.ensures.1) c.in_err-plan_quarters.ensures.bad

@@ -17,3 +17,6 @@ returns-in-Some-clause-sound g c n h page e =
 pub returns-in_err-r-clause-zero : goal.returns-in_err-r-clause-zero
 returns-in_err-r-clause-zero g c =
     rw (handed_on c.from_residual.result c.from_residual.ensures.1) (λ h. sound_zero _ (c.in_err-r.ensures.sound h.before h.after h.tree h.stands))
+
+pub returns-in_err-r-clause-bad : goal.returns-in_err-r-clause-bad
+returns-in_err-r-clause-bad g c = rw (handed_on c.from_residual.result c.from_residual.ensures.1) c.in_err-r.ensures.bad

@@ -2,6 +2,7 @@ use Rattle.std.proofs.Common.{◌+◌, ◌*◌, cond, length, ◌∙◌, arith}
 use Rattle.std.proofs.lemmas.Result.{IfOk-weaker, IfErr-weaker}
 use Rattle.quilt_blocks.specs.Cutting.{leaves_by_code}
 use Rattle.quilt_measure.proofs.Parts.{same_leaves}
+use Rattle.quilt_store.proofs.Reading.{only_reads_then}
 use Rattle.quilt_world.proofs.ReadCounts.{reads_then}
 use Rattle.quilt_region.proofs.Walking.{ahead_along, has_side, some_records, walk_begins, stands_along, stands_sought}
 use Rattle.quilt_btree.proofs.Handed.{handed_on}
@@ -63,3 +64,6 @@ returns-in_err-cursor-clause-bad g c =
 pub returns-clause-bad : goal.returns-clause-bad
 returns-clause-bad g c =
     named_along c.count_ahead.result _ _ _ _ c.in_ok-cursor.ensures.left.told c.count_ahead.ensures.bad
+
+pub returns-clause-left : goal.returns-clause-left
+returns-clause-left g c = only_reads_then _ g.met.S.PageStore.goes_on _ _ _ c.in_ok-cursor.ensures.left c.count_ahead.ensures.left

@@ -2,23 +2,25 @@ use Rattle.std.proofs.Common.{◌≡◌, ℕ, ◌+◌, ◌*◌, ◌/◌, take, g
 use Rattle.std.specs.List.{sum_by}
 use Rattle.std.proofs.lemmas.Result.{on_ok_weaker}
 use Rattle.std.proofs.lemmas.List.Sums.{sum_by-take-le}
-use Rattle.quilt_store.proofs.Reading.{read_on}
+use Rattle.quilt_store.proofs.Reading.{read_on, only_reads_then, only_reads_same, only_reads_free}
 use Rattle.quilt_types.specs.declared.plane.Block.{Block}
-use Rattle.quilt_types.specs.Plane.{quarters_of}
+use Rattle.quilt_types.specs.Plane.{quarters_of, IsBlock}
 use Rattle.quilt_loc.specs.Codes.{code_from}
 use Rattle.quilt_loc.proofs.Blocks.{IsBlock-up}
 use Rattle.quilt_loc.proofs.Intervals.{half_codes}
-use Rattle.quilt_blocks.specs.Painting.{Painted}
 use Rattle.quilt_blocks.proofs.Adding.{part_at}
 use Rattle.quilt_btree.specs.Trees.{IsRooted}
 use Rattle.quilt_region.specs.Regions.{HasRegion}
 use Rattle.quilt_region.specs.Windows.{leaves_within}
 use Rattle.quilt_region.specs.Covers.{cover_of, cover_colour, cost_in}
-use Rattle.quilt_world.proofs.ReadCounts.{reads_then, reads_more}
+use Rattle.quilt_world.proofs.ReadCounts.{reads_then, reads_more, reads_none}
+use Rattle.quilt_region.proofs.Beside.{if_err_weaker}
 use Rattle.quilt_region.proofs.Covers.{beside_cover, met_cover, in_cover, wide_over, half_over, cost_here, cost_quarters, quarter_sum}
-use Rattle.quilt_region.proofs.Parts.{block_room, window_room, HasColours-push}
+use Rattle.quilt_region.proofs.Parts.{block_room, window_room, HasColours-added}
 use Rattle.quilt_btree.proofs.Handed.{handed_on}
 use Rattle.quilt_btree.proofs.Stops.{zero_handed, bad_handed}
+use Rattle.quilt_btree.proofs.stores.Looks.{only_reads_handed}
+use Rattle.quilt_btree.proofs.ways.Damage.{zero_named}
 use Rattle.quilt_region.proofs.window.+put_window.Goals as goal
 
 abbrev zero_block : Block
@@ -36,14 +38,35 @@ meets-requires-clause-window_width g t c = (window_room c.args.level c.args.w c.
 pub meets-requires-clause-window_height : goal.meets-requires-clause-window_height
 meets-requires-clause-window_height g t c = (window_room c.args.level c.args.w c.requires.level.1 c.requires.window).1
 
-pub returns-in-Ok-clause-colours : goal.returns-in-Ok-clause-colours
-returns-in-Ok-clause-colours g t c grid h has =
+pub put_one-requires-clause-block : goal.put_one-requires-clause-block
+put_one-requires-clause-block g t c = subst (λ (n : ℕ). IsBlock n c.args.b) (sym c.requires.same_level) c.requires.block
+
+pub returns-then-not-meets-clause-colours : goal.returns-then-not-meets-clause-colours
+returns-then-not-meets-clause-colours g t c =
     let n = c.args.level in
-    HasColours-push n (cover_colour n grid c.args.side c.args.w) c.args.maker.now.colours c.push.new.self.colours c.args.b 0 c.requires.level.1
-    c.requires.block (sym c.requires.next)
-    (λ p held. beside_cover n grid c.args.side c.args.w c.args.b p c.requires.block c.requires.over.power c.requires.wide
-    (sym (c.if-not-meets.ensures {u = tt})) held)
-    (ap (λ (m : Painted). m.colours) c.in-Ok.ensures.ok) has
+    on_ok_weaker c.put_one.result
+    (λ law grid h.
+    HasColours-added _ _ (cover_colour n grid c.args.side c.args.w) c.args.maker.now.colours c.put_one.new.maker.colours c.requires.same_level
+    (law (cover_colour n grid c.args.side c.args.w) (λ p held. beside_cover n grid c.args.side c.args.w c.args.b p c.requires.block
+    c.requires.over.power c.requires.wide (sym (c.if-not-meets.ensures {u = tt})) held)))
+    c.put_one.ensures.colours
+
+pub returns-then-not-meets-clause-sound : goal.returns-then-not-meets-clause-sound
+returns-then-not-meets-clause-sound g t c = if_err_weaker c.put_one.result (λ e law grid h. law) c.put_one.ensures.sound
+
+pub returns-then-not-meets-clause-zero : goal.returns-then-not-meets-clause-zero
+returns-then-not-meets-clause-zero g t c = if_err_weaker c.put_one.result (λ e zero rs is. zero) c.put_one.ensures.zero
+
+pub returns-then-not-meets-clause-bad : goal.returns-then-not-meets-clause-bad
+returns-then-not-meets-clause-bad g t c = zero_named c.put_one.result _ _ _ c.put_one.ensures.zero
+
+pub returns-then-not-meets-clause-left : goal.returns-then-not-meets-clause-left
+returns-then-not-meets-clause-left g t c =
+    only_reads_free _ c.put_one.result (only_reads_same _ c.args.level _ (g.met.S.PageStore.same_time _)) c.put_one.ensures.no_fault
+
+pub returns-then-not-meets-clause-reads : goal.returns-then-not-meets-clause-reads
+returns-then-not-meets-clause-reads g t c =
+    on_ok_weaker c.put_one.result (λ end grid h. reads_none _ (g.S.PageStore.reads c.args.store.now)) c.put_one.ensures.end
 
 pub returns-then-b-side-clause-colours : goal.returns-then-b-side-clause-colours
 returns-then-b-side-clause-colours g t c =
@@ -158,3 +181,8 @@ returns-in_err-put_window-clause-zero g t c =
 pub returns-in_err-put_window-clause-bad : goal.returns-in_err-put_window-clause-bad
 returns-in_err-put_window-clause-bad g t c =
     bad_handed _ c.from_residual.result c.from_residual.ensures.1 c.args.tree.now c.loop-q.invariant.left.told c.in_err-put_window.ensures.bad
+
+pub returns-in_err-put_window-clause-left : goal.returns-in_err-put_window-clause-left
+returns-in_err-put_window-clause-left g t c =
+    only_reads_handed _ c.from_residual.ensures.1
+    (only_reads_then _ g.met.S.PageStore.goes_on _ _ _ c.loop-q.invariant.left c.in_err-put_window.ensures.left)

@@ -1,27 +1,20 @@
-use Rattle.std.proofs.Common.{◌+◌, ◌*◌, length, sym, ◌∙◌, ap, subst, arith}
+use Rattle.std.proofs.Common.{ℕ, ◌+◌, ◌*◌, length, sym, ◌∙◌, subst, arith}
 use Rattle.std.proofs.lemmas.Result.{on_ok_weaker}
 use Rattle.quilt_blocks.specs.Cutting.{leaf_pair}
-use Rattle.quilt_blocks.specs.Painting.{Painted}
+use Rattle.quilt_types.specs.Plane.{IsBlock}
+use Rattle.quilt_store.proofs.Reading.{only_reads_then, only_reads_free}
 use Rattle.quilt_region.specs.Regions.{HasRegion}
 use Rattle.quilt_region.specs.Windows.{leaves_within}
 use Rattle.quilt_region.proofs.Beside.{if_err_weaker}
-use Rattle.quilt_world.proofs.ReadCounts.{reads_then}
+use Rattle.quilt_world.proofs.ReadCounts.{reads_then, reads_more}
 use Rattle.quilt_region.proofs.Counting.{reads_plain}
 use Rattle.quilt_region.proofs.Covers.{smaller_cut, larger_colour}
-use Rattle.quilt_region.proofs.Parts.{HasColours-push}
+use Rattle.quilt_region.proofs.Parts.{HasColours-added}
 use Rattle.quilt_btree.proofs.Handed.{handed_on}
 use Rattle.quilt_btree.proofs.Stops.{zero_handed, bad_handed}
+use Rattle.quilt_btree.proofs.stores.Looks.{only_reads_handed}
 use Rattle.quilt_btree.proofs.ways.Damage.{zero_named}
 use Rattle.quilt_region.proofs.window.put_read.Goals as goal
-
-pub returns-in-Ok-clause-colours : goal.returns-in-Ok-clause-colours
-returns-in-Ok-clause-colours g c grid f h same has =
-    let n = c.args.level in
-    let leaf = c.in_ok-leaf.ensures.leaf grid h in
-    HasColours-push n f c.args.maker.now.colours c.push.new.self.colours c.args.b c.in_ok-leaf.leaf.colour.0 c.requires.level.1 c.requires.block
-    (sym c.requires.next)
-    (λ p held. same p held ∙ larger_colour n grid (leaf_pair c.in_ok-leaf.leaf) c.args.b p c.requires.block leaf c.if-b-leaf.true held)
-    (ap (λ (m : Painted). m.colours) c.in-Ok.ensures.ok) has
 
 pub returns-in_err-records-clause-sound : goal.returns-in_err-records-clause-sound
 returns-in_err-records-clause-sound g c =
@@ -71,3 +64,52 @@ returns-in_err-records-clause-bad g c =
 
 pub returns-clause-bad : goal.returns-clause-bad
 returns-clause-bad g c = zero_named c.put_records.result _ _ _ c.put_records.ensures.zero
+
+pub returns-in_err-records-clause-left : goal.returns-in_err-records-clause-left
+returns-in_err-records-clause-left g c =
+    only_reads_handed _ c.from_residual-in_err-records.ensures.1
+    (only_reads_then _ g.met.S.PageStore.goes_on _ _ _ c.in_ok-leaf.ensures.left c.in_err-records.ensures.left)
+
+pub returns-clause-left : goal.returns-clause-left
+returns-clause-left g c =
+    only_reads_free _ c.put_records.result (only_reads_then _ g.met.S.PageStore.goes_on _ _ _ c.in_ok-leaf.ensures.left c.in_ok-records.ensures.left)
+    c.put_records.ensures.no_fault
+
+pub put_one-requires-clause-block : goal.put_one-requires-clause-block
+put_one-requires-clause-block g c = subst (λ (n : ℕ). IsBlock n c.args.b) (sym c.requires.same_level) c.requires.block
+
+pub returns-then-b-leaf-clause-colours : goal.returns-then-b-leaf-clause-colours
+returns-then-b-leaf-clause-colours g c =
+    on_ok_weaker c.put_one.result
+    (λ law grid f h same.
+    HasColours-added _ _ f c.args.maker.now.colours c.put_one.new.maker.colours c.requires.same_level
+    (law f (λ p held. same p held
+    ∙ larger_colour c.args.level grid (leaf_pair c.in_ok-leaf.leaf) c.args.b p c.requires.block (c.in_ok-leaf.ensures.leaf grid h) c.if-b-leaf.true held)))
+    c.put_one.ensures.colours
+
+pub returns-then-b-leaf-clause-sound : goal.returns-then-b-leaf-clause-sound
+returns-then-b-leaf-clause-sound g c = if_err_weaker c.put_one.result (λ e law grid h. law) c.put_one.ensures.sound
+
+pub returns-then-b-leaf-clause-zero : goal.returns-then-b-leaf-clause-zero
+returns-then-b-leaf-clause-zero g c = if_err_weaker c.put_one.result (λ e zero rs is. zero) c.put_one.ensures.zero
+
+pub returns-then-b-leaf-clause-bad : goal.returns-then-b-leaf-clause-bad
+returns-then-b-leaf-clause-bad g c = zero_named c.put_one.result _ _ _ c.put_one.ensures.zero
+
+pub returns-then-b-leaf-clause-left : goal.returns-then-b-leaf-clause-left
+returns-then-b-leaf-clause-left g c = only_reads_free _ c.put_one.result c.in_ok-leaf.ensures.left c.put_one.ensures.no_fault
+
+pub returns-then-b-leaf-clause-reads : goal.returns-then-b-leaf-clause-reads
+returns-then-b-leaf-clause-reads g c =
+    on_ok_weaker c.put_one.result
+    (λ end grid h. reads_more 6 (12 + 3 * length (leaves_within c.args.level grid c.args.b)) _ _ (omega arith) c.in_ok-leaf.ensures.reads)
+    c.put_one.ensures.end
+
+pub returns-in_err-leaf-clause-sound : goal.returns-in_err-leaf-clause-sound
+returns-in_err-leaf-clause-sound g c = rw (handed_on c.from_residual.result c.from_residual.ensures.1) c.in_err-leaf.ensures.sound
+
+pub returns-in_err-leaf-clause-zero : goal.returns-in_err-leaf-clause-zero
+returns-in_err-leaf-clause-zero g c = rw (handed_on c.from_residual.result c.from_residual.ensures.1) c.in_err-leaf.ensures.zero
+
+pub returns-in_err-leaf-clause-bad : goal.returns-in_err-leaf-clause-bad
+returns-in_err-leaf-clause-bad g c = rw (handed_on c.from_residual.result c.from_residual.ensures.1) c.in_err-leaf.ensures.bad

@@ -13,6 +13,7 @@ use Rattle.quilt_region.specs.Covers.{cover_of, cover_colour, cost_in}
 use Rattle.quilt_world.proofs.ReadCounts.{reads_more}
 use Rattle.quilt_region.proofs.Covers.{agrees_from, side_same, cost_whole}
 use Rattle.quilt_region.proofs.Parts.{window_room}
+use Rattle.quilt_btree.proofs.Handed.{handed_on}
 use Rattle.quilt_region.proofs.window.read_window.Goals as goal
 
 pub side_over-side-requires-clause-width : goal.side_over-side-requires-clause-width
@@ -52,3 +53,12 @@ returns-clause-reads g c grid s h over =
     let all = cost_whole n grid (cover_of t c.args.w) c.whole_square-whole.result in
     subst (λ (k : ℕ). Goes {A = ℕ} (λ old new. new ≤ old + own k) (g.S.PageStore.reads c.args.store.now) (g.S.PageStore.reads c.put_window.new.store)) same
     (reads_more (cost_in n grid (cover_of t c.args.w) c.whole_square-whole.result) (own t) _ _ all (c.in_ok-put_window.ensures.reads grid h))
+
+pub returns-in_err-put_window-clause-sound : goal.returns-in_err-put_window-clause-sound
+returns-in_err-put_window-clause-sound g c = rw (handed_on c.from_residual.result c.from_residual.ensures.1) c.in_err-put_window.ensures.sound
+
+pub returns-in_err-put_window-clause-zero : goal.returns-in_err-put_window-clause-zero
+returns-in_err-put_window-clause-zero g c = rw (handed_on c.from_residual.result c.from_residual.ensures.1) c.in_err-put_window.ensures.zero
+
+pub returns-in_err-put_window-clause-bad : goal.returns-in_err-put_window-clause-bad
+returns-in_err-put_window-clause-bad g c = rw (handed_on c.from_residual.result c.from_residual.ensures.1) c.in_err-put_window.ensures.bad

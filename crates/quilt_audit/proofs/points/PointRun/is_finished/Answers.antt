@@ -1,5 +1,5 @@
 use Rattle.std.proofs.Common.{sym, ◌∙◌, arith, leb-true, le-leb}
-use Rattle.quilt_region.proofs.Progress.{codes_are}
+use Rattle.quilt_audit.proofs.CodeCount.{codes_are}
 use Rattle.quilt_audit.proofs.points.PointRun.is_finished.Goals as goal
 
 pub returns-then-self-level-clause-yes : goal.returns-then-self-level-clause-yes

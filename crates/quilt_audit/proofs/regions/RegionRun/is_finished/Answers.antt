@@ -1,5 +1,5 @@
 use Rattle.std.proofs.Common.{sym, ◌∙◌, eqb-true, eq-eqb}
-use Rattle.quilt_region.proofs.Progress.{codes_are}
+use Rattle.quilt_audit.proofs.CodeCount.{codes_are}
 use Rattle.quilt_audit.proofs.regions.RegionRun.is_finished.Goals as goal
 
 pub returns-clause-yes : goal.returns-clause-yes

@@ -187,3 +187,6 @@ pub returns-in_err-add_in-clause-zero : goal.returns-in_err-add_in-clause-zero
 returns-in_err-add_in-clause-zero g t c =
     zero_handed _ c.from_residual-in_err-add_in.result c.from_residual-in_err-add_in.ensures.1
     c.args.self.now.view.tree c.loop-q.invariant.left.told c.in_err-add_in.ensures.zero
+
+pub returns-in_err-ids-clause-zero : goal.returns-in_err-ids-clause-zero
+returns-in_err-ids-clause-zero g t c = rw (handed_on c.from_residual.result c.from_residual.ensures.1) c.in_err-ids.ensures.zero

@@ -71,3 +71,6 @@ add_in-requires-clause-search g c =
 
 pub returns-clause-zero : goal.returns-clause-zero
 returns-clause-zero g c = IfErr-weaker c.edits_of.result _ _ (λ e zero rs is. zero_page e zero) c.edits_of.ensures.zero
+
+pub returns-in_err-add_in-clause-zero : goal.returns-in_err-add_in-clause-zero
+returns-in_err-add_in-clause-zero g c = rw (handed_on c.from_residual.result c.from_residual.ensures.1) c.in_err-add_in.ensures.zero

@@ -1,8 +1,8 @@
 use Rattle.std.proofs.Common.{◌≡◌, ℕ, zero, suc, ◌+◌, ◌*◌, List, take, length, sum_by, get_or, sym, ◌∙◌, ap, subst, arith, Contains, pow-suc, vec_len}
-use Rattle.std.proofs.lemmas.Result.{IfOk-weaker, IfErr-weaker}
+use Rattle.std.proofs.lemmas.Result.{IfOk-weaker, IfErr-weaker, on_ok_weaker}
 use Rattle.std.proofs.lemmas.List.{take_all}
 use Rattle.std.proofs.lemmas.Option.{MatchOption-at_none, MatchOption-at_some}
-use Rattle.quilt_store.proofs.Reading.{read_on}
+use Rattle.quilt_store.proofs.Reading.{read_on, only_reads_then, only_reads_free}
 use Rattle.quilt_types.specs.declared.plane.Block.{Block}
 use Rattle.quilt_types.specs.Plane.{side, quarters_of}
 use Rattle.quilt_loc.proofs.Blocks.{IsBlock-up}
@@ -21,6 +21,7 @@ use Rattle.quilt_lines.proofs.Costs.{due_leaf, due_cut, due_split, quarter_above
 use Rattle.quilt_lines.proofs.Sums.{reads_sum, reads_more}
 use Rattle.quilt_lines.proofs.Quarters.{quarter_in, quarter_at}
 use Rattle.quilt_btree.proofs.Handed.{handed_on}
+use Rattle.quilt_btree.proofs.stores.Looks.{only_reads_handed}
 use Rattle.quilt_btree.proofs.Stops.{zero_along, zero_handed}
 use Rattle.quilt_lines.proofs.removal.Removal.+settle.Goals as goal
 
@@ -183,3 +184,22 @@ settle-returns-clause-zero g t c =
 pub settle_quarters-returns-in_err-x-clause-zero : goal.settle_quarters-returns-in_err-x-clause-zero
 settle_quarters-returns-in_err-x-clause-zero g t c =
     zero_handed _ c.from_residual.result c.from_residual.ensures.1 c.args.tree.now c.loop-q.invariant.left.told c.in_err-x.ensures.zero
+
+pub settle-returns-clause-left : goal.settle-returns-clause-left
+settle-returns-clause-left g t c = only_reads_then _ g.met.S.PageStore.goes_on _ _ _ c.in_ok-ids.ensures.left c.settle_quarters.ensures.left
+
+pub settle-returns-clause-search : goal.settle-returns-clause-search
+settle-returns-clause-search g t c =
+    on_ok_weaker c.settle_quarters.result (search_along _ _ c.args.tree.now c.args.self.now.level c.args.self.now.layer c.settle_quarters.new.search
+    (sym c.in_ok-ids.ensures.left.told)) c.settle_quarters.ensures.search
+
+pub settle_quarters-returns-in_err-x-clause-left : goal.settle_quarters-returns-in_err-x-clause-left
+settle_quarters-returns-in_err-x-clause-left g t c =
+    only_reads_handed _ c.from_residual.ensures.1 (only_reads_then _ g.met.S.PageStore.goes_on _ _ _ c.loop-q.invariant.left c.in_err-x.ensures.left)
+
+pub settle_quarters-returns-in-Err-clause-left : goal.settle_quarters-returns-in-Err-clause-left
+settle_quarters-returns-in-Err-clause-left g t c =
+    only_reads_free _ _ (only_reads_then _ g.met.S.PageStore.goes_on _ _ _ c.loop-q.invariant.left c.in_ok-x.ensures.left) (λ is. cc)
+
+pub settle-returns-in_err-ids-clause-zero : goal.settle-returns-in_err-ids-clause-zero
+settle-returns-in_err-ids-clause-zero g t c = rw (handed_on c.from_residual.result c.from_residual.ensures.1) c.in_err-ids.ensures.zero

@@ -11,6 +11,7 @@ use Rattle.quilt_lines.specs.Bounds.{is_met_above, due}
 use Rattle.quilt_lines.proofs.Costs.{due_whole, whole_above}
 use Rattle.quilt_lines.proofs.Sums.{reads_more}
 use Rattle.quilt_lines.proofs.Results.{if_ok_any}
+use Rattle.quilt_btree.proofs.Handed.{handed_on}
 use Rattle.quilt_lines.proofs.removal.Removal.plan.Goals as goal
 
 pub settle-requires-clause-block : goal.settle-requires-clause-block
@@ -58,3 +59,6 @@ settle-requires-clause-search g c =
 
 pub returns-clause-zero : goal.returns-clause-zero
 returns-clause-zero g c = IfErr-weaker c.edits.result _ _ (λ e zero rs is. zero) c.edits.ensures.zero
+
+pub returns-in_err-all-clause-zero : goal.returns-in_err-all-clause-zero
+returns-in_err-all-clause-zero g c = rw (handed_on c.from_residual.result c.from_residual.ensures.1) c.in_err-all.ensures.zero

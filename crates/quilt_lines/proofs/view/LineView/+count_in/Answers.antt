@@ -156,3 +156,6 @@ pub returns-in_err-count_in-clause-zero : goal.returns-in_err-count_in-clause-ze
 returns-in_err-count_in-clause-zero g t c =
     zero_handed _ c.from_residual-in_err-count_in.result c.from_residual-in_err-count_in.ensures.1
     c.args.self.now.tree c.loop-q.invariant.left.told c.in_err-count_in.ensures.zero
+
+pub returns-in_err-has_block-clause-zero : goal.returns-in_err-has_block-clause-zero
+returns-in_err-has_block-clause-zero g t c = rw (handed_on c.from_residual.result c.from_residual.ensures.1) c.in_err-has_block.ensures.zero

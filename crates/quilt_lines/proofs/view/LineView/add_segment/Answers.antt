@@ -4,6 +4,7 @@ use Rattle.std.proofs.lemmas.Option.{none-some}
 use Rattle.quilt_types.specs.Layers.{is_in_square}
 use Rattle.quilt_lines.specs.Said.{SaySegmentAt}
 use Rattle.quilt_lines.proofs.Lookups.{if_some_at}
+use Rattle.quilt_btree.proofs.Handed.{handed_on}
 use Rattle.quilt_lines.proofs.view.LineView.add_segment.Goals as goal
 
 pub returns-in_err-s-clause-sound : goal.returns-in_err-s-clause-sound
@@ -23,3 +24,9 @@ returns-in-Ok-clause-added g c = (
   λ t segs cover h. sym (c.in_ok-s.ensures.segment t segs cover h) ∙ c.in-Some.is,
   λ rs is. subst (SaySegmentAt c.args.self.now.level c.args.self.now.layer rs c.args.id) c.in-Some.is (c.in_ok-s.ensures.said rs is),
 )
+
+pub returns-in_err-s-clause-zero : goal.returns-in_err-s-clause-zero
+returns-in_err-s-clause-zero g c = rw (handed_on c.from_residual.result c.from_residual.ensures.1) c.in_err-s.ensures.zero
+
+pub returns-in_err-s-clause-bad : goal.returns-in_err-s-clause-bad
+returns-in_err-s-clause-bad g c = rw (handed_on c.from_residual.result c.from_residual.ensures.1) c.in_err-s.ensures.bad

@@ -2,6 +2,7 @@ use Rattle.std.proofs.Common.{[], ◌≡◌, ◌+◌, ◌*◌, ◌≤◌, List, 
 use Rattle.std.specs.Prelude.{MatchOption, vec_len}
 use Rattle.std.proofs.lemmas.Result.{IfOk-weaker, IfErr-weaker}
 use Rattle.quilt_record.specs.declared.record.Record.{Record}
+use Rattle.quilt_store.proofs.Reading.{only_reads_free}
 use Rattle.quilt_near.proofs.Telling.{tells_weaker}
 use Rattle.quilt_lines.specs.Said.{SayIds}
 use Rattle.quilt_lines.proofs.Ranges.{block_read}
@@ -61,3 +62,6 @@ returns-in_err-records-clause-bad g c =
 pub returns-clause-bad : goal.returns-clause-bad
 returns-clause-bad g c =
     zero_named c.ids_said.result (g.S.PageStore.told c.args.store.now) c.args.self.now.tree.height c.args.self.now.tree.root c.ids_said.ensures.zero
+
+pub returns-clause-left : goal.returns-clause-left
+returns-clause-left g c = only_reads_free _ c.ids_said.result c.in_ok-records.ensures.left c.ids_said.ensures.no_fault

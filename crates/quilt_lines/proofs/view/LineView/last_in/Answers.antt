@@ -3,6 +3,7 @@ use Rattle.std.proofs.lemmas.Result.{IfOk-weaker}
 use Rattle.quilt_types.specs.Plane.{corner}
 use Rattle.quilt_loc.proofs.Blocks.{IsBlock-up}
 use Rattle.quilt_lines.proofs.Around.{near_block, corner_held, pixel_of}
+use Rattle.quilt_btree.proofs.Handed.{handed_on}
 use Rattle.quilt_lines.proofs.view.LineView.last_in.Goals as goal
 
 pub covers-requires : goal.covers-requires
@@ -16,3 +17,9 @@ returns-then-not-covers-clause-last g c =
 
 pub last_at-requires-2-clause-pixel : goal.last_at-requires-2-clause-pixel
 last_at-requires-2-clause-pixel g c = pixel_of c.args.self.now.level c.args.b c.args.search.now.at c.requires.block (sym c.if-not-covers.ensures)
+
+pub returns-in_err-last-clause-sound : goal.returns-in_err-last-clause-sound
+returns-in_err-last-clause-sound g c = rw (handed_on c.from_residual.result c.from_residual.ensures.1) c.in_err-last.ensures.sound
+
+pub returns-in_err-last-clause-bad : goal.returns-in_err-last-clause-bad
+returns-in_err-last-clause-bad g c = rw (handed_on c.from_residual.result c.from_residual.ensures.1) c.in_err-last.ensures.bad

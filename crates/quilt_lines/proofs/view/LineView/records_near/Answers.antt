@@ -1,10 +1,13 @@
-use Rattle.std.proofs.Common.{[], ap, refl}
+use Rattle.std.proofs.Common.{[], ◌+◌, ◌*◌, ap, refl, arith, vec_len}
 use Rattle.std.proofs.lemmas.Result.{IfOk-weaker, IfErr-weaker}
 use Rattle.quilt_record.specs.declared.record.Record.{Record}
+use Rattle.quilt_store.proofs.Reading.{only_reads_then}
 use Rattle.quilt_lines.specs.Reads.{none_of}
 use Rattle.quilt_lines.proofs.Around.{near_read, near_none, reads_one}
+use Rattle.quilt_lines.proofs.Sums.{reads_sum}
 use Rattle.quilt_btree.proofs.Stops.{tree_along}
 use Rattle.quilt_btree.proofs.ways.Damage.{named_along}
+use Rattle.quilt_btree.proofs.Handed.{handed_on}
 use Rattle.quilt_lines.proofs.view.LineView.records_near.Goals as goal
 
 pub returns-in-None-clause-records : goal.returns-in-None-clause-records
@@ -37,3 +40,17 @@ returns-in-Some-clause-none g c =
 pub returns-in-Some-clause-bad : goal.returns-in-Some-clause-bad
 returns-in-Some-clause-bad g c =
     named_along c.records_to.result _ _ _ _ c.in_ok-found.ensures.left.told c.records_to.ensures.bad
+
+pub returns-in-Some-clause-left : goal.returns-in-Some-clause-left
+returns-in-Some-clause-left g c = only_reads_then _ g.met.S.PageStore.goes_on _ _ _ c.in_ok-found.ensures.left c.records_to.ensures.left
+
+pub returns-in-Some-clause-reads : goal.returns-in-Some-clause-reads
+returns-in-Some-clause-reads g c =
+    IfOk-weaker c.records_to.result _ _ (λ v f.
+    reads_sum _ _ _ 9 (3 + 3 * vec_len v) (12 + 3 * vec_len v) (omega arith) c.in_ok-found.ensures.reads f) c.records_to.ensures.reads
+
+pub returns-in_err-found-clause-sound : goal.returns-in_err-found-clause-sound
+returns-in_err-found-clause-sound g c = rw (handed_on c.from_residual.result c.from_residual.ensures.1) c.in_err-found.ensures.sound
+
+pub returns-in_err-found-clause-bad : goal.returns-in_err-found-clause-bad
+returns-in_err-found-clause-bad g c = rw (handed_on c.from_residual.result c.from_residual.ensures.1) c.in_err-found.ensures.bad

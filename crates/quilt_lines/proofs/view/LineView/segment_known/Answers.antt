@@ -5,6 +5,7 @@ use Rattle.quilt_types.specs.Layers.{is_in_square}
 use Rattle.quilt_near.specs.declared.known.Known.{Known}
 use Rattle.quilt_near.proofs.Knowing.{knows_more, knows_block}
 use Rattle.quilt_lines.proofs.Lookups.{if_some_at}
+use Rattle.quilt_btree.proofs.Handed.{handed_on}
 use Rattle.quilt_lines.proofs.view.LineView.segment_known.Goals as goal
 
 pub returns-in_err-s-clause-sound : goal.returns-in_err-s-clause-sound
@@ -29,3 +30,9 @@ returns-in-Ok-clause-known g c =
     c.in-Ok.ensures.block c.in-Ok.ensures.pairs c.in-Ok.ensures.ids
     (if_some_at c.in_ok-s.field-0 (λ s. is_in_square c.args.self.now.level s ≡ true) c.in-Some-2.s c.in-Some-2.is c.in_ok-s.ensures.inside)
     (λ l h. sym (c.in_ok-s.ensures.segment h.threshold l.segs l.cover h.has) ∙ c.in-Some-2.is)
+
+pub returns-in_err-s-clause-zero : goal.returns-in_err-s-clause-zero
+returns-in_err-s-clause-zero g c = rw (handed_on c.from_residual.result c.from_residual.ensures.1) c.in_err-s.ensures.zero
+
+pub returns-in_err-s-clause-bad : goal.returns-in_err-s-clause-bad
+returns-in_err-s-clause-bad g c = rw (handed_on c.from_residual.result c.from_residual.ensures.1) c.in_err-s.ensures.bad

@@ -1,6 +1,7 @@
 use Rattle.std.proofs.Common.{◌+◌, ◌-◌, ◌*◌, count_by, length, arith}
 use Rattle.std.specs.Option.{is_none}
 use Rattle.std.proofs.lemmas.Result.{IfErr-weaker, on_ok_weaker}
+use Rattle.quilt_store.proofs.Reading.{only_reads_then}
 use Rattle.quilt_near.specs.Knowing.{known_seg}
 use Rattle.quilt_lines.proofs.Followers.{run_known}
 use Rattle.quilt_lines.proofs.Lookups.{shows_along}
@@ -39,3 +40,12 @@ returns-clause-reads g c =
 pub returns-clause-bad : goal.returns-clause-bad
 returns-clause-bad g c =
     named_along c.segments_known-2.result _ _ _ _ c.in_ok-read_run.ensures.left.told c.segments_known-2.ensures.bad
+
+pub returns-clause-left : goal.returns-clause-left
+returns-clause-left g c = only_reads_then _ g.met.S.PageStore.goes_on _ _ _ c.in_ok-read_run.ensures.left c.segments_known-2.ensures.left
+
+pub returns-in_err-read_run-clause-zero : goal.returns-in_err-read_run-clause-zero
+returns-in_err-read_run-clause-zero g c = rw (handed_on c.from_residual.result c.from_residual.ensures.1) c.in_err-read_run.ensures.zero
+
+pub returns-in_err-read_run-clause-bad : goal.returns-in_err-read_run-clause-bad
+returns-in_err-read_run-clause-bad g c = rw (handed_on c.from_residual.result c.from_residual.ensures.1) c.in_err-read_run.ensures.bad

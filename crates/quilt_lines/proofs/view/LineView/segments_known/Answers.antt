@@ -1,5 +1,5 @@
 use Rattle.std.proofs.Common.{◌+◌, ◌*◌, ◌≤◌, get_or, subst, arith}
-use Rattle.quilt_store.proofs.Reading.{read_on}
+use Rattle.quilt_store.proofs.Reading.{read_on, only_reads_then, only_reads_free}
 use Rattle.quilt_near.specs.Knowing.{known_seg, many_known}
 use Rattle.quilt_near.proofs.Knowing.{knows_where}
 use Rattle.quilt_near.proofs.Telling.{tells_then}
@@ -9,6 +9,7 @@ use Rattle.quilt_lines.proofs.Lookups.{shows_along}
 use Rattle.quilt_lines.proofs.Followers.{unknown_more}
 use Rattle.quilt_lines.proofs.Taken.{taken_more}
 use Rattle.quilt_btree.proofs.Handed.{handed_on}
+use Rattle.quilt_btree.proofs.stores.Looks.{only_reads_handed}
 use Rattle.quilt_btree.proofs.Stops.{zero_handed, bad_handed}
 use Rattle.quilt_lines.proofs.view.LineView.segments_known.Goals as goal
 
@@ -47,3 +48,11 @@ loop-id-preserved g c =
 pub returns-in_err-s-clause-bad : goal.returns-in_err-s-clause-bad
 returns-in_err-s-clause-bad g c =
     bad_handed _ c.from_residual.result c.from_residual.ensures.1 c.args.self.now.tree c.loop-id.invariant.left.told c.in_err-s.ensures.bad
+
+pub returns-in_err-s-clause-left : goal.returns-in_err-s-clause-left
+returns-in_err-s-clause-left g c =
+    only_reads_handed _ c.from_residual.ensures.1 (only_reads_then _ g.met.S.PageStore.goes_on _ _ _ c.loop-id.invariant.left c.in_err-s.ensures.left)
+
+pub returns-in-Err-push-clause-left : goal.returns-in-Err-push-clause-left
+returns-in-Err-push-clause-left g c =
+    only_reads_free _ _ (only_reads_then _ g.met.S.PageStore.goes_on _ _ _ c.loop-id.invariant.left c.in_ok-s.ensures.left) (λ is. cc)

@@ -2,7 +2,7 @@ use Rattle.std.proofs.Common.{ℕ, ◌+◌, ◌*◌, List, Contains, length, sym
 use Rattle.std.proofs.lemmas.List.{length-map}
 use Rattle.std.proofs.lemmas.Option.{MatchOption-at_none, MatchOption-at_some}
 use Rattle.quilt_types.specs.declared.plane.Seg.{Seg}
-use Rattle.quilt_store.proofs.Reading.{only_reads_then, only_reads_err}
+use Rattle.quilt_store.proofs.Reading.{only_reads_then, only_reads_err, only_reads_ok}
 use Rattle.quilt_lines.proofs.Listed.{same_segments, all_there, each_there, one_pixel}
 use Rattle.quilt_lines.specs.Said.{SayIds, records_at}
 use Rattle.quilt_lines.proofs.Lookups.{lines_along}
@@ -81,3 +81,12 @@ pub returns-in_err-list-clause-bad : goal.returns-in_err-list-clause-bad
 returns-in_err-list-clause-bad g c =
     bad_handed _ c.from_residual-in_err-list.result c.from_residual-in_err-list.ensures.1
     c.args.self.now.tree c.in_ok-ids.ensures.left.told c.in_err-list.ensures.bad
+
+pub returns-clause-left : goal.returns-clause-left
+returns-clause-left g c = only_reads_ok _ (only_reads_then _ g.met.S.PageStore.goes_on _ _ _ c.in_ok-ids.ensures.left c.in_ok-list.ensures.left) _
+
+pub returns-in_err-ids-clause-zero : goal.returns-in_err-ids-clause-zero
+returns-in_err-ids-clause-zero g c = rw (handed_on c.from_residual.result c.from_residual.ensures.1) c.in_err-ids.ensures.zero
+
+pub returns-in_err-ids-clause-bad : goal.returns-in_err-ids-clause-bad
+returns-in_err-ids-clause-bad g c = rw (handed_on c.from_residual.result c.from_residual.ensures.1) c.in_err-ids.ensures.bad

@@ -1,9 +1,11 @@
 use Rattle.std.proofs.Common.{ℕ, List, Contains, ◌∙◌, subst, arith, refl}
 use Rattle.std.proofs.lemmas.Option.{MatchOption-at_none, MatchOption-at_some}
+use Rattle.quilt_store.proofs.Reading.{only_reads_then, only_reads_ok}
 use Rattle.quilt_near.proofs.Knowing.{knows_block}
 use Rattle.quilt_lines.proofs.Listed.{same_segments, all_there, each_there, one_pixel}
 use Rattle.quilt_lines.proofs.Lookups.{shows_along}
 use Rattle.quilt_btree.proofs.Handed.{handed_on}
+use Rattle.quilt_btree.proofs.stores.Looks.{only_reads_handed}
 use Rattle.quilt_btree.proofs.Stops.{zero_handed, bad_handed}
 use Rattle.quilt_lines.proofs.view.LineViewSegBlocks.part_known.Goals as goal
 
@@ -88,3 +90,25 @@ pub returns-in_err-list-2-clause-bad : goal.returns-in_err-list-2-clause-bad
 returns-in_err-list-2-clause-bad g c =
     bad_handed _ c.from_residual-in_err-list-2.result c.from_residual-in_err-list-2.ensures.1
     c.args.self.now.tree c.in_ok-ids.ensures.left.told c.in_err-list-2.ensures.bad
+
+pub returns-in_err-list-clause-left : goal.returns-in_err-list-clause-left
+returns-in_err-list-clause-left g c =
+    only_reads_handed _ c.from_residual-in_err-list.ensures.1
+    (only_reads_then _ g.met.S.PageStore.goes_on _ _ _ c.in_ok-ids.ensures.left c.in_err-list.ensures.left)
+
+pub returns-then-is_none-clause-left : goal.returns-then-is_none-clause-left
+returns-then-is_none-clause-left g c = only_reads_ok _ (only_reads_then _ g.met.S.PageStore.goes_on _ _ _ c.in_ok-ids.ensures.left c.in_ok-list.ensures.left) _
+
+pub returns-in_err-list-2-clause-left : goal.returns-in_err-list-2-clause-left
+returns-in_err-list-2-clause-left g c =
+    only_reads_handed _ c.from_residual-in_err-list-2.ensures.1
+    (only_reads_then _ g.met.S.PageStore.goes_on _ _ _ c.in_ok-ids.ensures.left c.in_err-list-2.ensures.left)
+
+pub returns-clause-left : goal.returns-clause-left
+returns-clause-left g c = only_reads_ok _ (only_reads_then _ g.met.S.PageStore.goes_on _ _ _ c.in_ok-ids.ensures.left c.in_ok-list-2.ensures.left) _
+
+pub returns-in_err-ids-clause-zero : goal.returns-in_err-ids-clause-zero
+returns-in_err-ids-clause-zero g c = rw (handed_on c.from_residual.result c.from_residual.ensures.1) c.in_err-ids.ensures.zero
+
+pub returns-in_err-ids-clause-bad : goal.returns-in_err-ids-clause-bad
+returns-in_err-ids-clause-bad g c = rw (handed_on c.from_residual.result c.from_residual.ensures.1) c.in_err-ids.ensures.bad
