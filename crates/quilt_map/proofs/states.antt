@@ -1,4 +1,5 @@
 -- What a session stands for, and what calls leave of it.
+pub mod Causes
 pub mod ChangeSteps
 pub mod Edited
 pub mod Going
@@ -9,4 +10,3 @@ pub mod Moving
 pub mod Renewed
 pub mod ZeroPage
 pub mod Catalogs
-pub mod Numbered

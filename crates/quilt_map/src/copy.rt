@@ -90,28 +90,24 @@ fn moved_records(alloc: Global, number: u8, records: &[Record]) -> Result<Vec<Re
     Ok(copies)
 }
 
-/// Every record of a copy of the work's layer with this number, under the entry of the copy: first that of the catalog.
+/// The records of the work's layer with this number, but that of the catalog, under another number.
 fn copied_records<W: Disk>(
     alloc: Global,
     book: &mut Book<W>,
     number: u8,
-    entry: &Entry,
-) -> Result<RecordList, Stop>
-    requires { 1 ≤ entry.now.number }
-    ensures list { IfOk result (λ all. (rs : List AnyRecord) → IsTree (told_of book.old) (tree_in (books.work_of book.old)) rs →
-        BeginsWithEntry entry.now (map (renumbered entry.now.number) (records_numbered number rs)) all) }
+    other: u8,
+) -> Result<Vec<Record>, Stop>
+    ensures list { IfOk result (λ copies. (rs : List AnyRecord) → IsTree (told_of book.old) (tree_in (books.work_of book.old)) rs
+        → copies.items ≡ map (renumbered other) (records_numbered number rs)) }
     ensures sound { IfErr result (λ e. (rs : List AnyRecord) → IsTree (told_of book.old) (tree_in (books.work_of book.old)) rs → IsNotDamage e) }
     ensures still { IsStill book.old book.new }
     ensures cause { HasStopCause (W.faults (books.world_of book.old)) (W.faults (books.world_of book.new)) result }
 {
     let records = read_records(alloc, book, number)?;
-    let Ok(copies) = moved_records(alloc, entry.number, &records) else {
-        return Err(Stop::Memory);
-    };
-    let Ok(all) = listed(alloc, entry, &copies) else {
-        return Err(Stop::Memory);
-    };
-    Ok(all)
+    match moved_records(alloc, other, &records) {
+        Err(_) => Err(Stop::Memory),
+        Ok(copies) => Ok(copies),
+    }
 }
 
 impl<W: World> Session<W> {
@@ -158,12 +154,9 @@ impl<W: World> Session<W> {
         match why_not_new(self.catalog.entries(), other) {
             Some(code) => Ok(Reply::No(code)),
             None => {
-                let Ok(text) = done_text(self.alloc) else {
-                    return Err(Stop::Memory);
-                };
                 let entry = new_entry(self.catalog.entries(), other, kind);
-                let all = copied_records(self.alloc, &mut self.book, number, &entry)?;
-                self.place(entry, all.records(), text)
+                let copies = copied_records(self.alloc, &mut self.book, number, entry.number)?;
+                self.place(entry, &copies)
             }
         }
     }

@@ -11,12 +11,12 @@ ghost use Rattle.quilt_spell.specs.Catalogued.{IsCatalogOf, kind_of};
 ghost use Rattle.quilt_spell.specs.Written.{IsNumbering};
 ghost use Rattle.quilt_region.specs.Regions.{region_records};
 ghost use Rattle.quilt_edition.specs.Books as books;
-ghost use Rattle.quilt_replies.specs.Answers.{State, Done};
+ghost use Rattle.quilt_replies.specs.Answers.{State};
 ghost use Rattle.quilt_map.specs.Asking.{reads_in};
 ghost use Rattle.quilt_map.specs.Commanding.{Refuses};
+ghost use Rattle.quilt_map.specs.Copying.{BeginsWithEntry};
 ghost use Rattle.quilt_map.specs.Making.{AnsweredBy, layer_placed};
 ghost use Rattle.quilt_map.specs.Planning.{IsLayerPlan};
-ghost use Rattle.quilt_replies.specs.Runs.{text_of};
 ghost use Rattle.quilt_map.specs.Sessions.{IsAtState};
 
 use crate::change::{is_past_quota, quota_of};
@@ -26,7 +26,7 @@ use quilt_blocks::LeafList;
 use quilt_record::{Entry, Record, RecordList, catalog_record};
 use quilt_region::plan_new;
 use quilt_replies::{Reply, done_text};
-use quilt_types::{Code, Kind, Name, Stop, Text};
+use quilt_types::{Code, Kind, Name, Stop};
 use quilt_world::World;
 use std::alloc::{AllocError, Global};
 
@@ -68,26 +68,30 @@ pub(crate) fn new_entry(entries: &[Entry], name: &Name, kind: Kind) -> Entry
 }
 
 impl<W: World> Session<W> {
-    /// Puts a new layer with this entry and these records into the work. The text is that of the reply.
-    pub(crate) fn place(
-        &mut self,
-        entry: Entry,
-        records: &[Record],
-        text: Text,
-    ) -> Result<Reply, Stop>
+    /// Puts a new layer with this entry and these records, behind that of the catalog, into the work. Their list and the reply are
+    /// made first, so want of memory for these finds nothing done.
+    pub(crate) fn place(&mut self, entry: Entry, records: &[Record]) -> Result<Reply, Stop>
+        requires number { 1 ≤ entry.number }
         requires few { length self.old.catalog < 255 }
         requires new { All (λ e. e.name ≢ entry.name) self.old.catalog }
-        requires text { text ≡ text_of (Done []) }
         ensures placed { IfOk result (λ reply. (s : State) (at : IsAtState self.old s) (layer : Layer) → entry.kind ≡ kind_of layer →
-            IsLayerPlan s at.work.numbers entry.name entry.number (Some layer) [] records.now → AnsweredBy s (layer_placed s entry.name layer) self.old self.new reply) }
-        ensures sound { IfErr result (λ e. (s : State) (at : IsAtState self.old s) (layer : Layer)
-            → IsLayerPlan s at.work.numbers entry.name entry.number (Some layer) [] records.now → IsNotDamage e) }
+            ((all : List AnyRecord) → BeginsWithEntry entry records.now all → IsLayerPlan s at.work.numbers entry.name entry.number (Some layer) [] all) →
+            AnsweredBy s (layer_placed s entry.name layer) self.old self.new reply) }
+        ensures sound { IfErr result (λ e. (s : State) (at : IsAtState self.old s) (layer : Layer) →
+            ((all : List AnyRecord) → BeginsWithEntry entry records.now all → IsLayerPlan s at.work.numbers entry.name entry.number (Some layer) [] all) →
+            IsNotDamage e) }
         ensures refused { IfOk result (Refuses self.old self.new) }
         ensures goes_on { books.GoesOn self.old.book self.new.book }
         ensures cause { HasStopCause (W.faults (books.world_of self.old.book)) (W.faults (books.world_of self.new.book)) result }
-        ensures reads { OnOk result (Goes (λ old new. new ≤ old + 6 * length records.now) (reads_in self.old.book) (reads_in self.new.book)) }
+        ensures reads { OnOk result (Goes (λ old new. new ≤ old + (6 + 6 * length records.now)) (reads_in self.old.book) (reads_in self.new.book)) }
     {
-        if !self.change(&[], records)? {
+        let Ok(text) = done_text(self.alloc) else {
+            return Err(Stop::Memory);
+        };
+        let Ok(all) = listed(self.alloc, &entry, records) else {
+            return Err(Stop::Memory);
+        };
+        if !self.change(&[], all.records())? {
             return Ok(Reply::No(Code::Full));
         }
         self.catalog.insert(entry);
@@ -113,16 +117,10 @@ impl<W: World> Session<W> {
         if is_past_quota(list, quota_of(&self.book)) {
             return Ok(Reply::No(Code::Full));
         }
-        let Ok(text) = done_text(self.alloc) else {
-            return Err(Stop::Memory);
-        };
         let entry = new_entry(self.catalog.entries(), name, Kind::Region);
         let Ok(plan) = plan_new(self.alloc, entry.number, list) else {
             return Err(Stop::Memory);
         };
-        let Ok(records) = listed(self.alloc, &entry, plan.add.records()) else {
-            return Err(Stop::Memory);
-        };
-        self.place(entry, records.records(), text)
+        self.place(entry, plan.add.records())
     }
 }

@@ -81,12 +81,11 @@ impl<W: World> Session<W> {
             Command::Union { a, b, c } => self.overlay(Op::Union, a, b, c),
             Command::Inter { a, b, c } => self.overlay(Op::Inter, a, b, c),
             Command::Diff { a, b, c } => self.overlay(Op::Diff, a, b, c),
-            Command::Recolour { a, c, .. } => self.derive(command, a, c),
-            Command::Window { a, c, .. } => self.derive(command, a, c),
-            Command::Shift { a, c, .. } => self.derive(command, a, c),
-            Command::Buffer { a, c, .. } => self.derive(command, a, c),
-            Command::Area { a, .. } => self.measure(command, a),
-            Command::Perimeter { a, .. } => self.measure(command, a),
+            Command::Recolour { a, c, .. }
+            | Command::Window { a, c, .. }
+            | Command::Shift { a, c, .. }
+            | Command::Buffer { a, c, .. } => self.derive(command, a, c),
+            Command::Area { a, .. } | Command::Perimeter { a, .. } => self.measure(command, a),
             Command::Put { p, at, label } => self.put_point(p, *at, *label),
             Command::Del { p, at } => self.del_point(p, *at),
             Command::Scatter { p, points } => self.scatter(p, points),
@@ -94,16 +93,16 @@ impl<W: World> Session<W> {
             Command::Within { p, w } => self.points_within(p, *w),
             Command::Line { l, id, seg } => self.line(l, *id, *seg),
             Command::Unline { l, id } => self.unline(l, *id),
-            Command::Cross { l, .. } => self.ask_lines(command, l),
-            Command::Clip { l, .. } => self.ask_lines(command, l),
-            Command::Nearest { l, .. } => self.ask_lines(command, l),
+            Command::Cross { l, .. }
+            | Command::Clip { l, .. }
+            | Command::Nearest { l, .. }
+            | Command::Rank { l, .. } => self.ask_lines(command, l),
             Command::Over { l, a } => self.over(l, a),
             Command::Edition => self.edition(),
             Command::Publish => self.publish(),
             Command::Upgrade => self.upgrade(),
             Command::Revert => self.revert(),
             Command::Polygon { a, c, rings } => self.polygon(a, *c, rings),
-            Command::Rank { l, .. } => self.ask_lines(command, l),
             Command::Crossings { l, m } => self.crossings(rt, l, m),
         }
     }

@@ -17,7 +17,7 @@ ghost use Rattle.quilt_map.specs.Sessions.{IsAtState};
 use crate::points::{PointLayer, plan_point, plan_removal, points_number, read_label, read_points};
 use crate::queries::{has_pixel, has_window, told};
 use crate::session::Session;
-use quilt_replies::{Reply, done_text, number_text, points_text};
+use quilt_replies::{Reply, number_text, points_text};
 use quilt_store::PageStore;
 use quilt_types::{Code, Name, Pixel, Stop, Window};
 use quilt_world::World;
@@ -36,12 +36,9 @@ impl<W: World> Session<W> {
         ensures goes_on { books.GoesOn self.old.book self.new.book }
         ensures cause { HasStopCause (W.faults (books.world_of self.old.book)) (W.faults (books.world_of self.new.book)) result }
     {
-        let Ok(text) = done_text(self.alloc) else {
-            return Err(Stop::Memory);
-        };
         match plan_point(self.alloc, &mut self.book, layer, at, label)? {
             None => Ok(Reply::No(Code::Present)),
-            Some(edits) => self.amend(&edits, text),
+            Some(edits) => self.amend(&edits),
         }
     }
 
@@ -77,13 +74,10 @@ impl<W: World> Session<W> {
         ensures goes_on { books.GoesOn self.old.book self.new.book }
         ensures cause { HasStopCause (W.faults (books.world_of self.old.book)) (W.faults (books.world_of self.new.book)) result }
     {
-        let Ok(text) = done_text(self.alloc) else {
-            return Err(Stop::Memory);
-        };
         match plan_removal(self.alloc, &mut self.book, layer, at)? {
             None => Ok(Reply::No(Code::Absent)),
             // A layer has no more records without the point, so the quota never refuses this.
-            Some(edits) => self.amend(&edits, text),
+            Some(edits) => self.amend(&edits),
         }
     }
 

@@ -5,11 +5,10 @@ ghost use Rattle.quilt_words.specs.declared.command.Command.TheVariants as comma
 ghost use Rattle.quilt_store.specs.Stops.{HasStopCause, IsNotDamage};
 ghost use Rattle.quilt_region.specs.Plans.{ReplacesGrid};
 ghost use Rattle.quilt_edition.specs.Books as books;
-ghost use Rattle.quilt_replies.specs.Answers.{State, Done};
+ghost use Rattle.quilt_replies.specs.Answers.{State};
 ghost use Rattle.quilt_map.specs.Commanding.{Answered, Refuses};
 ghost use Rattle.quilt_map.specs.Making.{AnsweredBy, layer_placed};
 ghost use Rattle.quilt_map.specs.Painting.{IsRegionIn};
-ghost use Rattle.quilt_replies.specs.Runs.{text_of};
 ghost use Rattle.quilt_map.specs.Sessions.{IsAtState};
 
 use crate::change::{is_past_quota, quota_of};
@@ -18,7 +17,7 @@ use crate::session::Session;
 use quilt_blocks::LeafList;
 use quilt_par::{Gate, few_leaves_of_par};
 use quilt_record::Edits;
-use quilt_replies::{Reply, done_text};
+use quilt_replies::Reply;
 use quilt_types::{Code, Name, Stop, Text};
 use quilt_world::World;
 use std::thread::Threads;
@@ -40,11 +39,8 @@ impl<W: World> Session<W> {
         if is_past_quota(list, quota_of(&self.book)) {
             return Ok(Reply::No(Code::Full));
         }
-        let Ok(text) = done_text(self.alloc) else {
-            return Err(Stop::Memory);
-        };
         let edits = plan_redraw(self.alloc, &mut self.book, number, list)?;
-        self.amend(&edits, text)
+        self.amend(&edits)
     }
 
     /// Gives the region layer the colours of a raster, whose quadrants pass the gate. The rows are none where one is missing or not

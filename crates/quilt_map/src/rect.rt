@@ -14,7 +14,7 @@ ghost use Rattle.quilt_map.specs.Sessions.{IsAtState};
 use crate::queries::has_window;
 use crate::regions::{plan_paint, region_number};
 use crate::session::Session;
-use quilt_replies::{Reply, done_text};
+use quilt_replies::Reply;
 use quilt_types::{Code, Colour, Name, Pixel, Stop, Window};
 use quilt_world::World;
 
@@ -31,11 +31,8 @@ impl<W: World> Session<W> {
         ensures goes_on { books.GoesOn self.old.book self.new.book }
         ensures cause { HasStopCause (W.faults (books.world_of self.old.book)) (W.faults (books.world_of self.new.book)) result }
     {
-        let Ok(text) = done_text(self.alloc) else {
-            return Err(Stop::Memory);
-        };
         let edits = plan_paint(self.alloc, &mut self.book, number, w, c)?;
-        self.amend(&edits, text)
+        self.amend(&edits)
     }
 
     /// Paints a window of the region layer.

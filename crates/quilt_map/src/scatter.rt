@@ -14,7 +14,7 @@ ghost use Rattle.quilt_map.specs.Sessions.{IsAtState};
 use crate::points::{PointLayer, plan_points, points_number};
 use crate::queries::has_pixel;
 use crate::session::Session;
-use quilt_replies::{Reply, done_text};
+use quilt_replies::Reply;
 use quilt_types::{Code, Name, Point, PointList, Stop};
 use quilt_world::World;
 
@@ -39,12 +39,9 @@ impl<W: World> Session<W> {
         ensures goes_on { books.GoesOn self.old.book self.new.book }
         ensures cause { HasStopCause (W.faults (books.world_of self.old.book)) (W.faults (books.world_of self.new.book)) result }
     {
-        let Ok(text) = done_text(self.alloc) else {
-            return Err(Stop::Memory);
-        };
         match plan_points(self.alloc, &mut self.book, layer, points)? {
             None => Ok(Reply::No(Code::Present)),
-            Some(edits) => self.amend(&edits, text),
+            Some(edits) => self.amend(&edits),
         }
     }
 

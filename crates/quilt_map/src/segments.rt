@@ -12,7 +12,7 @@ ghost use Rattle.quilt_map.specs.Sessions.{IsAtState};
 use crate::lines::{LineLayer, line_number, plan_addition, plan_removal};
 use crate::queries::has_pixel;
 use crate::session::Session;
-use quilt_replies::{Reply, done_text};
+use quilt_replies::Reply;
 use quilt_types::{Code, Name, Pixel, Seg, Stop};
 use quilt_world::World;
 
@@ -39,12 +39,9 @@ impl<W: World> Session<W> {
         ensures goes_on { books.GoesOn self.old.book self.new.book }
         ensures cause { HasStopCause (W.faults (books.world_of self.old.book)) (W.faults (books.world_of self.new.book)) result }
     {
-        let Ok(text) = done_text(self.alloc) else {
-            return Err(Stop::Memory);
-        };
         match plan_addition(self.alloc, &mut self.book, layer, id, s)? {
             None => Ok(Reply::No(Code::Present)),
-            Some(edits) => self.amend(&edits, text),
+            Some(edits) => self.amend(&edits),
         }
     }
 
@@ -78,13 +75,10 @@ impl<W: World> Session<W> {
         ensures goes_on { books.GoesOn self.old.book self.new.book }
         ensures cause { HasStopCause (W.faults (books.world_of self.old.book)) (W.faults (books.world_of self.new.book)) result }
     {
-        let Ok(text) = done_text(self.alloc) else {
-            return Err(Stop::Memory);
-        };
         match plan_removal(self.alloc, &mut self.book, layer, id)? {
             None => Ok(Reply::No(Code::Absent)),
             // Fewer records come than go, so the quota never refuses this.
-            Some(edits) => self.amend(&edits, text),
+            Some(edits) => self.amend(&edits),
         }
     }
 

@@ -5,6 +5,7 @@ ghost use Rattle.quilt_types.specs.declared.stop.Stop.TheVariants as stops;
 ghost use Rattle.quilt_types.specs.Layers.{SegMap, BlockSet, is_in_square};
 ghost use Rattle.quilt_near.specs.Lines.{Lines};
 ghost use Rattle.quilt_world.specs.Tale.{Goes};
+ghost use Rattle.quilt_store.specs.Calls.{OnlyReads};
 ghost use Rattle.quilt_store.specs.Stops.{HasStopCause, IsNotDamage};
 ghost use Rattle.quilt_edition.specs.Books.{world_of, work_of};
 ghost use Rattle.quilt_replies.specs.States.{Tells};
@@ -21,10 +22,11 @@ use quilt_blocks::LeafList;
 use quilt_edition::Book;
 use quilt_join::crossings;
 use quilt_lines::{LineView, scan};
-use quilt_near::{SegList, nearest};
+use quilt_near::{SegBlocks, SegList, nearest};
 use quilt_rank::ranked;
 use quilt_replies::{Reply, clips_text, ids_text, nearest_text, pairs_text, ranks_text, segs_text};
 use quilt_select::{clipped, cross, over};
+use quilt_store::PageStore;
 use quilt_types::{Code, Seg, Stop};
 use quilt_words::Command;
 use quilt_world::Disk;
@@ -46,38 +48,38 @@ fn view_of<W: Disk>(book: &Book<W>, layer: LineLayer) -> Option<LineView>
 }
 
 /// The reply to a command that asks for segments by a window or a pixel.
-fn select<W: Disk>(
+fn select<S: PageStore, B: SegBlocks<S>>(
     alloc: Global,
-    book: &mut Book<W>,
-    view: &LineView,
+    blocks: &B,
+    store: &mut S,
     command: &Command,
 ) -> Result<Reply, Stop>
     requires asks { IsSome (layer_asked command.now) }
-    requires inside { is_place view.now.level command.now ≡ true }
+    requires level { B.level_of blocks.now ≤ 12 }
+    requires inside { is_place (B.level_of blocks.now) command.now ≡ true }
     requires some { AsksSome command.now }
-    ensures reply { IfOk result (λ reply. (l : Lines) → Shows book.old view.now l → Tells reply (selected command.now l.segs)) }
-    ensures reads { IfOk result (λ reply. (l : Lines) → Shows book.old view.now l → HasFound command.now l.segs → IsAnswered reply →
-        Goes (λ old new. new ≤ old + pages_for_answer view.now.level command.now l.segs l.cover) (reads_in book.old) (reads_in book.new)) }
-    ensures sound { IfErr result (λ e. (l : Lines) → Shows book.old view.now l → IsNotDamage e) }
-    ensures still { IsStill book.old book.new }
-    ensures cause { HasStopCause (W.faults (world_of book.old)) (W.faults (world_of book.new)) result }
+    ensures reply { IfOk result (λ reply. (l : Lines) → B.shows blocks.now store.old l → Tells reply (selected command.now l.segs)) }
+    ensures reads { IfOk result (λ reply. (l : Lines) → B.shows blocks.now store.old l → HasFound command.now l.segs → IsAnswered reply →
+        Goes (λ old new. new ≤ old + pages_for_answer (B.level_of blocks.now) command.now l.segs l.cover) (S.reads store.old) (S.reads store.new)) }
+    ensures sound { IfErr result (λ e. (l : Lines) → B.shows blocks.now store.old l → IsNotDamage e) }
+    ensures left { OnlyReads S.PageStore store.old store.new result }
 {
     match command {
         Command::Cross { w, .. } => {
-            let list = cross(alloc, view, book, *w)?;
+            let list = cross(alloc, blocks, store, *w)?;
             told(segs_text(alloc, list.items()))
         }
         Command::Clip { w, .. } => {
-            let clips = clipped(alloc, view, book, *w)?;
+            let clips = clipped(alloc, blocks, store, *w)?;
             told(clips_text(alloc, clips.items()))
         }
-        Command::Nearest { at, .. } => match nearest(alloc, view, book, *at) {
+        Command::Nearest { at, .. } => match nearest(alloc, blocks, store, *at) {
             Err(e) => Err(e),
             Ok(None) => Ok(Reply::No(Code::Absent)),
             Ok(Some((id, far))) => told(nearest_text(alloc, id, far)),
         },
         Command::Rank { at, k, .. } => {
-            let ranks = ranked(alloc, view, book, *at, *k)?;
+            let ranks = ranked(alloc, blocks, store, *at, *k)?;
             if ranks.items().is_empty() {
                 return Ok(Reply::No(Code::Absent));
             }
@@ -107,7 +109,7 @@ pub(crate) fn select_in<W: Disk>(
 {
     match view_of(book, layer) {
         None => Err(DAMAGED),
-        Some(view) => select(alloc, book, &view, command),
+        Some(view) => select(alloc, &view, book, command),
     }
 }
 

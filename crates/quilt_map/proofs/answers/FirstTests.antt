@@ -51,9 +51,6 @@ region_passes s name g rs done at = ap (λ (o : Option Layer). unless ((is_none 
 pub exists_not : (s : State) (name : List ℕ) → finmap.get s.work name ≡ None → (exists s name).0 ≡ false
 exists_not s name at = ap (λ (o : Option Layer). is_some o) at
 
-pub exists_there : (s : State) (name : List ℕ) (l : Layer) → finmap.get s.work name ≡ Some l → (exists s name).0 ≡ true
-exists_there s name l at = ap (λ (o : Option Layer). is_some o) at
-
 pub few_layers : (s : State) → finmap.len s.work < 255 → (too_many s).0 ≡ false
 few_layers s few = lt-leb 255 (finmap.len s.work) few
 

@@ -1,5 +1,5 @@
 -- The pages that the answer to a command reads, as all calls of the session say it.
-use Rattle.std.proofs.Common.{◌≡◌, ℕ, ◌+◌, ◌≤◌, List, Option, Some, None, Result, Ok, Err, refl, sym, subst}
+use Rattle.std.proofs.Common.{◌≡◌, ℕ, ◌+◌, ◌≤◌, true, List, Option, Some, None, is_some, Result, Ok, Err, refl, sym, subst}
 use Rattle.std.specs.Prelude.{IfOk}
 use Rattle.quilt_types.specs.declared.plane.Pixel.{Pixel}
 use Rattle.quilt_types.specs.declared.plane.Window.{Window}
@@ -11,9 +11,16 @@ use Rattle.quilt_region.specs.Covers.{IsSideOver}
 use Rattle.quilt_replies.specs.Answers.{State, layer, grid_in, segs_in, cover_in}
 use Rattle.quilt_replies.specs.declared.reply.Reply.{Reply}
 use Rattle.quilt_map.specs.Costs.{cut_pages}
+use Rattle.quilt_map.specs.Derivation.{layers_derived}
+use Rattle.quilt_map.specs.Measuring.{layer_measured}
 use Rattle.quilt_map.specs.Reading.{IsAnsweredOk, IsReplied, IsPromised, ReadsFew, warm_left}
 use Rattle.quilt_map.specs.Selecting.{layer_asked, HasFound, IsAnswered, pages_for_answer}
 use Rattle.quilt_map.proofs.answers.Asked.{if_ok}
+
+-- what measures a layer has no bound
+pub measured_never : (c : Command) (r : Result Reply Stop) → is_some (layer_measured c) ≡ true → (s : State) → IsPromised s c r → ⊥
+measured_never commands.Layers r is s promised = promised
+measured_never c r is s promised = first_of (search, cc)
 
 -- a bound that holds where it is answered
 pub where_answered : (At P : State → Type 0) (r : Result Reply Stop) → IfOk r (λ reply. (s : State) → At s → IsAnswered reply → P s) → (s : State) → At s
@@ -26,14 +33,15 @@ module _ (At : State → Type 0) (before now : Option ℕ) where
   replied_now P (Ok reply) h s at replied = h s at
   replied_now P (Err e) h s at replied = absurd replied
 
-  pub window_reads : (c : Command) (a : List ℕ) (w : Window) (b : List ℕ) (r : Result Reply Stop) → c ≡ commands.Window a w b
+  -- of the commands that make a layer of another one, the one that cuts a window has a bound
+  pub derived_reads : (c : Command) (r : Result Reply Stop) → is_some (layers_derived c) ≡ true
       → IfOk r (λ reply. (s : State) → At s → (side : ℕ) (x y : List ℕ) (v : Window) → c ≡ commands.Window x v y → IsSideOver v side
       → Goes (λ old new. new ≤ old + cut_pages s.last.level (grid_in (layer s x)) side v) before now)
       → (s : State) → At s → IsPromised s c r → ReadsFew s c before now
-  window_reads c a w b r is h s at =
-      subst (λ (x : Command). IsPromised s x r → ReadsFew s x before now) (sym is)
-      (replied_now (λ (s : State). (side : ℕ) → IsSideOver w side → Goes (λ old new. new ≤ old + cut_pages s.last.level (grid_in (layer s a)) side w) before now)
-      r (if_ok _ _ r (λ reply p s at side over. p s at side a b w is over) h) s at)
+  derived_reads (commands.Window a w b) r is h s at promised =
+      replied_now (λ (s : State). (side : ℕ) → IsSideOver w side → Goes (λ old new. new ≤ old + cut_pages s.last.level (grid_in (layer s a)) side w) before now)
+      r (if_ok _ _ r (λ reply p s at side over. p s at side a b w refl over) h) s at promised
+  derived_reads c r is h s at promised = first_of (search, cc)
 
   -- what the call says that asks for segments
   abbrev Costs : Command → List ℕ → Result Reply Stop → Type 0

@@ -430,10 +430,3 @@ module _ (layers : Map) (numbers : Numbering) (entries : List Entry) (c : IsCata
             ∙ same_entry numbers numbered f.name l.0 (sym (number_there number (Some new) f.name d)),
       ))
       (which f.name))
-
--- no name is before itself
-pub never_before : (d e : Entry) → by_name d e ≡ Less → e.name ≡ d.name → ⊥
-never_before d e less same =
-    let tie : name_cmp d.name d.name ≡ Less = ap (name_cmp d.name) (sym same) ∙ less in
-    let wrong : Equal ≡ Less = sym (tied_itself nat_list_cmp_total d.name) ∙ tie in
-    cc

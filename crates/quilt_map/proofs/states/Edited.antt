@@ -6,7 +6,7 @@ use Rattle.quilt_types.specs.Facts.{quota}
 use Rattle.quilt_types.specs.declared.stop.Stop.{Stop}
 use Rattle.quilt_world.specs.Tale.{Goes}
 use Rattle.quilt_world.specs.declared.disk.Disk as disk
-use Rattle.quilt_world.proofs.ReadCounts.{reads_more, reads_none, reads_then}
+use Rattle.quilt_world.proofs.ReadCounts.{reads_none, reads_then}
 use Rattle.quilt_record.specs.declared.record.Record.{Record}
 use Rattle.quilt_node.specs.Nodes.{keys_of}
 use Rattle.quilt_node.specs.Pages.{is_ascending}
@@ -21,7 +21,8 @@ use Rattle.quilt_btree.proofs.batches.Lists.{edits_are}
 use Rattle.quilt_btree.proofs.batches.Rises.{whole_rises}
 use Rattle.quilt_btree.proofs.batches.Whole.{fewer-append, more-append}
 use Rattle.quilt_batch.specs.Merges.{IsMergePart}
-use Rattle.quilt_batch.proofs.Goings.{put-append, removed-append}
+use Rattle.quilt_batch.proofs.Goings.{removed-append}
+use Rattle.quilt_btree.proofs.batches.Puts.{puts_append}
 use Rattle.quilt_batch.proofs.Parts.{part_due, part_here, part_left, part_on, part_sizes, part_whole}
 use Rattle.quilt_edition.specs.declared.book.Book.{Book}
 use Rattle.quilt_edition.specs.Books.{world_of, pages_of, work_of, published_free, GoesOn}
@@ -43,7 +44,7 @@ gone_both : (run part : List Edit) → length (removed (run ++ part)) ≡ length
 gone_both run part = ap length (removed-append run part) ∙ length-append (removed run) (removed part)
 
 come_both : (run part : List Edit) → length (records_put (run ++ part)) ≡ length (records_put run) + length (records_put part)
-come_both run part = ap length (put-append run part) ∙ length-append (records_put run) (records_put part)
+come_both run part = ap length (puts_append run part) ∙ length-append (records_put run) (records_put part)
 
 module _ {W : Type 0} {D : disk.Ghosts W} where
   -- Edits were made in the tree of the work. Over a whole tree each of them was due.
@@ -176,9 +177,3 @@ module _ {W : Type 0} {D : disk.Ghosts W} where
           let m = (part_whole old new e.run goes comes e.part none).counts in
           let h = e.made.count in
           omega (arith, m, h)
-
-      pub edited_reads : Goes (λ before now. now ≤ before + (10 * length old + 6 * length new)) (reads_in a) (reads_in b)
-      edited_reads =
-          let s = edited_sizes in
-          reads_more (10 * length (removed e.run) + 6 * length (records_put e.run)) (10 * length old + 6 * length new) (reads_in a) (reads_in b)
-          (omega (arith, s.0, s.1)) e.made.reads

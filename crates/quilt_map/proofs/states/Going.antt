@@ -18,16 +18,6 @@ module _ {W : Type 0} {D : disk.Ghosts W} where
   goes_both a b c p q =
       (q.0 ∙ p.0, q.1 ∙ p.1, q.2 ∙ p.2, q.3 ∙ p.3, later_on a.journal.pages b.journal.pages (D.told a.world) (D.told b.world) (D.told c.world) p.0 p.4 q.4)
 
-  pub later_both : (a b c : Book W D) → IsLaterBook a b → IsLaterBook b c → IsLaterBook a c
-  later_both a b c p q = (
-    q.0 ∙ p.0,
-    q.1 ∙ p.1,
-    (q.2.0 ∙ p.2.0, q.2.1 ∙ p.2.1, q.2.2 ∙ p.2.2),
-    q.3
-        ∙ p.3,
-    later_on a.journal.pages b.journal.pages (D.told a.world) (D.told b.world) (D.told c.world) p.0 p.4 q.4,
-  )
-
 -- a whole tree under other names for the same
 pub whole_as : (told now_told : Option Pages) (free now_free : ℕ → Bool) (n m : ℕ) (h k : Head) (rs : List Record)
     → now_told ≡ told → now_free ≡ free → m ≡ n → k ≡ h → IsWhole told free n (tree_in h) rs → IsWhole now_told now_free m (tree_in k) rs

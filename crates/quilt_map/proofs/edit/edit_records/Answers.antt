@@ -6,6 +6,7 @@ use Rattle.quilt_edition.specs.Books.{pages_of, work_of}
 use Rattle.quilt_map.specs.Sessions.{told_of, free_of}
 use Rattle.quilt_map.proofs.answers.Asked.{if_ok, if_err}
 use Rattle.quilt_map.proofs.states.Going.{goes_both, whole_as}
+use Rattle.quilt_map.proofs.states.Causes.{cause_then}
 use Rattle.quilt_map.proofs.edit.edit_records.Goals as goal
 
 pub returns-in_err-edit_merged-clause-sound : goal.returns-in_err-edit_merged-clause-sound
@@ -40,3 +41,6 @@ returns-clause-sound g c =
 pub returns-clause-goes_on : goal.returns-clause-goes_on
 returns-clause-goes_on g c =
     goes_both {D = g.W.Disk} c.args.book.now c.edit_merged-2.new.book c.edit_merged-3.new.book c.edit_merged-2.ensures.goes_on c.edit_merged-3.ensures.goes_on
+
+pub returns-clause-cause : goal.returns-clause-cause
+returns-clause-cause g c = cause_then c.edit_merged-2.ensures.cause c.edit_merged-3.ensures.cause

@@ -10,3 +10,6 @@ returns-clause-sound g c =
     if_err _ _ c.plan_rect.result (λ e h grid least has.
     h grid (has_as (told_of {D = g.W.Disk} c.args.book.now) c.args.number grid c.head-head.result c.args.book.now.work c.tree_of.result
     c.head-head.ensures.work c.tree_of.ensures has)) c.plan_rect.ensures.sound
+
+pub returns-clause-plan : goal.returns-clause-plan
+returns-clause-plan g c = rw (← c.head-head.ensures.work, ← c.tree_of.ensures) c.plan_rect.ensures.plan

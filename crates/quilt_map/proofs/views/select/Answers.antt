@@ -1,7 +1,6 @@
 use Rattle.std.proofs.Common.{ap}
 use Rattle.quilt_words.specs.declared.command.Command.{Command}
-use Rattle.quilt_map.specs.Asking.{reads_in}
-use Rattle.quilt_map.specs.Selecting.{Shows, selected, is_asked, AsksSome}
+use Rattle.quilt_map.specs.Selecting.{selected, is_asked, AsksSome}
 use Rattle.quilt_map.proofs.answers.Answered.{told_reply}
 use Rattle.quilt_map.proofs.answers.Asked.{if_ok}
 use Rattle.quilt_map.proofs.questions.ShownLines.{any_ok, nearest_small, rank_small, cross_body}
@@ -11,24 +10,24 @@ use Rattle.std.proofs.Common.{subst}
 use Rattle.quilt_map.proofs.views.select.Goals as goal
 
 pub nearest-requires-clause-x : goal.nearest-requires-clause-x
-nearest-requires-clause-x g c = (nearest_small c.args.view.now.level c.args.command.now c.args.view.now.has_level.1 c.requires.inside c.in-Nearest.l
+nearest-requires-clause-x g c = (nearest_small (g.B.SegBlocks.level_of c.args.blocks.now) c.args.command.now c.requires.level c.requires.inside c.in-Nearest.l
     c.in-Nearest.at c.in-Nearest.is).0
 
 pub nearest-requires-clause-y : goal.nearest-requires-clause-y
-nearest-requires-clause-y g c = (nearest_small c.args.view.now.level c.args.command.now c.args.view.now.has_level.1 c.requires.inside c.in-Nearest.l
+nearest-requires-clause-y g c = (nearest_small (g.B.SegBlocks.level_of c.args.blocks.now) c.args.command.now c.requires.level c.requires.inside c.in-Nearest.l
     c.in-Nearest.at c.in-Nearest.is).1
 
 pub ranked-requires-clause-x : goal.ranked-requires-clause-x
-ranked-requires-clause-x g c = (rank_small c.args.view.now.level c.args.command.now c.args.view.now.has_level.1 c.requires.inside c.in-Rank.l c.in-Rank.at
+ranked-requires-clause-x g c = (rank_small (g.B.SegBlocks.level_of c.args.blocks.now) c.args.command.now c.requires.level c.requires.inside c.in-Rank.l c.in-Rank.at
     c.in-Rank.k c.in-Rank.is).0
 
 pub ranked-requires-clause-y : goal.ranked-requires-clause-y
-ranked-requires-clause-y g c = (rank_small c.args.view.now.level c.args.command.now c.args.view.now.has_level.1 c.requires.inside c.in-Rank.l c.in-Rank.at
+ranked-requires-clause-y g c = (rank_small (g.B.SegBlocks.level_of c.args.blocks.now) c.args.command.now c.requires.level c.requires.inside c.in-Rank.l c.in-Rank.at
     c.in-Rank.k c.in-Rank.is).1
 
 pub returns-in_ok-list-in-Cross-clause-reply : goal.returns-in_ok-list-in-Cross-clause-reply
 returns-in_ok-list-in-Cross-clause-reply g c =
-    told_reply (Shows {D = g.W.Disk} c.args.book.now c.args.view.now)
+    told_reply (g.B.SegBlocks.shows c.args.blocks.now c.args.store.now)
     (λ l. selected c.args.command.now l.segs) c.segs_text.result c.told.result c.told.ensures.text
     (λ l shows. if_ok _ _ c.segs_text.result
     (λ t written. cross_body c.args.command.now l.segs c.in-Cross.l c.in-Cross.w c.in-Cross.is c.in_ok-list-in-Cross.list c.items.result.now
@@ -37,13 +36,13 @@ returns-in_ok-list-in-Cross-clause-reply g c =
 pub returns-in_ok-list-in-Cross-clause-reads : goal.returns-in_ok-list-in-Cross-clause-reads
 returns-in_ok-list-in-Cross-clause-reads g c =
     any_ok _ c.told.result (λ reply l shows found answered.
-    window_costs c.args.command.now l.segs l.cover c.args.view.now.level c.in-Cross.w (reads_in {D = g.W.Disk} c.args.book.now)
-    (reads_in {D = g.W.Disk} c.cross.new.store)
+    window_costs c.args.command.now l.segs l.cover (g.B.SegBlocks.level_of c.args.blocks.now) c.in-Cross.w (g.S.PageStore.reads c.args.store.now)
+    (g.S.PageStore.reads c.cross.new.store)
     (ap (λ (x : Command). is_asked x l.segs) c.in-Cross.is) (c.in_ok-list-in-Cross.ensures.reads l shows))
 
 pub returns-in_ok-clips-in-Clip-clause-reply : goal.returns-in_ok-clips-in-Clip-clause-reply
 returns-in_ok-clips-in-Clip-clause-reply g c =
-    told_reply (Shows {D = g.W.Disk} c.args.book.now c.args.view.now)
+    told_reply (g.B.SegBlocks.shows c.args.blocks.now c.args.store.now)
     (λ l. selected c.args.command.now l.segs) c.clips_text.result c.told-in-Clip.result c.told-in-Clip.ensures.text
     (λ l shows. if_ok _ _ c.clips_text.result
     (λ t written. clip_body c.args.command.now l.segs c.in-Clip.l c.in-Clip.w c.in-Clip.is c.in_ok-clips-in-Clip.clips c.items-in-Clip.result.now
@@ -52,8 +51,8 @@ returns-in_ok-clips-in-Clip-clause-reply g c =
 pub returns-in_ok-clips-in-Clip-clause-reads : goal.returns-in_ok-clips-in-Clip-clause-reads
 returns-in_ok-clips-in-Clip-clause-reads g c =
     any_ok _ c.told-in-Clip.result (λ reply l shows found answered.
-    window_costs c.args.command.now l.segs l.cover c.args.view.now.level c.in-Clip.w (reads_in {D = g.W.Disk} c.args.book.now)
-    (reads_in {D = g.W.Disk} c.clipped.new.store)
+    window_costs c.args.command.now l.segs l.cover (g.B.SegBlocks.level_of c.args.blocks.now) c.in-Clip.w (g.S.PageStore.reads c.args.store.now)
+    (g.S.PageStore.reads c.clipped.new.store)
     (ap (λ (x : Command). is_asked x l.segs) c.in-Clip.is) (c.in_ok-clips-in-Clip.ensures.reads l shows))
 
 pub returns-in-Ok-None-clause-reply : goal.returns-in-Ok-None-clause-reply
@@ -64,7 +63,7 @@ returns-in-Ok-None-clause-reply g c = λ l shows.
 pub returns-in-Ok-Some-clause-reply : goal.returns-in-Ok-Some-clause-reply
 returns-in-Ok-Some-clause-reply g c =
     let at = c.in-Ok-Some in
-    told_reply (Shows {D = g.W.Disk} c.args.book.now c.args.view.now)
+    told_reply (g.B.SegBlocks.shows c.args.blocks.now c.args.store.now)
     (λ l. selected c.args.command.now l.segs) c.nearest_text.result c.told-in-Ok-Some.result c.told-in-Ok-Some.ensures.text
     (λ l shows. if_ok _ _ c.nearest_text.result
     (λ t written. nearest_body c.args.command.now l.segs c.in-Nearest.l c.in-Nearest.at c.in-Nearest.is at.field-0 (at.ensures.nearest l shows)
@@ -74,8 +73,8 @@ pub returns-in-Ok-Some-clause-reads : goal.returns-in-Ok-Some-clause-reads
 returns-in-Ok-Some-clause-reads g c =
     let at = c.in-Ok-Some in
     any_ok _ c.told-in-Ok-Some.result (λ reply l shows found answered.
-    nearest_costs c.args.command.now l.segs c.in-Nearest.l c.in-Nearest.at c.in-Nearest.is at.field-0 (at.ensures.nearest l shows) c.args.view.now.level l.cover
-    (reads_in {D = g.W.Disk} c.args.book.now) (reads_in {D = g.W.Disk} c.nearest.new.store) (at.id, at.far) at.field-0-is (at.ensures.reads l shows))
+    nearest_costs c.args.command.now l.segs c.in-Nearest.l c.in-Nearest.at c.in-Nearest.is at.field-0 (at.ensures.nearest l shows)
+    (g.B.SegBlocks.level_of c.args.blocks.now) l.cover (g.S.PageStore.reads c.args.store.now) (g.S.PageStore.reads c.nearest.new.store) (at.id, at.far) at.field-0-is (at.ensures.reads l shows))
 
 pub returns-then-is_empty-clause-reply : goal.returns-then-is_empty-clause-reply
 returns-then-is_empty-clause-reply g c = λ l shows.
@@ -87,7 +86,7 @@ returns-then-is_empty-clause-reply g c = λ l shows.
 pub returns-else-is_empty-clause-reply : goal.returns-else-is_empty-clause-reply
 returns-else-is_empty-clause-reply g c =
     let at = c.in-Rank in
-    told_reply (Shows {D = g.W.Disk} c.args.book.now c.args.view.now)
+    told_reply (g.B.SegBlocks.shows c.args.blocks.now c.args.store.now)
     (λ l. selected c.args.command.now l.segs) c.ranks_text.result c.told-in-Rank.result c.told-in-Rank.ensures.text
     (λ l shows. if_ok _ _ c.ranks_text.result (λ t written.
     rank_body c.args.command.now l.segs at.l at.at at.k at.is (subst AsksSome at.is c.requires.some) c.in_ok-ranks-in-Rank.ranks c.items-in-Rank.result.now

@@ -18,5 +18,5 @@ pub returns-in-Some-clause-reads : goal.returns-in-Some-clause-reads
 returns-in-Some-clause-reads g c =
     if_ok _ _ c.select.result (λ reply h segs cover holds found answered.
     costs_at c.args.command.now segs cover c.in-Some.view.level c.args.book.now.work.level (reads_in {D = g.W.Disk} c.args.book.now)
-    (reads_in {D = g.W.Disk} c.select.new.book) c.in-Some.ensures.level
+    (reads_in {D = g.W.Disk} c.select.new.store) c.in-Some.ensures.level
     (h (record { segs = segs; cover = cover }) (c.in-Some.ensures.shows segs cover holds) found answered)) c.select.ensures.reads

@@ -17,6 +17,7 @@ use Rattle.quilt_map.proofs.plans.LinePlans.{found_lines}
 use Rattle.quilt_map.proofs.states.Moving.{with_book}
 use Rattle.quilt_map.proofs.questions.Selects.{crossings_refused, crossings_done}
 use Rattle.quilt_map.proofs.questions.ShownLines.{ends_at}
+use Rattle.quilt_map.proofs.states.Causes.{cause_then}
 use Rattle.quilt_map.proofs.session.Session.crossings.Goals as goal
 
 pub returns-in-Err-clause-answer : goal.returns-in-Err-clause-answer
@@ -113,3 +114,6 @@ returns-else-eq-clause-keeps g c = record {
   last = refl;
   changes = refl;
 }
+
+pub returns-else-eq-clause-cause : goal.returns-else-eq-clause-cause
+returns-else-eq-clause-cause g c = cause_then c.read_segments.ensures.cause c.crossed_with.ensures.cause

@@ -5,15 +5,12 @@ use Rattle.quilt_types.specs.declared.code.Code.TheVariants as no
 use Rattle.quilt_map.specs.PointLayers.{points_del}
 use Rattle.quilt_map.proofs.plans.Amends.{mid_at}
 use Rattle.quilt_map.proofs.answers.Asked.{if_ok, if_err}
-use Rattle.quilt_map.proofs.states.ChangeSteps.{goes_here}
 use Rattle.quilt_map.proofs.states.Going.{goes_of, goes_both}
 use Rattle.quilt_map.proofs.plans.Planned.{unplanned, planned}
 use Rattle.quilt_map.proofs.plans.PointPlans.{points_there, number_there, mid_point, mid_within}
 use Rattle.quilt_map.proofs.layers.PointAnswers.{del_finds, del_absent, del_there}
+use Rattle.quilt_map.proofs.states.Causes.{cause_then}
 use Rattle.quilt_map.proofs.session.Session.del_from.Goals as goal
-
-pub returns-in_default-clause-goes_on : goal.returns-in_default-clause-goes_on
-returns-in_default-clause-goes_on g c = goes_here {D = g.W.Disk} c.args.self.now.book
 
 pub returns-in_err-plan_removal-clause-sound : goal.returns-in_err-plan_removal-clause-sound
 returns-in_err-plan_removal-clause-sound g c =
@@ -73,3 +70,6 @@ pub returns-in-Some-clause-goes_on : goal.returns-in-Some-clause-goes_on
 returns-in-Some-clause-goes_on g c =
     goes_both {D = g.W.Disk} c.args.self.now.book c.plan_removal.new.book c.amend.new.self.book
     (goes_of {D = g.W.Disk} c.args.self.now.book c.plan_removal.new.book c.plan_removal.ensures.still.later) c.amend.ensures.goes_on
+
+pub returns-in-Some-clause-cause : goal.returns-in-Some-clause-cause
+returns-in-Some-clause-cause g c = cause_then c.plan_removal.ensures.cause c.amend.ensures.cause

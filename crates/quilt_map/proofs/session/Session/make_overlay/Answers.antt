@@ -9,6 +9,7 @@ use Rattle.quilt_map.proofs.states.Going.{goes_of, goes_both}
 use Rattle.quilt_map.proofs.states.Moving.{with_book}
 use Rattle.quilt_map.proofs.layers.Overlays.{overlaid_as, overlaid_fits}
 use Rattle.quilt_map.proofs.plans.PaintPlans.{as_region, region_there}
+use Rattle.quilt_map.proofs.states.Causes.{cause_then}
 use Rattle.quilt_map.proofs.session.Session.make_overlay.Goals as goal
 
 pub returns-in_err-below-clause-sound : goal.returns-in_err-below-clause-sound
@@ -92,3 +93,6 @@ returns-clause-goes_on g c =
     goes_both {D = g.W.Disk} old book c.make_region.new.self.book (goes_of {D = g.W.Disk} old book c.read_region.ensures.still.later)
     (goes_both {D = g.W.Disk} book last c.make_region.new.self.book (goes_of {D = g.W.Disk} book last c.read_region-2.ensures.still.later)
     c.make_region.ensures.goes_on)
+
+pub returns-clause-cause : goal.returns-clause-cause
+returns-clause-cause g c = cause_then c.read_region.ensures.cause (cause_then c.read_region-2.ensures.cause c.make_region.ensures.cause)

@@ -3,6 +3,7 @@ use Rattle.std.proofs.lemmas.Result.{on_ok_weaker}
 use Rattle.quilt_types.specs.Layers.{Region}
 use Rattle.quilt_types.specs.declared.plane.Kind.{Kind}
 use Rattle.quilt_record.specs.declared.entry.Entry.{Entry}
+use Rattle.quilt_record.specs.declared.record.Record.{Record}
 use Rattle.quilt_record.specs.Records.{record_of}
 use Rattle.quilt_record.specs.Listing.{fact_of_kind}
 use Rattle.quilt_blocks.specs.Cutting.{leaves_by_code}
@@ -10,6 +11,7 @@ use Rattle.quilt_world.proofs.ReadCounts.{reads_none}
 use Rattle.quilt_region.proofs.Records.{region_length}
 use Rattle.quilt_spell.specs.Catalogued.{IsCatalogOf}
 use Rattle.quilt_map.specs.Asking.{reads_in}
+use Rattle.quilt_map.specs.Copying.{BeginsWithEntry}
 use Rattle.quilt_map.specs.Making.{AnsweredBy, layer_placed}
 use Rattle.quilt_map.specs.Planning.{IsLayerPlan}
 use Rattle.quilt_map.proofs.states.ChangeSteps.{goes_here}
@@ -31,12 +33,6 @@ returns-then-is_past_quota-clause-made g c = λ s at level grid.
 pub returns-in_default-clause-goes_on : goal.returns-in_default-clause-goes_on
 returns-in_default-clause-goes_on g c = goes_here {D = g.W.Disk} c.args.self.now.book
 
-pub returns-in_default-plan_new-clause-goes_on : goal.returns-in_default-plan_new-clause-goes_on
-returns-in_default-plan_new-clause-goes_on g c = goes_here {D = g.W.Disk} c.args.self.now.book
-
-pub returns-in_default-listed-clause-goes_on : goal.returns-in_default-listed-clause-goes_on
-returns-in_default-listed-clause-goes_on g c = goes_here {D = g.W.Disk} c.args.self.now.book
-
 pub returns-clause-made : goal.returns-clause-made
 returns-clause-made g c =
     if_ok _ _ c.place.result (λ reply p s at level grid.
@@ -44,16 +40,14 @@ returns-clause-made g c =
     let e = c.new_entry-entry.ensures in
     let entry = c.new_entry-entry.result in
     let name = c.args.name.now in
-    let listed = c.in-Ok-listed.ensures in
     let catalog = subst (λ (es : List Entry). IsCatalogOf s.work at.work.numbers es) (sym c.entries.ensures.entries) at.work.catalog in
+    let planned = λ (all : List Record) (listed : BeginsWithEntry entry c.records.result.now all).
     let first_is = λ (n k : ℕ). listed.2 n k ∙ ap (λ (b : List ℕ). record_of n k b entry.number (fact_of_kind entry.kind)) e.name
     ∙ ap (λ (x : Kind). record_of n k name entry.number (fact_of_kind x)) e.kind in
-    let plan = region_plan {D = g.W.Disk} old s at name entry.number c.args.list.now c.records-3.result.now c.records.result.now level grid e.named
+    let plan = region_plan {D = g.W.Disk} old s at name entry.number c.args.list.now all c.records.result.now level grid e.named
     c.requires.few c.requires.new e.number.0 e.number.1
-    (e.unused s.work at.work.numbers catalog at.work.spelled.numbering) listed.0 (c.records-3.ensures ∙ listed.1) first_is
-    (c.records.ensures ∙ c.in-Ok-plan_new.ensures.add) in
-    let planned =
-    subst (λ (b : List ℕ). IsLayerPlan s at.work.numbers b entry.number (Some (Region c.args.list.now.grid)) [] c.records-3.result.now) (sym e.name) plan in
+    (e.unused s.work at.work.numbers catalog at.work.spelled.numbering) listed.0 listed.1 first_is (c.records.ensures ∙ c.in-Ok.ensures.add) in
+    subst (λ (b : List ℕ). IsLayerPlan s at.work.numbers b entry.number (Some (Region c.args.list.now.grid)) [] all) (sym e.name) plan in
     subst (λ (b : List ℕ). AnsweredBy {D = g.W.Disk} s (layer_placed s b (Region c.args.list.now.grid)) old c.place.new.self reply) e.name
     (p s at (Region c.args.list.now.grid) e.kind planned)) c.place.ensures.placed
 
@@ -64,16 +58,14 @@ returns-clause-sound g c =
     let e = c.new_entry-entry.ensures in
     let entry = c.new_entry-entry.result in
     let name = c.args.name.now in
-    let listed = c.in-Ok-listed.ensures in
     let catalog = subst (λ (es : List Entry). IsCatalogOf s.work at.work.numbers es) (sym c.entries.ensures.entries) at.work.catalog in
+    let planned = λ (all : List Record) (listed : BeginsWithEntry entry c.records.result.now all).
     let first_is = λ (n k : ℕ). listed.2 n k ∙ ap (λ (b : List ℕ). record_of n k b entry.number (fact_of_kind entry.kind)) e.name
     ∙ ap (λ (x : Kind). record_of n k name entry.number (fact_of_kind x)) e.kind in
-    let plan = region_plan {D = g.W.Disk} old s at name entry.number c.args.list.now c.records-3.result.now c.records.result.now level grid e.named
+    let plan = region_plan {D = g.W.Disk} old s at name entry.number c.args.list.now all c.records.result.now level grid e.named
     c.requires.few c.requires.new e.number.0 e.number.1
-    (e.unused s.work at.work.numbers catalog at.work.spelled.numbering) listed.0 (c.records-3.ensures ∙ listed.1) first_is
-    (c.records.ensures ∙ c.in-Ok-plan_new.ensures.add) in
-    let planned =
-    subst (λ (b : List ℕ). IsLayerPlan s at.work.numbers b entry.number (Some (Region c.args.list.now.grid)) [] c.records-3.result.now) (sym e.name) plan in
+    (e.unused s.work at.work.numbers catalog at.work.spelled.numbering) listed.0 listed.1 first_is (c.records.ensures ∙ c.in-Ok.ensures.add) in
+    subst (λ (b : List ℕ). IsLayerPlan s at.work.numbers b entry.number (Some (Region c.args.list.now.grid)) [] all) (sym e.name) plan in
     p s at (Region c.args.list.now.grid) planned) c.place.ensures.sound
 
 pub returns-then-is_past_quota-clause-reads : goal.returns-then-is_past_quota-clause-reads
@@ -83,9 +75,7 @@ returns-then-is_past_quota-clause-reads g c =
 pub returns-clause-reads : goal.returns-clause-reads
 returns-clause-reads g c =
     let list = c.args.list.now in
-    let listed = c.in-Ok-listed.ensures in
-    let all = ap length (c.records-3.ensures ∙ listed.1) in
-    let rest = ap length (c.records.ensures ∙ c.in-Ok-plan_new.ensures.add) in
+    let rest = ap length (c.records.ensures ∙ c.in-Ok.ensures.add) in
     let each = region_length list.level c.new_entry-entry.result.number list.grid in
-    let same : 6 * length c.records-3.result.now ≡ 6 + 6 * length (leaves_by_code list.level list.grid) = omega arith in
+    let same : 6 + 6 * length c.records.result.now ≡ 6 + 6 * length (leaves_by_code list.level list.grid) = omega arith in
     on_ok_weaker c.place.result (costs_as _ _ (reads_in {D = g.W.Disk} c.args.self.now.book) (reads_in {D = g.W.Disk} c.place.new.self.book) same) c.place.ensures.reads

@@ -11,6 +11,7 @@ use Rattle.quilt_map.proofs.states.Going.{goes_of, goes_both}
 use Rattle.quilt_map.proofs.states.Moving.{with_book}
 use Rattle.quilt_map.proofs.plans.PaintPlans.{as_region, region_there, mid_amendment}
 use Rattle.quilt_map.proofs.answers.Placing.{answered_from}
+use Rattle.quilt_map.proofs.states.Causes.{cause_then}
 use Rattle.quilt_map.proofs.session.Session.redraw.Goals as goal
 
 pub returns-then-is_past_quota-clause-goes_on : goal.returns-then-is_past_quota-clause-goes_on
@@ -22,9 +23,6 @@ returns-then-is_past_quota-clause-redrawn g c = λ s at name grid is fits.
     let list = c.args.list.now in
     past_refused {D = g.W.Disk} old s at name list.grid list.level c.quota_of.result c.quota_of.ensures
     (c.requires.level ∙ sym (same_level {D = g.W.Disk} old s at)) (c.is_past_quota.ensures.0 c.if-is_past_quota.true)
-
-pub returns-in_default-clause-goes_on : goal.returns-in_default-clause-goes_on
-returns-in_default-clause-goes_on g c = goes_here {D = g.W.Disk} c.args.self.now.book
 
 pub returns-in_err-edits-clause-sound : goal.returns-in_err-edits-clause-sound
 returns-in_err-edits-clause-sound g c =
@@ -64,3 +62,6 @@ pub returns-clause-goes_on : goal.returns-clause-goes_on
 returns-clause-goes_on g c =
     goes_both {D = g.W.Disk} c.args.self.now.book c.plan_redraw.new.book c.amend.new.self.book
     (goes_of {D = g.W.Disk} c.args.self.now.book c.plan_redraw.new.book c.plan_redraw.ensures.still.later) c.amend.ensures.goes_on
+
+pub returns-clause-cause : goal.returns-clause-cause
+returns-clause-cause g c = cause_then c.plan_redraw.ensures.cause c.amend.ensures.cause

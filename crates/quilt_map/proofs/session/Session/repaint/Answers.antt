@@ -6,15 +6,12 @@ use Rattle.quilt_map.specs.Making.{layer_placed}
 use Rattle.quilt_map.proofs.plans.Amends.{mid_at}
 use Rattle.quilt_map.proofs.answers.Answered.{has_number}
 use Rattle.quilt_map.proofs.answers.Asked.{if_ok, if_err}
-use Rattle.quilt_map.proofs.states.ChangeSteps.{goes_here}
 use Rattle.quilt_map.proofs.states.Going.{goes_of, goes_both}
 use Rattle.quilt_map.proofs.states.Moving.{with_book}
 use Rattle.quilt_map.proofs.plans.PaintPlans.{as_region, region_there, painted_grid, mid_amendment}
 use Rattle.quilt_map.proofs.answers.Placing.{answered_from}
+use Rattle.quilt_map.proofs.states.Causes.{cause_then}
 use Rattle.quilt_map.proofs.session.Session.repaint.Goals as goal
-
-pub returns-in_default-clause-goes_on : goal.returns-in_default-clause-goes_on
-returns-in_default-clause-goes_on g c = goes_here {D = g.W.Disk} c.args.self.now.book
 
 pub returns-in_err-edits-clause-sound : goal.returns-in_err-edits-clause-sound
 returns-in_err-edits-clause-sound g c =
@@ -55,3 +52,6 @@ pub returns-clause-goes_on : goal.returns-clause-goes_on
 returns-clause-goes_on g c =
     goes_both {D = g.W.Disk} c.args.self.now.book c.plan_paint.new.book c.amend.new.self.book
     (goes_of {D = g.W.Disk} c.args.self.now.book c.plan_paint.new.book c.plan_paint.ensures.still.later) c.amend.ensures.goes_on
+
+pub returns-clause-cause : goal.returns-clause-cause
+returns-clause-cause g c = cause_then c.plan_paint.ensures.cause c.amend.ensures.cause

@@ -5,15 +5,12 @@ use Rattle.quilt_replies.specs.Answers.{with_points}
 use Rattle.quilt_map.specs.PointLayers.{points_scattered}
 use Rattle.quilt_map.proofs.plans.Amends.{mid_at}
 use Rattle.quilt_map.proofs.answers.Asked.{if_ok, if_err}
-use Rattle.quilt_map.proofs.states.ChangeSteps.{goes_here}
 use Rattle.quilt_map.proofs.states.Going.{goes_of, goes_both}
 use Rattle.quilt_map.proofs.plans.Planned.{unplanned, planned}
 use Rattle.quilt_map.proofs.plans.PointPlans.{points_there, number_there, mid_point}
 use Rattle.quilt_map.proofs.layers.Scatters.{scatter_finds, scatter_present, scatter_new}
+use Rattle.quilt_map.proofs.states.Causes.{cause_then}
 use Rattle.quilt_map.proofs.session.Session.scatter_into.Goals as goal
-
-pub returns-in_default-clause-goes_on : goal.returns-in_default-clause-goes_on
-returns-in_default-clause-goes_on g c = goes_here {D = g.W.Disk} c.args.self.now.book
 
 pub returns-in_err-plan_points-clause-sound : goal.returns-in_err-plan_points-clause-sound
 returns-in_err-plan_points-clause-sound g c =
@@ -71,3 +68,6 @@ pub returns-in-Some-clause-goes_on : goal.returns-in-Some-clause-goes_on
 returns-in-Some-clause-goes_on g c =
     goes_both {D = g.W.Disk} c.args.self.now.book c.plan_points.new.book c.amend.new.self.book
     (goes_of {D = g.W.Disk} c.args.self.now.book c.plan_points.new.book c.plan_points.ensures.still.later) c.amend.ensures.goes_on
+
+pub returns-in-Some-clause-cause : goal.returns-in-Some-clause-cause
+returns-in-Some-clause-cause g c = cause_then c.plan_points.ensures.cause c.amend.ensures.cause
