@@ -15,6 +15,7 @@ use Rattle.quilt_btree.specs.declared.edit.Edit.{Edit}
 use Rattle.quilt_btree.specs.declared.edit.Edit.TheVariants as edit
 use Rattle.quilt_btree.specs.Batches.{edit_keys, key_of, removed, records_put}
 use Rattle.quilt_btree.proofs.batches.Leaves.{keys-append}
+use Rattle.quilt_btree.proofs.batches.Puts.{puts_append}
 use Rattle.quilt_batch.specs.Merges.{IsFirstEdit, goes_of, comes_of}
 use Rattle.std.proofs.lemmas.Bool.{and_parts, and_from}
 
@@ -33,12 +34,6 @@ removed-append [] ys = refl
 removed-append (edit.Remove k ∷ xs) ys = ap (λ ks. k ∷ ks) (removed-append xs ys)
 removed-append (edit.Put r ∷ xs) ys = removed-append xs ys
 removed-append (edit.Replace r ∷ xs) ys = ap (λ ks. r.key ∷ ks) (removed-append xs ys)
-
-pub put-append : (xs ys : List Edit) → records_put (xs ++ ys) ≡ records_put xs ++ records_put ys
-put-append [] ys = refl
-put-append (edit.Remove k ∷ xs) ys = put-append xs ys
-put-append (edit.Put r ∷ xs) ys = ap (λ rs. r ∷ rs) (put-append xs ys)
-put-append (edit.Replace r ∷ xs) ys = ap (λ rs. r ∷ rs) (put-append xs ys)
 
 -- those that stand before a key of such a list are below it
 pub under_next : (ks : List Key) (k : Key) (ls : List Key) → is_ascending (ks ++ k ∷ ls) ≡ true → list_all (is_under k) ks ≡ true
@@ -75,7 +70,7 @@ remove_more : (og oc : List Record) (run : List Edit) (r : Record) (goes comes :
     → HasMerged og oc (run ++ edit.Remove r.key ∷ []) goes comes
 remove_more og oc run r goes comes m before = record {
   removed_so = ap (λ ks. ks ++ keys_of goes) (removed-append run (edit.Remove r.key ∷ [])) ∙ append_snoc (removed run) r.key (keys_of goes) ∙ m.removed_so;
-  added_so = ap (λ rs. rs ++ comes) (put-append run (edit.Remove r.key ∷ []) ∙ append-nil (records_put run)) ∙ m.added_so;
+  added_so = ap (λ rs. rs ++ comes) (puts_append run (edit.Remove r.key ∷ []) ∙ append-nil (records_put run)) ∙ m.added_so;
   order = λ g c.
       let o = m.order g c in (
         snoc_asc run (edit.Remove r.key) (keys_of goes) o.0,
@@ -90,7 +85,7 @@ put_more : (og oc : List Record) (run : List Edit) (a : Record) (goes comes : Li
     → HasMerged og oc (run ++ edit.Put a ∷ []) goes comes
 put_more og oc run a goes comes m before = record {
   removed_so = ap (λ ks. ks ++ keys_of goes) (removed-append run (edit.Put a ∷ []) ∙ append-nil (removed run)) ∙ m.removed_so;
-  added_so = ap (λ rs. rs ++ comes) (put-append run (edit.Put a ∷ [])) ∙ append_snoc (records_put run) a comes ∙ m.added_so;
+  added_so = ap (λ rs. rs ++ comes) (puts_append run (edit.Put a ∷ [])) ∙ append_snoc (records_put run) a comes ∙ m.added_so;
   order = λ g c.
       let o = m.order g c in (
         snoc_asc run (edit.Put a) (keys_of goes) (before (under_next (edit_keys run) a.key (keys_of comes) o.1) o.0),
@@ -104,7 +99,7 @@ replace_more : (og oc : List Record) (run : List Edit) (r a : Record) (goes come
 replace_more og oc run r a goes comes same m = record {
   removed_so = ap (λ ks. ks ++ keys_of goes) (removed-append run (edit.Replace a ∷ [])) ∙ append_snoc (removed run) a.key (keys_of goes)
       ∙ ap (λ k. removed run ++ k ∷ keys_of goes) (sym same) ∙ m.removed_so;
-  added_so = ap (λ rs. rs ++ comes) (put-append run (edit.Replace a ∷ [])) ∙ append_snoc (records_put run) a comes ∙ m.added_so;
+  added_so = ap (λ rs. rs ++ comes) (puts_append run (edit.Replace a ∷ [])) ∙ append_snoc (records_put run) a comes ∙ m.added_so;
   order = λ g c.
       let o = m.order g c in (
         snoc_asc run (edit.Replace a) (keys_of goes) (subst (λ k. is_ascending (edit_keys run ++ k ∷ keys_of goes) ≡ true) same o.0),

@@ -19,9 +19,10 @@ use Rattle.quilt_btree.specs.declared.edit.Edit.TheVariants as edit
 use Rattle.quilt_btree.specs.Batches.{edit_keys, key_of, are_due, removed, records_put, more, fewer}
 use Rattle.quilt_btree.specs.Runs.{without_all, has_each, has_any}
 use Rattle.quilt_btree.proofs.batches.Leaves.{keys-append}
+use Rattle.quilt_btree.proofs.batches.Puts.{puts_append}
 use Rattle.quilt_batch.specs.Merges.{IsFirstEdit, IsMerge, IsMergePart, StartsMerge}
 use Rattle.quilt_batch.proofs.Due.{any_all_above, come_keys, due_in_turn, or_parts}
-use Rattle.quilt_batch.proofs.Goings.{HasMerged, put-append, removed-append, under_next}
+use Rattle.quilt_batch.proofs.Goings.{HasMerged, removed-append, under_next}
 
 -- nothing is left of the two lists
 abbrev pub NoneLeft : (goes comes : List Record) → Type 0
@@ -132,7 +133,7 @@ pub part_on : (og oc goes comes left coming : List Record) (run part : List Edit
 part_on og oc goes comes left coming run part p q = record {
   gone = ap (λ ks. ks ++ keys_of left) (removed-append run part) ∙ append_assoc (removed run) (removed part) (keys_of left)
       ∙ ap (λ ks. removed run ++ ks) q.gone ∙ p.gone;
-  come = ap (λ rs. rs ++ coming) (put-append run part) ∙ append_assoc (records_put run) (records_put part) coming
+  come = ap (λ rs. rs ++ coming) (puts_append run part) ∙ append_assoc (records_put run) (records_put part) coming
       ∙ ap (λ rs. records_put run ++ rs) q.come ∙ p.come;
   starts = starts_on og oc run part goes comes left coming p.starts q.starts;
   ascends = subst (λ l. is_ascending l ≡ true) (append-nil (edit_keys (run ++ part)))

@@ -1,5 +1,5 @@
 -- The header of the next edition.
-use Rattle.std.proofs.Common.{ℕ, ◌<◌, ◌^◌, arith}
+use Rattle.std.proofs.Common.{ℕ, ◌<◌, ◌^◌}
 use Rattle.quilt_node.specs.declared.head.Head.{Head}
 use Rattle.quilt_node.specs.Pages.{IsHead}
 
@@ -8,18 +8,6 @@ pub next_head : (pages : ℕ) (h : Head) (number : ℕ) → IsHead pages h → n
 next_head pages h number is within = record {
   format = is.format;
   edition = within;
-  level = is.level;
-  height = is.height;
-  no_tree = is.no_tree;
-  tree = is.tree;
-  records = is.records;
-}
-
--- a header of format 2
-pub raised_head : (pages : ℕ) (h : Head) → IsHead pages h → IsHead pages (record h { format = 2 })
-raised_head pages h is = record {
-  format = (omega arith, omega arith);
-  edition = is.edition;
   level = is.level;
   height = is.height;
   no_tree = is.no_tree;

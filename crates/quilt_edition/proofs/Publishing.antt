@@ -235,25 +235,6 @@ drain_stops n es fs c d header o t keeps = goes_weaker (KeepsWork n es fs c d) (
           (λ image. HasHome n (published x n) image ⊎ HasHome n (next_pages n es c header x) image) k.since (λ image h. inl h);
     })
 
--- what the next call needs
-pub need_idle : (n m : ℕ) (es fs : Entries) (c d : List Bool) (o t : Option Tale) → m ≡ n → Goes (KeepsWork n es fs c d) o t → IfSome t (IsIdle m d)
-need_idle n m es fs c d o t is keeps = goes_now (KeepsWork n es fs c d) (IsIdle m d) o t keeps (λ x y k. subst (λ j. IsIdle j d y) (sym is) k.is.idle)
-
-pub need_listed : (k m : ℕ) (d e : List Bool) (R : Tale → Tale → Type 0) (t u : Option Tale) → k ≡ m → e ≡ d → Goes R t u
-    → ((a b : Tale) → R a b → IsIdle m d b) → IfSome u (IsIdle k e)
-need_listed k m d e R t u is changed step so =
-    goes_now R (IsIdle k e) t u step (λ a b r. subst (λ j. IsIdle j e b) (sym is) (subst (λ x. IsIdle m x b) (sym changed) (so a b r)))
-
-pub need_sealed : (k m : ℕ) (d e : List Bool) (R : Tale → Tale → Type 0) (t u : Option Tale) → k ≡ m → e ≡ d → Goes R t u
-    → ((a b : Tale) → R a b → IsSealed m d b) → IfSome u (IsSealed k e)
-need_sealed k m d e R t u is changed step so =
-    goes_now R (IsSealed k e) t u step (λ a b r. subst (λ j. IsSealed j e b) (sym is) (subst (λ x. IsSealed m x b) (sym changed) (so a b r)))
-
-pub need_carried : (k m : ℕ) (d e : List Bool) (R : Tale → Tale → Type 0) (t u : Option Tale) → k ≡ m → e ≡ d → Goes R t u
-    → ((a b : Tale) → R a b → IsCarried m d b) → IfSome u (IsCarried k e)
-need_carried k m d e R t u is changed step so =
-    goes_now R (IsCarried k e) t u step (λ a b r. subst (λ j. IsCarried j e b) (sym is) (subst (λ x. IsCarried m x b) (sym changed) (so a b r)))
-
 -- ---- where a publish stops before the gate
 
 pub moves_drained : (n : ℕ) (es fs : Entries) (c d : List Bool) (o t : Option Tale) → Goes (KeepsWork n es fs c d) o t → Goes (KeepsPublished n fs d) o t

@@ -27,8 +27,8 @@ use Rattle.quilt_journal.proofs.Writes.{writing_both, writing_more, writing_none
 use Rattle.quilt_node.specs.Nodes.{HeadFits}
 use Rattle.quilt_node.specs.Pages.{IsHead}
 use Rattle.quilt_world.specs.Causes.{next_count}
-use Rattle.quilt_world.proofs.Told.{goes_weaker, goes_then, goes_and}
-use Rattle.quilt_edition.specs.Starting.{Opened, HasNoHeader, IsNoMapFile, header_page}
+use Rattle.quilt_world.proofs.Told.{goes_then, goes_and}
+use Rattle.quilt_edition.specs.Starting.{Opened, HasNoHeader, header_page}
 use Rattle.quilt_edition.proofs.Steps.{idle_kept}
 use Rattle.quilt_pool.proofs.Entering.{none_some}
 
@@ -130,10 +130,6 @@ goes_found P R S T (Some o) (Some m) None r s p step = s
 goes_found P R S T (Some o) (Some m) (Some n) r s p step = step o m n r p s
 
 -- ---- the answers
-
-pub goes_no_map : (found : Begun) (a b : Option Tale) → found ≡ begun.NotMap → Goes (IsBegunOver found) a b → Goes IsNoMapFile a b
-goes_no_map found a b is goes =
-    goes_weaker (IsBegunOver begun.NotMap) IsNoMapFile a b (subst (λ f. Goes (IsBegunOver f) a b) is goes) (λ t u none. record { none = none })
 
 module _ (size : ℕ) (found : Begun) (j : View) (bytes : List ℕ) (a b c : Option Tale) (is : found ≡ begun.Journal j) (gives : FitsFile size found)
     (answers : Goes (IsBegunOver found) a b)

@@ -1,7 +1,7 @@
 -- What an image with an empty header stands for, with the label and without.
-use Rattle.std.proofs.Common.{◌≡◌, ◌≤◌, ◌+◌, ℕ, List, [], length, get_or, replicate, false, cond, ◌&&◌, ◌==◌, refl, sym, ◌∙◌, ap, arith, lit<, lit≤}
+use Rattle.std.proofs.Common.{◌≡◌, ◌≤◌, ◌+◌, ℕ, List, [], get_or, replicate, false, cond, ◌&&◌, ◌==◌, refl, sym, ◌∙◌, ap, arith, lit<, lit≤}
 use Rattle.std.specs.FinMap as finmap
-use Rattle.std.proofs.lemmas.List.FromFn.{length-map-range_with_len, get_or-map-range_with_len}
+use Rattle.std.proofs.lemmas.List.FromFn.{get_or-map-range_with_len}
 use Rattle.quilt_types.specs.Layers.{Edition}
 use Rattle.quilt_world.specs.Disk.{Pages}
 use Rattle.quilt_world.specs.Home.{file_label, IsMapFile, is_open, is_listed, home}
@@ -33,10 +33,6 @@ pub record IsHeaded (n : ℕ) (image : Pages) : Type 0 where
 
 shut : (n : ℕ) (image : Pages) → IsHeaded n image → is_open image ≡ false
 shut n image headed = ap (λ (l : List ℕ). get_or l 0 0 == 1) headed.gate
-
-home_size : (image : Pages) (pages : ℕ) → length (home image pages) ≡ pages
-unfolding home
-home_size image pages = length-map-range_with_len _ 0 pages
 
 home_header : (n : ℕ) (image : Pages) (pages : ℕ) → 1 ≤ pages → IsHeaded n image → get_or (home image pages) 0 [] ≡ header_bytes (empty_head n)
 unfolding home

@@ -26,11 +26,6 @@ if_ok (Ok x) (Err f) P Q ok err p step = tt
 if_ok (Err e) (Ok y) P Q ok err p step = absurd (false≢true (err refl))
 if_ok (Err e) (Err f) P Q ok err p step = tt
 
--- where it succeeds or not
-pub by_result : {T E : Type 0} (a : Result T E) (P : Type 0) → OnOk a P → OnErr a P → P
-by_result (Ok x) P ok err = ok
-by_result (Err e) P ok err = err
-
 -- what holds behind a door after a call that goes on, or changes nothing
 pub known_by : {T E : Type 0} (a : Result T E) (R : Story → Story → Type 0) (P : Story → Type 0) (o n : Option Story) → OnOk a (Goes R o n) → OnErr a (n ≡ o)
     → ForSome o P → ((s u : Story) → P s → R s u → P u) → ForSome n P

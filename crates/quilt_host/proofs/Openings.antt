@@ -1,5 +1,5 @@
 -- Maps that are opened and made.
-use Rattle.std.proofs.Common.{◌≡◌, ◌≢◌, ◌⊎◌, inl, inr, ℕ, ◌+◌, ◌*◌, ◌<◌, ◌≤◌, Bool, true, false, List, [], ◌∷◌, length, replicate, Option, Some, None, refl, sym, ◌∙◌, ap, subst, arith}
+use Rattle.std.proofs.Common.{◌≡◌, ◌≢◌, ◌⊎◌, inl, inr, ℕ, ◌+◌, ◌*◌, ◌<◌, ◌≤◌, true, false, List, [], ◌∷◌, length, replicate, Option, Some, None, refl, sym, ◌∙◌, ap, subst, arith}
 use Rattle.std.specs.Option.{ForSome}
 use Rattle.std.specs.Prelude.{IfSome}
 use Rattle.std.proofs.lemmas.Bool.{false≢true}
@@ -10,12 +10,12 @@ use Rattle.quilt_world.specs.Doors.{OpensAt, MakesAt}
 use Rattle.quilt_world.specs.PageBytes.{last_bytes}
 use Rattle.quilt_world.specs.declared.disk.Door.{Door}
 use Rattle.quilt_world.specs.declared.disk.Door.TheVariants as doors
-use Rattle.quilt_host.specs.declared.act.Act.TheVariants.{Opened, Created, Synced, Linked}
+use Rattle.quilt_host.specs.declared.act.Act.TheVariants.{Linked}
 use Rattle.quilt_host.specs.Story.{Story}
 use Rattle.quilt_host.specs.Acts.{draft_of, closed, log_of, is_settled}
 use Rattle.quilt_host.specs.Bytes.{patched, page_at, file_pages}
-use Rattle.quilt_host.specs.Calls.{acted, OpensFile, CreatesFile, Removes, FailsToRemove, Syncs, Links}
-use Rattle.quilt_host.specs.Paging.{KeepsBytes, KeepsRest, KeepsStart, WritesPage, TearsPage, WritesZeros, WritesSome, Settles, Fills, IsCleared, MakesMap, FailsToMake}
+use Rattle.quilt_host.specs.Calls.{OpensFile, Syncs, Links}
+use Rattle.quilt_host.specs.Paging.{KeepsBytes, KeepsRest, KeepsStart, WritesPage, TearsPage, WritesZeros, WritesSome, Settles, Fills, MakesMap, FailsToMake}
 use Rattle.quilt_host.specs.Worlds.{is_open_door, tale_of, IsSoundStory, IsFileKept}
 use Rattle.quilt_host.proofs.ByteLaws.{get-pages_of, zeros_more, pages_of-zeros}
 use Rattle.quilt_host.proofs.DraftLaws.{after_opened, after_linked}
@@ -90,16 +90,6 @@ settles t u v synced links =
       log = after_linked (draft_of u.acts);
     })
 
-pub some_synced : (t u : Story) → Syncs t u → WritesSome t u
-some_synced t u synced = subst (λ (x : Story). WritesSome t x) (sym synced)
-    (record { rest = record { words = refl; path = refl; was_there = refl; is_there = refl; settled = refl; input = refl; said = refl; says = refl }; owes = refl })
-
-pub some_both : (t u v : Story) → WritesSome t u → WritesSome u v → WritesSome t v
-some_both t u v a b = record { rest = rest_both t u v a.rest b.rest; owes = b.owes ∙ a.owes }
-
-pub zeros_some : (n : ℕ) (t u : Story) → WritesZeros n t u → WritesSome t u
-zeros_some n t u z = record { rest = z.rest; owes = z.owes }
-
 pub fills : (n : ℕ) (t u v : Story) → WritesZeros n t u → Settles u v → Fills n t v
 fills n t u v z s = record {
   same = start_both t u v (start_of_rest t u z.rest) s.same;
@@ -111,75 +101,7 @@ fills n t u v z s = record {
 
 -- ---- removing it
 
-pub cleared_removed : (path : List ℕ) (t u v : Story) → WritesSome t u → Removes path u v → IsCleared t v
-cleared_removed path t u v some removes =
-    subst (λ (x : Story). IsCleared t x) (sym removes.now)
-    (record {
-      same = record {
-        words = some.rest.words;
-        path = some.rest.path;
-        was_there = some.rest.was_there;
-        input = some.rest.input;
-        said = some.rest.said;
-        says = some.rest.says;
-      };
-      cleared = refl;
-    })
-
-pub cleared_kept : (t u v : Story) → WritesSome t u → FailsToRemove u v → IsCleared t v
-cleared_kept t u v some kept =
-    subst (λ (x : Story). IsCleared t x) (sym kept)
-    (record {
-      same = record {
-        words = some.rest.words;
-        path = some.rest.path;
-        was_there = some.rest.was_there;
-        input = some.rest.input;
-        said = some.rest.said;
-        says = some.rest.says;
-      };
-      cleared = refl;
-    })
-
 -- ---- making
-
-pub created_empty : (path : List ℕ) (t u : Story) → CreatesFile path t u → u.bytes ≡ []
-created_empty path t u c = ap (λ (x : Story). x.bytes) c.now
-
-pub makes_map : (path : List ℕ) (n : ℕ) (t u v : Story) → CreatesFile path t u → Fills n u v → MakesMap path n t v
-makes_map path n t u v c f = record {
-  named = c.named;
-  free = c.free;
-  there = f.is_there ∙ ap (λ (x : Story). x.is_there) c.now;
-  same = record {
-    words = f.same.words ∙ ap (λ (x : Story). x.words) c.now;
-    path = f.same.path ∙ ap (λ (x : Story). x.path) c.now;
-    was_there = f.same.was_there ∙ ap (λ (x : Story). x.was_there) c.now;
-    input = f.same.input ∙ ap (λ (x : Story). x.input) c.now;
-    said = f.same.said ∙ ap (λ (x : Story). x.said) c.now;
-    says = f.same.says ∙ ap (λ (x : Story). x.says) c.now;
-  };
-  bytes = f.bytes;
-  settled = f.settled;
-  log = f.log;
-}
-
-pub fails_to_fill : (path : List ℕ) (t u v : Story) → CreatesFile path t u → IsCleared u v → FailsToMake t v
-fails_to_fill path t u v c f = record {
-  same = record {
-    words = f.same.words ∙ ap (λ (x : Story). x.words) c.now;
-    path = f.same.path ∙ ap (λ (x : Story). x.path) c.now;
-    was_there = f.same.was_there ∙ ap (λ (x : Story). x.was_there) c.now;
-    input = f.same.input ∙ ap (λ (x : Story). x.input) c.now;
-    said = f.same.said ∙ ap (λ (x : Story). x.said) c.now;
-    says = f.same.says ∙ ap (λ (x : Story). x.says) c.now;
-  };
-  kept = λ there. absurd (false≢true (sym c.free ∙ there));
-  cleared = λ owed. f.cleared;
-}
-
-pub fails_at_once : (s : Story) → FailsToMake s s
-fails_at_once s = record { same = record { words = refl; path = refl; was_there = refl; input = refl; said = refl; says = refl }; kept = λ there. refl; cleared = λ owed. owed }
 
 -- ---- soundness
 
@@ -349,26 +271,10 @@ is_taken path door n pages pages' reads writes s shut sound there = record {
   taken = λ taken same. sym (sound.first shut) ∙ there same;
 }
 
-pub fails_at : (path : List ℕ) (door : Door) (n pages pages' reads writes : ℕ) (s u : Story) → FailsToMake s u
-    → MakesAt path n doors.Failed (tale_of door pages reads writes s) (tale_of doors.Failed pages' reads writes u)
-fails_at path door n pages pages' reads writes s u f = record {
-  fresh = record { log = refl; reads = refl; writes = refl; input = f.same.input; path = f.same.path; was_there = f.same.was_there };
-  ready = λ made. absurd (let no : doors.Failed ≡ doors.Made = made in cc);
-  zero = λ made. absurd (let no : doors.Failed ≡ doors.Made = made in cc);
-  taken = λ taken. absurd (let no : doors.Failed ≡ doors.Taken = taken in cc);
-}
-
 -- ---- files
 
 pub same_file : (s : Story) → KeepsBytes s s
 same_file s = record { is_there = refl; bytes = refl }
-
-pub file_opened : (path : List ℕ) (s u : Story) → OpensFile path s u → KeepsBytes s u
-file_opened path s u o = record { is_there = ap (λ (x : Story). x.is_there) o.now; bytes = ap (λ (x : Story). x.bytes) o.now }
-
-pub file_not_opened : (path : List ℕ) (s u : Story) → (u ≡ s) ⊎ OpensFile path s u → KeepsBytes s u
-file_not_opened path s u (inl same) = record { is_there = ap (λ (x : Story). x.is_there) same; bytes = ap (λ (x : Story). x.bytes) same }
-file_not_opened path s u (inr o) = file_opened path s u o
 
 -- ---- what is kept
 

@@ -7,7 +7,6 @@ pub mod CopySteps
 pub mod Counts
 pub mod Homes
 pub mod Leaving
-pub mod Publishing
 pub mod RedoSteps
 pub mod SealSteps
 pub mod SlotSteps

@@ -36,18 +36,6 @@ use Rattle.quilt_top.proofs.Running.{opens_map, finds_opened}
 
 -- ---- the causes
 
-allowed_run : (end : End) → may_end_trial end ≡ true → may_end_run end ≡ true
-allowed_run ends.Done is = refl
-allowed_run ends.Refused is = refl
-allowed_run ends.Usage is = is
-allowed_run ends.Device is = refl
-allowed_run ends.Memory is = refl
-allowed_run ends.NotMap is = refl
-allowed_run ends.Missing is = refl
-allowed_run ends.Taken is = is
-allowed_run ends.TooMuch is = absurd (cc)
-allowed_run (ends.Damaged page) is = refl
-
 allowed_trial : (end : End) → may_end_run end ≡ true → (end ≡ ends.TooMuch → ⊥) → may_end_trial end ≡ true
 allowed_trial ends.Done is short = refl
 allowed_trial ends.Refused is short = refl

@@ -1,6 +1,6 @@
 -- What a run over a file promises, by what opening and the text did.
 use Rattle.std.proofs.Common.{◌≡◌, inl, inr, ◌+◌, ◌<◌, ◌≤◌, ℕ, Bool, true, false, cond, List, [], ◌∷◌, ◌++◌, length, length-append, take, Option, Some, None, Result}
-use Rattle.std.proofs.Common.{Ok, Err, IfOk, IfErr, refl, sym, ◌∙◌, ap, subst, arith, append-nil}
+use Rattle.std.proofs.Common.{Ok, Err, IfOk, IfErr, refl, sym, ◌∙◌, ap, subst, arith}
 use Rattle.std.specs.List.{All}
 use Rattle.std.proofs.lemmas.List.{take_at}
 use Rattle.quilt_types.specs.Facts.{quota}
@@ -34,7 +34,7 @@ use Rattle.quilt_top.specs.declared.halt.Halt.TheVariants as halts
 use Rattle.quilt_top.specs.declared.run.End.{End}
 use Rattle.quilt_top.specs.declared.run.End.TheVariants as ends
 use Rattle.quilt_top.specs.Headline.{IsOneOf, ComesExactly, IsStop, IsEdition, WritesFew, all_done, RunsText, IsPrompt, input_limit, told_by_replies, RunsInput}
-use Rattle.quilt_top.specs.Headline.{IsNoMap, StandsForNothing, OpensSafely, FindsFile, may_end_run}
+use Rattle.quilt_top.specs.Headline.{IsNoMap, StandsForNothing, OpensSafely, FindsFile}
 use Rattle.quilt_top.specs.Openings.{Keeps, IsNoFault, RunsTo, run_ends, is_run_end, end_of}
 
 -- ---- what opening leaves
@@ -58,26 +58,10 @@ home_kept u v n new keeps file so_far image front left =
     since.each k (omega (arith, ap length new)) image
     (subst (λ (l : Log). CanLeave u.start l image) (sym is) (subst (λ (p : Pages). CanLeave p so_far image) since.file.start left))
 
-opened_leaves : (u v : Tale) (n : ℕ) (E : Edition) → u.log ≡ [] → Keeps u v → IsMapFile u.start n → Stands u.start E → LeavesNow v (λ image. Stands image E)
-opened_leaves u v n E new keeps file stands = λ image left.
-    stands_as n u.start image E file stands (home_kept u v n new keeps file v.log image ([], sym (append-nil v.log)) left)
-
 pub opened_untold : (u v : Tale) → u.log ≡ [] → Keeps u v → IsUntold v
 opened_untold u v new keeps = subst (λ (l : Log). Only is_of_pages l) (sym (keeps.pages.log ∙ ap (λ (l : Log). l ++ keeps.pages.events) new)) keeps.pages.only
 
 -- ---- the ends
-
-run_end_allowed : (end : End) → is_run_end end ≡ true → may_end_run end ≡ true
-run_end_allowed ends.Done is = refl
-run_end_allowed ends.Refused is = refl
-run_end_allowed ends.Usage is = absurd (cc)
-run_end_allowed ends.Device is = refl
-run_end_allowed ends.Memory is = refl
-run_end_allowed ends.NotMap is = absurd (cc)
-run_end_allowed ends.Missing is = absurd (cc)
-run_end_allowed ends.Taken is = absurd (cc)
-run_end_allowed ends.TooMuch is = refl
-run_end_allowed (ends.Damaged page) is = refl
 
 pub other_end : (end other : End) → is_run_end end ≡ true → is_run_end other ≡ false → end ≡ other → ⊥
 other_end end other one not_ is = let b = ap is_run_end is in cc

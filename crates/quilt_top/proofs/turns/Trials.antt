@@ -40,9 +40,6 @@ abbrev pub Leads : ℕ → List ℕ → List ℕ → Type 0
 Leads n start left = Same n (items_of n start) (items_of n left)
 
 module _ (n : ℕ) (start rest trial : List ℕ) (leads : Leads n start (rest ++ trial)) where
-  pub next_whole : (f : ℕ) (item : Item) (new : List ℕ) → GivesItem false n f item rest new → IsNextItem n f item start (new ++ trial)
-  next_whole f item new given = record { group = given.group; is = given.is; rest = λ k low. leads k low ∙ given.gives.all trial tt k low }
-
   -- where the text has ended
   pub next_last : (f : ℕ) (item : Item) (new : List ℕ) → trial ≡ [] → GivesItem true n f item rest new → IsNextItem n f item start (new ++ trial)
   next_last f item new ended given = record { group = given.group; is = given.is; rest = λ k low. leads k low ∙ given.gives.all trial ended k low }
@@ -58,12 +55,6 @@ module _ (n : ℕ) (start rest trial : List ℕ) (leads : Leads n start (rest ++
   fed line behind new is gives = λ k low.
       leads k low ∙ ap (λ (l : List ℕ). map (held k n) (items_of n (rest ++ l))) is
       ∙ ap (λ (l : List ℕ). map (held k n) (items_of n l)) (sym (append_assoc rest line behind)) ∙ gives.all behind tt k low
-
--- what is given before that
-pub command_whole : (n f : ℕ) (start rest trial new : List ℕ) (spelled : Result Command Code) → Leads n start (rest ++ trial)
-    → GivesCommand false n f spelled rest new → IsNextCommand n f spelled start (new ++ trial)
-command_whole n f start rest trial new spelled leads given =
-    record { item = given.item; next = next_whole n start rest trial leads f given.item new given.gives; is = given.is }
 
 -- what is given last, where the text has ended
 pub given_last : (n f : ℕ) (start rest trial ended : List ℕ) → Leads n start (rest ++ trial) → trial ≡ [] → ended ≡ []

@@ -79,9 +79,6 @@ no_number (x ∷ y ∷ ys) is =
     let dash : codes "-" ≡ x ∷ [] = (bytes_eq-Decides (codes "-") (x ∷ [])).0 starts in
     subst (λ z. number 8 4096 (z ∷ y ∷ ys) ≡ None) (ap (λ l. get_or l 0 0) dash) refl
 
-no_run : (file : List ℕ) → run_order file None ≡ None
-no_run file = refl
-
 no_trial : (file : List ℕ) (seed count : Option ℕ) → trial_order file seed count None ≡ None
 no_trial file None count = refl
 no_trial file (Some seed) None = refl
