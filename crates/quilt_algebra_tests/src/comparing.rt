@@ -1,78 +1,80 @@
-//! Calls of the map algebra without contracts: each fails where its conditions do not hold, and promises nothing, so that the
-//! tests need no facts and are proved in short time.
+//! Calls of the map algebra without contracts: each gives none where its conditions do not hold or memory is lacking, and
+//! promises nothing, so that the tests need no facts and are proved in short time.
 use quilt_blocks::{Cursor, Leaf, LeafList};
 use quilt_buffer::buffer;
 use quilt_measure::{area, histogram, perimeter};
-use quilt_overlay::{Op, overlay, recolour};
+use quilt_overlay::{Op, overlay};
 use quilt_plain::is_window;
+use quilt_poly::region_of;
 use quilt_raster::{leaves_of, render};
-use quilt_types::{Colour, Pixel, Text, Window};
+use quilt_types::{Colour, Corner, Pixel, RingList, Text, Window};
 use quilt_window::{shift, window};
 use std::alloc::{AllocError, Global};
-use std::test::Fail;
 
 /// The leaves of a square of these bytes, row by row, two for each colour.
-pub fn list_of_bytes(alloc: Global, level: u8, bytes: &[u8]) -> Result<LeafList, Fail> {
+pub fn list_of_bytes(alloc: Global, level: u8, bytes: &[u8]) -> Option<LeafList> {
     if level == 0 || level > 12 {
-        return Err(Fail::from("a level"));
+        return None;
     }
     let side = 1_usize << level;
     if bytes.len() != 2 * (side * side) {
-        return Err(Fail::from("a number of bytes"));
+        return None;
     }
-    let list = leaves_of(alloc, bytes, level)?;
-    Ok(list)
+    leaves_of(alloc, bytes, level).ok()
 }
 
 /// The leaves of the colours of a square, row by row.
-pub fn list_of(alloc: Global, level: u8, colours: &[u16]) -> Result<LeafList, Fail> {
+pub fn list_of(alloc: Global, level: u8, colours: &[u16]) -> Option<LeafList> {
     let mut bytes = Vec::new(alloc);
     for c in colours {
-        bytes.push((c / 256) as u8)?;
-        bytes.push((c % 256) as u8)?;
+        bytes.extend_from_slice(&c.to_be_bytes()).ok()?;
     }
     list_of_bytes(alloc, level, &bytes)
 }
 
-/// One map laid over another.
-pub fn overlay_of(alloc: Global, op: Op, a: &LeafList, b: &LeafList) -> Result<LeafList, Fail> {
-    if a.level() != b.level() {
-        return Err(Fail::from("two levels"));
+/// The map of this colour in the upper left corner and one other everywhere else.
+pub fn list_of_two(alloc: Global, level: u8, corner: u16, other: u16) -> Option<LeafList> {
+    let mut colours = Vec::new(alloc);
+    colours.push(corner).ok()?;
+    for _ in 1..1_u32 << (2 * level.min(12)) {
+        colours.push(other).ok()?;
     }
-    let list = overlay(alloc, op, a, b)?;
-    Ok(list)
-}
-
-/// The map with other colours.
-pub fn recolour_of(
-    alloc: Global,
-    a: &LeafList,
-    pairs: &[(Colour, Colour)],
-) -> Result<LeafList, Fail> {
-    let list = recolour(alloc, a, pairs)?;
-    Ok(list)
+    list_of(alloc, level, &colours)
 }
 
 /// The map cut to the window.
-pub fn window_of(alloc: Global, a: &LeafList, w: Window) -> Result<LeafList, Fail> {
+pub fn window_of(alloc: Global, a: &LeafList, w: Window) -> Option<LeafList> {
     let level = a.level();
     if level > 12 || !is_window(level, w) {
-        return Err(Fail::from("a window"));
+        return None;
     }
-    let list = window(alloc, a, w)?;
-    Ok(list)
+    window(alloc, a, w).ok()
 }
 
 /// The map moved in x and in y.
-pub fn shift_of(alloc: Global, a: &LeafList, dx: i32, dy: i32) -> Result<LeafList, Fail> {
-    let list = shift(alloc, a, dx, dy)?;
-    Ok(list)
+pub fn shift_of(alloc: Global, a: &LeafList, dx: i32, dy: i32) -> Option<LeafList> {
+    shift(alloc, a, dx, dy).ok()
 }
 
 /// The pixels within the distance of the map.
-pub fn buffer_of(alloc: Global, a: &LeafList, r: u16) -> Result<LeafList, Fail> {
-    let list = buffer(alloc, a, r)?;
-    Ok(list)
+pub fn buffer_of(alloc: Global, a: &LeafList, r: u16) -> Option<LeafList> {
+    buffer(alloc, a, r).ok()
+}
+
+/// The pixels inside of the rings.
+pub fn region_in(alloc: Global, rings: &RingList, c: u16, level: u8) -> Option<LeafList> {
+    if level == 0 || level > 12 {
+        return None;
+    }
+    region_of(alloc, rings, Colour(c), level).ok()
+}
+
+/// Adds a corner to the last ring.
+pub fn add_corner(rings: &mut RingList, corner: Corner) -> Option<()> {
+    if rings.len() == 0 {
+        return None;
+    }
+    rings.push(corner).ok()
 }
 
 /// How many pixels have the colour.
@@ -106,77 +108,89 @@ pub fn colour_in(a: &LeafList, x: u16, y: u16) -> Option<u16> {
     Some(a.colour_at(Pixel { x, y }).0)
 }
 
-/// The leaves in the order of their codes: x, y and side of each, and its colour.
-pub fn leaves_in(alloc: Global, a: &LeafList) -> Result<Vec<[u16; 4]>, AllocError> {
-    let mut leaves = Vec::new(alloc);
-    let mut cursor = Cursor::new(a);
-    for _ in 0..a.len() {
-        if let Some(Leaf { block, colour }) = cursor.next() {
-            leaves.push([block.x, block.y, block.side, colour.0])?;
+/// Whether each of these pixels, by its x and y, has its colour.
+pub fn has_pixels(a: &LeafList, pixels: &[(u16, u16, u16)]) -> bool {
+    for (x, y, c) in pixels {
+        if colour_in(a, *x, *y) != Some(*c) {
+            return false;
         }
     }
-    Ok(leaves)
+    true
 }
 
-/// Whether these are all leaves, in the order of their codes: x, y and side of each, and its colour.
-pub fn has_leaves(alloc: Global, a: &LeafList, wanted: &[[u16; 4]]) -> Result<bool, AllocError> {
-    Ok(leaves_in(alloc, a)?.as_slice() == wanted)
+/// A leaf by its x, y and side, and its colour.
+pub type Square = (u16, u16, u16, u16);
+
+/// Whether this is the leaf.
+fn is_square(leaf: Option<Leaf>, wanted: &Square) -> bool {
+    match leaf {
+        Some(Leaf { block, colour }) => (block.x, block.y, block.side, colour.0) == *wanted,
+        None => false,
+    }
 }
 
-/// How many bytes the rows of the window have.
-pub fn rendered_length(
-    alloc: Global,
-    list: &LeafList,
-    w: Window,
-    format: u8,
-) -> Result<usize, Fail> {
-    Ok(rendered(alloc, list, w, format)?.bytes().len())
+/// Whether these are all leaves, in the order of their codes.
+pub fn has_leaves(a: &LeafList, wanted: &[Square]) -> bool {
+    let mut leaves = Cursor::new(a);
+    for square in wanted {
+        if !is_square(leaves.next(), square) {
+            return false;
+        }
+    }
+    leaves.next().is_none()
 }
 
-/// Whether the rows of the window are this text.
-pub fn is_rendered(
-    alloc: Global,
-    list: &LeafList,
-    w: Window,
-    format: u8,
-    text: &[u8],
-) -> Result<bool, Fail> {
-    Ok(rendered(alloc, list, w, format)?.bytes() == text)
+/// Whether all leaves have this side.
+pub fn has_side(a: &LeafList, side: u16) -> bool {
+    let mut leaves = Cursor::new(a);
+    for _ in 0..a.len() {
+        match leaves.next() {
+            Some(leaf) => if leaf.block.side != side {
+                return false;
+            }
+            None => return false,
+        }
+    }
+    true
 }
 
 /// The rows of the window.
-fn rendered(alloc: Global, list: &LeafList, w: Window, format: u8) -> Result<Text, Fail> {
+pub fn rows_of(alloc: Global, list: &LeafList, w: Window, format: u8) -> Option<Text> {
     let level = list.level();
     if level > 12 {
-        return Err(Fail::from("a level"));
+        return None;
     }
     let side = 1_u32 << level;
     if w.x as u32 + w.w as u32 > side || w.y as u32 + w.h as u32 > side {
-        return Err(Fail::from("a window"));
+        return None;
     }
-    let text = render(alloc, list, w, format)?;
-    Ok(text)
+    render(alloc, list, w, format).ok()
 }
 
-/// The colours of a list's pixels, row by row.
-fn shown(alloc: Global, list: &LeafList) -> Result<Vec<u16>, AllocError> {
-    let level = list.level();
-    prove!(level <= 12);
-    let side = 1_u16 << level;
-    let mut colours = Vec::new(alloc);
+/// Whether the rows of the window are this text.
+pub fn is_shown(alloc: Global, list: &LeafList, w: Window, format: u8, text: &[u8]) -> bool {
+    match rows_of(alloc, list, w, format) {
+        Some(rows) => rows.bytes() == text,
+        None => false,
+    }
+}
+
+/// Whether the pixels have these colours, row by row.
+fn has_colours(list: &LeafList, level: u8, colours: &[u16]) -> bool {
+    let side = 1_u16 << level.min(12);
+    let mut rest = colours.iter();
     for y in 0..side {
         for x in 0..side {
-            colours.push(list.colour_at(Pixel { x, y }).0)?;
+            if colour_in(list, x, y) != rest.next().copied() {
+                return false;
+            }
         }
     }
-    Ok(colours)
+    list.level() == level && rest.next().is_none()
 }
 
 /// Whether two lists have the same leaves, one by one.
 fn have_same_leaves(list: &LeafList, wanted: &LeafList) -> bool {
-    if list.len() != wanted.len() {
-        return false;
-    }
     let mut leaves = Cursor::new(list);
     let mut others = Cursor::new(wanted);
     for _ in 0..list.len() {
@@ -184,33 +198,36 @@ fn have_same_leaves(list: &LeafList, wanted: &LeafList) -> bool {
             return false;
         }
     }
-    true
+    list.len() == wanted.len()
 }
 
-/// Fails where the list is not that of these colours' maximal blocks: pixel by pixel, and leaf by leaf.
-pub fn compare(alloc: Global, list: &LeafList, level: u8, colours: &[u16]) -> Result<(), Fail> {
-    if list.level() != level {
-        return Err(Fail::from("another level"));
+/// Whether the list is that of these colours' maximal blocks: pixel by pixel, and leaf by leaf.
+pub fn is_map(alloc: Global, list: &LeafList, level: u8, colours: &[u16]) -> bool {
+    match list_of(alloc, level, colours) {
+        Some(wanted) => has_colours(list, level, colours) && have_same_leaves(list, &wanted),
+        None => false,
     }
-    if shown(alloc, list)?.as_slice() != colours {
-        return Err(Fail::from("other pixels"));
-    }
-    if !have_same_leaves(list, &list_of(alloc, level, colours)?) {
-        return Err(Fail::from("other leaves"));
-    }
-    Ok(())
 }
 
-/// Fails where two maps, laid over each other, are not the wanted one.
-pub fn compare_overlay(
+/// Whether a map was made, and is that of the colours that were computed.
+pub fn is_same(
     alloc: Global,
-    op: Op,
     level: u8,
-    maps: (&[u16], &[u16]),
-    wanted: &[u16],
-) -> Result<(), Fail> {
+    made: Option<LeafList>,
+    computed: Result<Vec<u16>, AllocError>,
+) -> bool {
+    match (made, computed) {
+        (Some(list), Ok(colours)) => is_map(alloc, &list, level, &colours),
+        _ => false,
+    }
+}
+
+/// One map laid over another, each by its colours.
+pub fn overlay_of(alloc: Global, op: Op, level: u8, maps: (&[u16], &[u16])) -> Option<LeafList> {
     let a = list_of(alloc, level, maps.0)?;
     let b = list_of(alloc, level, maps.1)?;
-    let list = overlay_of(alloc, op, &a, &b)?;
-    compare(alloc, &list, level, wanted)
+    if a.level() != b.level() {
+        return None;
+    }
+    overlay(alloc, op, &a, &b).ok()
 }

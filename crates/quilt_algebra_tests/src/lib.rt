@@ -5,5 +5,3 @@
 mod comparing;
 #[cfg(test)]
 mod tests;
-#[cfg(test)]
-mod windows;

@@ -9,3 +9,5 @@ mod files;
 mod steps;
 #[cfg(test)]
 mod tests;
+#[cfg(test)]
+mod wanted;

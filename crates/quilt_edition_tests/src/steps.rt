@@ -1,18 +1,50 @@
-use crate::edition::{Edition, edition_of, nth_page};
-use crate::files::{map_file, page_bytes};
-use quilt_desk::Desk;
+use crate::edition::{Edition, edition_of, nth_page, stopped, wanted_edition};
+use crate::files::page_bytes;
+use quilt_desk::{Desk, choices};
 use quilt_edition::{Book, Started};
-use quilt_store::{PageStore, StoreErr};
+use quilt_store::PageStore;
 use quilt_types::Stop;
 use quilt_world::{Disk, Image};
 use std::alloc::{AllocError, Global};
+use std::test::Fail;
 
-/// What opening a file comes to.
-#[derive(Clone, Copy, Debug, PartialEq, Eq)]
-pub enum Opening {
-    Ready(Edition),
+/// What opening a file, and the work on its book, comes to.
+#[derive(Clone, Copy, PartialEq)]
+pub enum Outcome {
+    Read(Edition),
+    Published(u32),
     NotMap,
     Stopped(Stop),
+}
+
+/// The work on a book.
+#[derive(Clone, Copy)]
+pub enum Work {
+    /// Its pages are read.
+    Read,
+    /// The first so many pages are written in version 2, and published.
+    First(u32),
+    /// So are these pages, but the second of them is given back before.
+    Given(u32),
+    /// The first 20 pages are written in version 2 and read back, and so in version 3, and published.
+    Twice,
+}
+
+/// Work on the book of a file over a pool of so many pages, where the call of this number fails.
+#[derive(Clone, Copy)]
+pub struct Trial {
+    pub pool: u32,
+    pub failing: u64,
+    pub work: Work,
+}
+
+/// No call fails, and the pool has eight pages.
+pub fn plain_trial(work: Work) -> Trial {
+    Trial {
+        pool: 8,
+        failing: 0,
+        work,
+    }
 }
 
 /// What opening this file as a book gives, over a pool of so many pages, where the call of this number fails.
@@ -32,154 +64,117 @@ fn started(
     }
 }
 
-/// The book of this file over a pool of so many pages.
-fn begun(alloc: Global, file: Image, pool: u32) -> Result<Option<Book<Desk>>, AllocError> {
-    match started(alloc, file, pool, 0)? {
-        Some(Started::Ready(book)) => Ok(Some(book)),
-        _ => Ok(None),
-    }
-}
-
-/// The book of a new map file over a pool of so many pages.
-pub fn fresh(alloc: Global, pool: u32) -> Result<Option<Book<Desk>>, AllocError> {
-    begun(alloc, map_file(alloc)?, pool)
-}
-
-/// What opening a file comes to.
-pub fn reopened(alloc: Global, file: Image) -> Result<Opening, AllocError> {
-    match started(alloc, file, 8, 0)? {
-        Some(Started::Ready(mut book)) => match edition_of(&mut book) {
-            Ok(edition) => Ok(Opening::Ready(edition)),
-            Err(StoreErr::Device) => Ok(Opening::Stopped(Stop::Device)),
-            Err(StoreErr::Memory) => Ok(Opening::Stopped(Stop::Memory)),
-        },
-        Some(Started::NotMap(_)) => Ok(Opening::NotMap),
-        Some(Started::Stopped(_, stop)) => Ok(Opening::Stopped(stop)),
-        None => Ok(Opening::Stopped(Stop::Device)),
-    }
-}
-
-/// What opening the file of a desk comes to, as the file now reads.
-pub fn reopened_now(alloc: Global, desk: &Desk) -> Result<Option<Opening>, AllocError> {
-    match desk.image() {
-        Some(file) => Ok(Some(reopened(alloc, file.copy()?)?)),
-        None => Ok(None),
-    }
-}
-
-/// The number of pages of the file of a desk.
-pub fn pages_of(desk: &Desk) -> u32 {
-    desk.pages()
-}
-
 /// The number of events of a desk.
 pub fn events_of(desk: &Desk) -> usize {
     desk.log().len()
 }
 
-/// The disk of a book, as it is.
-pub fn desk_of(book: Book<Desk>) -> Desk {
-    book.into_world()
-}
-
 /// Writes this version of a page.
-fn write_page(book: &mut Book<Desk>, page: u32, version: u8) -> Result<(), StoreErr> {
+fn write_page(book: &mut Book<Desk>, page: u32, version: u8) -> Result<(), Stop> {
     if page < 1 || book.pages() <= page || book.is_free(page) {
-        return Err(StoreErr::Memory);
+        return Err(Stop::Memory);
     }
-    book.write(page, &page_bytes(page, version))
+    stopped(book.write(page, &page_bytes(page, version)))
 }
 
 /// Writes this version of the first so many pages.
-pub fn write_first(book: &mut Book<Desk>, count: u32, version: u8) -> Result<(), StoreErr> {
+fn write_first(book: &mut Book<Desk>, count: u32, version: u8) -> Result<(), Stop> {
     for i in 0..count {
         write_page(book, nth_page(i), version)?;
     }
     Ok(())
 }
 
-/// Gives a page back, and says whether it was there and in use.
-pub fn give_page(book: &mut Book<Desk>, page: u32) -> bool {
-    let is_used = 1 <= page && page < book.pages() && !book.is_free(page);
-    if is_used {
-        book.give_page(page);
+/// Gives a page back that is there and in use.
+fn give_page(book: &mut Book<Desk>, page: u32) -> Result<(), Stop> {
+    if page < 1 || book.pages() <= page || book.is_free(page) {
+        return Err(Stop::Memory);
     }
-    is_used
+    book.give_page(page);
+    Ok(())
 }
 
-/// Whether a book can publish after the edition of this number.
-pub fn is_ready_after(book: &Book<Desk>, edition: u32) -> bool {
-    book.is_ready() && book.head().edition == edition
+/// Writes this version of the first 20 pages, more than a pool of 8 holds, and reads them back.
+fn write_twenty(book: &mut Book<Desk>, version: u8) -> Result<(), Stop> {
+    write_first(book, 20, version)?;
+    if edition_of(book)? == wanted_edition(6, 20, version) {
+        Ok(())
+    } else {
+        Err(Stop::Memory)
+    }
 }
 
 /// Publishes the work.
-pub fn publish(book: &mut Book<Desk>) -> Result<u32, Stop> {
+fn publish(book: &mut Book<Desk>) -> Result<u32, Stop> {
     if !book.is_ready() || book.head().edition == u32::MAX {
         return Err(Stop::Memory);
     }
-    book.publish().map_err(|_| Stop::Device)
-}
-
-/// Writes version 2 of the first so many pages and publishes them.
-fn publish_first(book: &mut Book<Desk>, count: u32) -> Result<u32, Stop> {
-    match write_first(book, count, 2) {
-        Ok(()) => publish(book),
-        Err(StoreErr::Device) => Err(Stop::Device),
-        Err(StoreErr::Memory) => Err(Stop::Memory),
+    match book.publish() {
+        Ok(number) => Ok(number),
+        Err(_) => Err(Stop::Device),
     }
 }
 
-/// Opens a new map file over a pool of so many pages, where the call of this number fails, and publishes version 2 of the first so
-/// many pages. It gives the answer and the desk as that leaves it.
-pub fn publish_over(
-    alloc: Global,
-    failing: u64,
-    pool: u32,
-    count: u32,
-) -> Result<Option<(Result<u32, Stop>, Desk)>, AllocError> {
-    match started(alloc, map_file(alloc)?, pool, failing)? {
-        Some(Started::Ready(mut book)) => {
-            let answer = publish_first(&mut book, count);
-            Ok(Some((answer, desk_of(book))))
+/// Does the work.
+fn does(book: &mut Book<Desk>, work: Work) -> Result<Outcome, Stop> {
+    match work {
+        Work::Read => return Ok(Outcome::Read(edition_of(book)?)),
+        Work::First(count) => write_first(book, count, 2)?,
+        Work::Given(count) => {
+            write_first(book, count, 2)?;
+            give_page(book, nth_page(1))?;
         }
-        Some(Started::NotMap(desk)) => Ok(Some((Err(Stop::Damaged { page: 0 }), desk))),
-        Some(Started::Stopped(desk, stop)) => Ok(Some((Err(stop), desk))),
-        None => Ok(None),
+        Work::Twice => {
+            write_twenty(book, 2)?;
+            write_twenty(book, 3)?;
+        }
+    }
+    Ok(Outcome::Published(publish(book)?))
+}
+
+/// Opens a file and does the work. It gives what that comes to, and the desk as it leaves it.
+pub fn opened(alloc: Global, file: Image, trial: Trial) -> Result<(Outcome, Desk), Fail> {
+    match started(alloc, file, trial.pool, trial.failing)? {
+        Some(Started::Ready(mut book)) => {
+            let outcome = match does(&mut book, trial.work) {
+                Ok(outcome) => outcome,
+                Err(stop) => Outcome::Stopped(stop),
+            };
+            Ok((outcome, book.into_world()))
+        }
+        Some(Started::NotMap(desk)) => Ok((Outcome::NotMap, desk)),
+        Some(Started::Stopped(desk, stop)) => Ok((Outcome::Stopped(stop), desk)),
+        None => Err(Fail::from("no desk")),
     }
 }
 
-/// The file of 99 pages that a stop after so many events leaves.
-fn crashed(desk: &Desk, events: usize, choice: &[u8; 99]) -> Result<Option<Image>, AllocError> {
+/// What opening a file comes to.
+pub fn reopened(alloc: Global, file: Image) -> Result<Outcome, Fail> {
+    let (outcome, _) = opened(alloc, file, plain_trial(Work::Read))?;
+    Ok(outcome)
+}
+
+/// What opening the file of a desk comes to, as the file now reads.
+pub fn reopened_now(alloc: Global, desk: &Desk) -> Result<Outcome, Fail> {
+    match desk.image() {
+        Some(file) => reopened(alloc, file.copy()?),
+        None => Err(Fail::from("no file")),
+    }
+}
+
+/// The file of 99 pages that a stop after so many events leaves, by the choice of this number.
+fn crashed(desk: &Desk, events: usize, choice: u8) -> Result<Option<Image>, AllocError> {
     if desk.pages() != 99 || desk.log().len() < events {
         return Ok(None);
     }
-    Ok(Some(desk.crash(events, choice)?))
+    let choice: [u8; 99] = choices(choice);
+    Ok(Some(desk.crash(events, &choice)?))
 }
 
-/// What opening the file comes to after a stop at each event.
-pub fn stops(alloc: Global, desk: &Desk, choice: &[u8; 99]) -> Result<Vec<Opening>, AllocError> {
-    let mut all = Vec::new(alloc);
-    for events in 0..=events_of(desk) {
-        all.push(match crashed(desk, events, choice)? {
-            Some(file) => reopened(alloc, file)?,
-            None => Opening::Stopped(Stop::Device),
-        })?;
-    }
-    Ok(all)
-}
-
-/// What opening the file comes to after a stop at this event, and then a stop at each event of opening it again.
-pub fn second_stops(
-    alloc: Global,
-    desk: &Desk,
-    events: usize,
-    choice: &[u8; 99],
-) -> Result<Vec<Opening>, AllocError> {
-    let Some(file) = crashed(desk, events, choice)? else {
-        return Ok(Vec::new(alloc));
-    };
-    match begun(alloc, file, 8)? {
-        Some(book) => stops(alloc, &desk_of(book), choice),
-        None => Ok(Vec::new(alloc)),
+/// The file that a stop after so many events leaves, by the choice of this number.
+pub fn left(desk: &Desk, events: usize, choice: u8) -> Result<Image, Fail> {
+    match crashed(desk, events, choice)? {
+        Some(file) => Ok(file),
+        None => Err(Fail::from("no stop")),
     }
 }

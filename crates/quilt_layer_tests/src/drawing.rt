@@ -1,19 +1,44 @@
-/// Numbers that are drawn one after another, by a linear congruence.
-#[derive(Drop)]
-pub struct Draw(pub u64);
+use quilt_plain::Dice;
+use quilt_types::Window;
 
-impl Draw {
-    /// The next number, below this one: 0 where that is 0.
-    pub fn below(&mut self, most: u32) -> u32 {
-        self.0 = self
-            .0
-            .wrapping_mul(6364136223846793005)
-            .wrapping_add(1442695040888963407);
-        ((self.0 >> 33) as u32).checked_rem(most).unwrap_or(0)
-    }
+/// The next of drawn numbers, below a limit: 0 where that is 0.
+pub fn below(state: &mut u32, most: u16) -> u16 {
+    *state = state.wrapping_mul(1_664_525).wrapping_add(1_013_904_223);
+    ((*state >> 16) as u16).checked_rem(most).unwrap_or(0)
+}
 
-    /// The next coordinate below this one, which is over 0.
-    pub fn coordinate(&mut self, side: u16) -> u16 {
-        u16::try_from(self.below(u32::from(side))).unwrap_or(0)
+/// The first of some numbers in a row, at either end of all of them or anywhere, and how many they are: 40 at most.
+fn span(state: &mut u32, side: u16) -> (u16, u16) {
+    let many = below(state, side.min(40)).wrapping_add(1);
+    let last = side.wrapping_sub(many);
+    let first = match below(state, 4) {
+        0 => 0,
+        1 => last,
+        _ => below(state, last.wrapping_add(1)),
+    };
+    (first, many)
+}
+
+/// A window in a square of this many pixels a side, small, and at its edges or anywhere.
+pub fn small_window(state: &mut u32, side: u16) -> Window {
+    let (x, w) = span(state, side);
+    let (y, h) = span(state, side);
+    Window { x, y, w, h }
+}
+
+/// The next coordinate that the dice give, below this one.
+pub fn coordinate(dice: &mut Dice, side: u16) -> u16 {
+    dice.below(u32::from(side)) as u16
+}
+
+/// A window in a square of this many pixels a side, of any size.
+pub fn any_window(dice: &mut Dice, side: u16) -> Window {
+    let x = coordinate(dice, side);
+    let y = coordinate(dice, side);
+    Window {
+        x,
+        y,
+        w: coordinate(dice, side.wrapping_sub(x)).wrapping_add(1),
+        h: coordinate(dice, side.wrapping_sub(y)).wrapping_add(1),
     }
 }

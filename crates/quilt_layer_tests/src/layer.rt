@@ -17,14 +17,15 @@ use quilt_region as regions;
 use quilt_store::{MemStore, PageStore};
 use quilt_types::{Block, Colour, Pixel, Point, PointList, Seg, Stop, Window};
 use std::alloc::Global;
-use std::process::Abort;
-use std::test::Fail;
 
 /// How many pages the store has.
 const PAGES: u32 = 256;
 
 /// What a damaged layer answers.
 pub const DAMAGED: Stop = Stop::Damaged { page: 0 };
+
+/// What is answered to a call that may not be made, as of a pixel outside the square: no layer in memory answers it.
+const REFUSED: Stop = Stop::Device;
 
 /// A layer in a tree over a store in memory: its number, the level of its map, and how many points or segments a block may hold.
 /// What each call asks of the tree and of these numbers is kept here, so that a test need not show it again.
@@ -67,84 +68,74 @@ impl Layer {
         level: u8,
         limit: u8,
         records: &[Record],
-    ) -> Result<Layer, Fail> {
+    ) -> Result<Layer, Stop> {
         if number == 0 || level == 0 || level > 12 || limit == 0 || limit > 16 {
-            return Err(Fail::from("numbers of a layer"));
+            return Err(REFUSED);
         }
         let tree = Tree {
             root: 0,
             height: 0,
             records: 0,
         };
-        let layer = Layer {
-            store: MemStore::new(alloc, PAGES)?,
+        let mut layer = Layer {
+            store: MemStore::new(alloc, PAGES).ok().ok_or(Stop::Memory)?,
             tree,
             number,
             level,
             limit,
         };
-        layer.changed(merged(alloc, &[], records)?)
+        layer.change(alloc, &[], records)?;
+        Ok(layer)
     }
 
     /// A point layer of no points with the number 1.
-    pub fn of_points(alloc: Global, level: u8, bucket: u8) -> Result<Layer, Fail> {
+    pub fn of_points(alloc: Global, level: u8, bucket: u8) -> Result<Layer, Stop> {
         if level == 0 || level > 12 {
-            return Err(Fail::from("a level"));
+            return Err(REFUSED);
         }
         let first = points::first_record(1, level, bucket);
         Layer::new(alloc, 1, level, bucket, &[first])
     }
 
     /// A region layer of one colour, 0, with the number 1.
-    pub fn of_region(alloc: Global, level: u8) -> Result<Layer, Fail> {
+    pub fn of_region(alloc: Global, level: u8) -> Result<Layer, Stop> {
         if level == 0 || level > 12 {
-            return Err(Fail::from("a level"));
+            return Err(REFUSED);
         }
         let first = region_record(1, whole_square(level), level, Colour(0));
         Layer::new(alloc, 1, level, 1, &[first])
     }
 
-    /// The layer once these edits are made in the tree.
-    fn changed(self, edits: Option<Batch>) -> Result<Layer, Fail> {
-        let batch = edits.ok_or("edits that ascend")?;
-        let Layer {
-            mut store,
-            mut tree,
-            number,
-            level,
-            limit,
-        } = self;
-        let room = (64 * (PAGES - 8) - tree.records) as usize;
-        if batch.records_added() > room {
-            return Err(Fail::from("room for the edits"));
-        }
-        tree.apply(&mut store, &batch)?;
-        Ok(Layer {
-            store,
-            tree,
-            number,
-            level,
-            limit,
-        })
-    }
-
-    /// The layer once a plan is carried out. Each record that goes has to be there.
-    pub fn edited(mut self, alloc: Global, plan: &Edits) -> Result<Layer, Fail> {
+    /// Carries out a plan. Each record that goes has to be there.
+    pub fn edit(&mut self, alloc: Global, plan: &Edits) -> Result<(), Stop> {
         let gone = plan.remove.records();
-        if !self.has_all(gone)? {
-            return Err(Fail::from("records that are there"));
-        }
-        self.changed(merged(alloc, gone, plan.add.records())?)
-    }
-
-    /// Whether all of these records are in the tree.
-    fn has_all(&mut self, records: &[Record]) -> Result<bool, Stop> {
-        for r in records {
+        for r in gone {
             if self.value(&r.key)? != Some(r.value) {
-                return Ok(false);
+                return Err(REFUSED);
             }
         }
-        Ok(true)
+        self.change(alloc, gone, plan.add.records())
+    }
+
+    /// Takes records out of the tree and puts others in, both in the order of their keys.
+    fn change(&mut self, alloc: Global, gone: &[Record], come: &[Record]) -> Result<(), Stop> {
+        match merged(alloc, gone, come) {
+            Ok(Some(batch)) => self.apply(&batch),
+            Ok(None) => Err(REFUSED),
+            Err(_) => Err(Stop::Memory),
+        }
+    }
+
+    /// Makes the edits in the tree, which needs room for the records that they bring.
+    fn apply(&mut self, batch: &Batch) -> Result<(), Stop> {
+        let room = (64 * (PAGES - 8) - self.tree.records) as usize;
+        if batch.records_added() > room {
+            return Err(REFUSED);
+        }
+        let mut tree = self.tree;
+        tree.apply(&mut self.store, batch)?;
+        self.tree = tree;
+        Ok(())
     }
 
     /// The value of the record with this key.
@@ -173,8 +164,10 @@ impl Layer {
     }
 
     /// The label of the point at the pixel.
-    pub fn find(&mut self, rt: &impl Abort, at: Pixel) -> Result<Option<u32>, Stop> {
-        assert!(rt; has_pixel(self.level, at));
+    pub fn find(&mut self, at: Pixel) -> Result<Option<u32>, Stop> {
+        if !has_pixel(self.level, at) {
+            return Err(REFUSED);
+        }
         points::find(
             &mut self.store,
             &self.tree,
@@ -186,8 +179,10 @@ impl Layer {
     }
 
     /// The points in the window.
-    pub fn within(&mut self, rt: &impl Abort, alloc: Global, w: Window) -> Result<PointList, Stop> {
-        assert!(rt; is_window(self.level, w));
+    pub fn within(&mut self, alloc: Global, w: Window) -> Result<PointList, Stop> {
+        if !is_window(self.level, w) {
+            return Err(REFUSED);
+        }
         points::within(
             alloc,
             &mut self.store,
@@ -200,13 +195,10 @@ impl Layer {
     }
 
     /// What changes when a point comes.
-    pub fn plan_put(
-        &mut self,
-        rt: &impl Abort,
-        alloc: Global,
-        p: Point,
-    ) -> Result<Option<Edits>, Stop> {
-        assert!(rt; has_pixel(self.level, p.at));
+    pub fn plan_put(&mut self, alloc: Global, p: Point) -> Result<Option<Edits>, Stop> {
+        if !has_pixel(self.level, p.at) {
+            return Err(REFUSED);
+        }
         points::plan_put(
             alloc,
             &mut self.store,
@@ -220,13 +212,10 @@ impl Layer {
     }
 
     /// What changes when the point at the pixel goes.
-    pub fn plan_del(
-        &mut self,
-        rt: &impl Abort,
-        alloc: Global,
-        at: Pixel,
-    ) -> Result<Option<Edits>, Stop> {
-        assert!(rt; has_pixel(self.level, at));
+    pub fn plan_del(&mut self, alloc: Global, at: Pixel) -> Result<Option<Edits>, Stop> {
+        if !has_pixel(self.level, at) {
+            return Err(REFUSED);
+        }
         points::plan_del(
             alloc,
             &mut self.store,
@@ -239,13 +228,10 @@ impl Layer {
     }
 
     /// What changes when several points come at once.
-    pub fn plan_scatter(
-        &mut self,
-        rt: &impl Abort,
-        alloc: Global,
-        list: &PointList,
-    ) -> Result<Option<Edits>, Stop> {
-        assert!(rt; has_points(self.level, list.items()));
+    pub fn plan_scatter(&mut self, alloc: Global, list: &PointList) -> Result<Option<Edits>, Stop> {
+        if !has_points(self.level, list.items()) {
+            return Err(REFUSED);
+        }
         points::plan_scatter(
             alloc,
             &mut self.store,
@@ -284,13 +270,10 @@ impl Layer {
     }
 
     /// Leaves with the colours of a region layer at the pixels of the window.
-    pub fn leaves_in(
-        &mut self,
-        rt: &impl Abort,
-        alloc: Global,
-        w: Window,
-    ) -> Result<LeafList, Stop> {
-        assert!(rt; is_window(self.level, w));
+    pub fn leaves_in(&mut self, alloc: Global, w: Window) -> Result<LeafList, Stop> {
+        if !is_window(self.level, w) {
+            return Err(REFUSED);
+        }
         regions::read_window(
             alloc,
             &mut self.store,
@@ -302,20 +285,18 @@ impl Layer {
     }
 
     /// The colour of a region layer at the pixel.
-    pub fn colour_at(&mut self, rt: &impl Abort, at: Pixel) -> Result<Colour, Stop> {
-        assert!(rt; has_pixel(self.level, at));
+    pub fn colour_at(&mut self, at: Pixel) -> Result<Colour, Stop> {
+        if !has_pixel(self.level, at) {
+            return Err(REFUSED);
+        }
         regions::colour_at(&mut self.store, &self.tree, self.number, self.level, at)
     }
 
     /// What changes when the pixels of the window get a colour.
-    pub fn plan_rect(
-        &mut self,
-        rt: &impl Abort,
-        alloc: Global,
-        w: Window,
-        c: Colour,
-    ) -> Result<Edits, Stop> {
-        assert!(rt; is_window(self.level, w));
+    pub fn plan_rect(&mut self, alloc: Global, w: Window, c: Colour) -> Result<Edits, Stop> {
+        if !is_window(self.level, w) {
+            return Err(REFUSED);
+        }
         regions::plan_rect(
             alloc,
             &mut self.store,
@@ -338,42 +319,33 @@ impl Layer {
     }
 
     /// The segment that is nearest to the pixel, and the numerator of its squared distance.
-    pub fn nearest(
-        &mut self,
-        rt: &impl Abort,
-        alloc: Global,
-        at: Pixel,
-    ) -> Result<Option<(u32, u64)>, Stop> {
-        self.nearest_under(rt, alloc, self.tree.root, at)
+    pub fn nearest(&mut self, alloc: Global, at: Pixel) -> Result<Option<(u32, u64)>, Stop> {
+        self.nearest_under(alloc, self.tree.root, at)
     }
 
     /// The same with this page as the tree's root, which need not be one of the store.
     pub fn nearest_under(
         &mut self,
-        rt: &impl Abort,
         alloc: Global,
         root: u32,
         at: Pixel,
     ) -> Result<Option<(u32, u64)>, Stop> {
-        assert!(rt; at.x < 4096 && at.y < 4096);
+        if !has_pixel(12, at) {
+            return Err(REFUSED);
+        }
         let tree = Tree { root, ..self.tree };
         let view = LineView::new(&tree, self.number, self.level);
-        match nearest(alloc, &view, &mut self.store, at) {
-            Err(e) => Err(e),
-            Ok(None) => Ok(None),
-            Ok(Some((id, far))) => Ok(Some((id, far.num()))),
+        match nearest(alloc, &view, &mut self.store, at)? {
+            None => Ok(None),
+            Some((id, far)) => Ok(Some((id, far.num()))),
         }
     }
 
     /// What changes when a segment comes.
-    pub fn plan_add(
-        &mut self,
-        rt: &impl Abort,
-        alloc: Global,
-        id: u32,
-        s: Seg,
-    ) -> Result<Option<Edits>, Stop> {
-        assert!(rt; is_in_square(self.level, s));
+    pub fn plan_add(&mut self, alloc: Global, id: u32, s: Seg) -> Result<Option<Edits>, Stop> {
+        if !is_in_square(self.level, s) {
+            return Err(REFUSED);
+        }
         lines::plan_add(
             alloc,
             &mut self.store,

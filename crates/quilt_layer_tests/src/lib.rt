@@ -20,4 +20,6 @@ mod points;
 #[cfg(test)]
 mod regions;
 #[cfg(test)]
+mod trial;
+#[cfg(test)]
 mod windows;

@@ -1,20 +1,14 @@
 use crate::layer::{DAMAGED, Layer};
-use crate::plans::{adds, removes};
+use crate::plans::is_plan;
 use quilt_lines::first_record;
-use quilt_record::{Edits, Record, pair_record, segment_record};
+use quilt_record::{Record, pair_record, segment_record};
 use quilt_types::{Block, Pixel, Seg, Stop};
 use std::alloc::Global;
-use std::process::Abort;
 use std::test::Fail;
 
 /// A line layer of the number 1 and the threshold 1 in a map of this level.
-fn planted(alloc: Global, level: u8, records: &[Record]) -> Result<Layer, Fail> {
+fn planted(alloc: Global, level: u8, records: &[Record]) -> Result<Layer, Stop> {
     Layer::new(alloc, 1, level, 1, records)
-}
-
-/// Whether this is the answer about the segment of an id.
-fn answers(layer: &mut Layer, id: u32, expected: Result<Option<Seg>, Stop>) -> bool {
-    layer.segment(id) == expected
 }
 
 /// Whether these are all segments under their ids.
@@ -28,48 +22,6 @@ fn scans(alloc: Global, layer: &mut Layer, expected: &[(u32, Seg)]) -> bool {
 /// Whether the segments cannot be listed, as the layer is damaged.
 fn is_scan_damaged(alloc: Global, layer: &mut Layer) -> bool {
     layer.scan(alloc).err() == Some(DAMAGED)
-}
-
-/// Whether this is the answer about the segment that is nearest to the pixel.
-fn is_nearest(
-    rt: &impl Abort,
-    alloc: Global,
-    layer: &mut Layer,
-    at: Pixel,
-    expected: Result<Option<(u32, u64)>, Stop>,
-) -> bool {
-    layer.nearest(rt, alloc, at) == expected
-}
-
-/// Whether the layer has so many blocks of each side.
-fn has_counts(layer: &mut Layer, expected: [u32; 13]) -> bool {
-    layer.line_counts() == Ok(expected)
-}
-
-/// The plan of an addition, whose id has to be free.
-fn addition(
-    rt: &impl Abort,
-    alloc: Global,
-    layer: &mut Layer,
-    id: u32,
-    s: Seg,
-) -> Result<Edits, Fail> {
-    Ok(layer.plan_add(rt, alloc, id, s)?.ok_or("the id is free")?)
-}
-
-/// The plan of a removal, whose id has to be there.
-fn removal(alloc: Global, layer: &mut Layer, id: u32) -> Result<Edits, Fail> {
-    Ok(layer.plan_remove(alloc, id)?.ok_or("the id is there")?)
-}
-
-/// Whether an addition under this id answers that the id is there.
-fn is_there(rt: &impl Abort, alloc: Global, layer: &mut Layer, id: u32, s: Seg) -> bool {
-    matches!(layer.plan_add(rt, alloc, id, s), Ok(None))
-}
-
-/// Whether a removal under this id answers that the id is free.
-fn is_free(alloc: Global, layer: &mut Layer, id: u32) -> bool {
-    matches!(layer.plan_remove(alloc, id), Ok(None))
 }
 
 /// The quarters of the square of level 3, in the order of their codes.
@@ -125,38 +77,48 @@ fn two_segments() -> [Record; 6] {
     ]
 }
 
-#[test]
-fn segments_and_the_nearest(rt: HostRuntime) -> Result<(), Fail> {
-    let records = two_segments();
-    let mut layer = planted(rt.alloc(), 3, &records)?;
-    assert!(rt; answers(&mut layer, 5, Ok(Some(BORDER))));
-    assert!(rt; answers(&mut layer, 6, Ok(None)));
-    assert!(rt; scans(rt.alloc(), &mut layer, &[(5, BORDER), (9, CORNER)]));
-    let left = Pixel { x: 1, y: 5 };
-    assert!(rt; is_nearest(&rt, rt.alloc(), &mut layer, left, Ok(Some((5, 25)))));
-    let right = Pixel { x: 5, y: 7 };
-    assert!(rt; is_nearest(&rt, rt.alloc(), &mut layer, right, Ok(Some((9, 4)))));
-    let mut other = Layer::new(rt.alloc(), 2, 3, 1, &records)?;
-    assert!(rt; answers(&mut other, 5, Ok(None)));
-    Ok(())
+/// Whether a layer of another number in a tree of these records has no segment.
+fn is_without(alloc: Global, records: &[Record]) -> Result<bool, Stop> {
+    let mut layer = Layer::new(alloc, 2, 3, 1, records)?;
+    Ok(layer.segment(5)?.is_none())
 }
 
 #[test]
-fn damaged_layers(rt: HostRuntime) -> Result<(), Fail> {
+fn segments_and_the_nearest(rt: HostRuntime) -> Result<(), Fail> {
+    let records = two_segments();
+    assert!(rt; is_without(rt.alloc(), &records) == Ok(true));
+    let mut layer = planted(rt.alloc(), 3, &records)?;
+    assert!(rt; layer.segment(5) == Ok(Some(BORDER)));
+    assert!(rt; layer.segment(6) == Ok(None));
+    assert!(rt; scans(rt.alloc(), &mut layer, &[(5, BORDER), (9, CORNER)]));
+    let left = Pixel { x: 1, y: 5 };
+    assert!(rt; layer.nearest(rt.alloc(), left) == Ok(Some((5, 25))));
+    let right = Pixel { x: 5, y: 7 };
+    assert!(rt; layer.nearest(rt.alloc(), right) == Ok(Some((9, 4))));
+    Ok(())
+}
+
+/// Whether a layer whose one block holds a segment that has no record is damaged to a look for the nearest.
+fn is_unnamed(alloc: Global, at: Pixel) -> Result<bool, Stop> {
     let whole = Block {
         x: 0,
         y: 0,
         side: 8,
     };
+    let mut layer = planted(alloc, 3, &[pair_record(1, whole, 3, Some(5))])?;
+    Ok(layer.nearest(alloc, at) == Err(DAMAGED))
+}
+
+#[test]
+fn damaged_layers(rt: HostRuntime) -> Result<(), Fail> {
     let at = Pixel { x: 1, y: 1 };
-    let mut unnamed = planted(rt.alloc(), 3, &[pair_record(1, whole, 3, Some(5))])?;
-    assert!(rt; is_nearest(&rt, rt.alloc(), &mut unnamed, at, Err(DAMAGED)));
-    let far = Seg { x2: 8, ..BORDER };
-    let mut outside = planted(rt.alloc(), 3, &[segment_record(1, 5, far)])?;
-    assert!(rt; answers(&mut outside, 5, Err(DAMAGED)));
+    assert!(rt; is_unnamed(rt.alloc(), at) == Ok(true));
+    let far = segment_record(1, 5, Seg { x2: 8, ..BORDER });
+    let mut outside = planted(rt.alloc(), 3, &[far])?;
+    assert!(rt; outside.segment(5) == Err(DAMAGED));
     assert!(rt; is_scan_damaged(rt.alloc(), &mut outside));
-    assert!(rt; is_nearest(&rt, rt.alloc(), &mut outside, at, Err(DAMAGED)));
-    assert!(rt; outside.nearest_under(&rt, rt.alloc(), 256, at) == Err(DAMAGED));
+    assert!(rt; outside.nearest(rt.alloc(), at) == Err(DAMAGED));
+    assert!(rt; outside.nearest_under(rt.alloc(), 256, at) == Err(DAMAGED));
     Ok(())
 }
 
@@ -234,28 +196,60 @@ fn both_records() -> [Record; 9] {
     [a, b, c, d, e, f, g, first, second]
 }
 
+/// Whether the plan of the segment that comes takes these records out of the layer and puts those in.
+fn comes(
+    alloc: Global,
+    layer: &mut Layer,
+    (id, s): (u32, Seg),
+    removed: &[Record],
+    added: &[Record],
+) -> bool {
+    match layer.plan_add(alloc, id, s) {
+        Ok(Some(plan)) => is_plan(&plan, removed, added),
+        _ => false,
+    }
+}
+
+/// Whether the plan of the segment that goes takes these records out of the layer and puts those in.
+fn goes(alloc: Global, layer: &mut Layer, id: u32, removed: &[Record], added: &[Record]) -> bool {
+    match layer.plan_remove(alloc, id) {
+        Ok(Some(plan)) => is_plan(&plan, removed, added),
+        _ => false,
+    }
+}
+
+/// Whether an addition under this id answers that the id is there.
+fn is_there(alloc: Global, layer: &mut Layer, id: u32, s: Seg) -> bool {
+    matches!(layer.plan_add(alloc, id, s), Ok(None))
+}
+
+/// Whether a removal under this id answers that the id is free.
+fn is_free(alloc: Global, layer: &mut Layer, id: u32) -> bool {
+    matches!(layer.plan_remove(alloc, id), Ok(None))
+}
+
 #[test]
 fn a_first_segment(rt: HostRuntime) -> Result<(), Fail> {
-    let empty = first_record(1, 2, 1);
-    let mut layer = planted(rt.alloc(), 2, &[empty])?;
-    assert!(rt; has_counts(&mut layer, [0, 0, 1, 0, 0, 0, 0, 0, 0, 0, 0, 0, 0]));
-    let plan = addition(&rt, rt.alloc(), &mut layer, 1, FIRST)?;
-    assert!(rt; removes(&plan, &[empty]));
-    assert!(rt; adds(&plan, &first_records()));
+    let empty = [first_record(1, 2, 1)];
+    let mut layer = planted(rt.alloc(), 2, &empty)?;
+    assert!(rt; layer.line_counts() == Ok([0, 0, 1, 0, 0, 0, 0, 0, 0, 0, 0, 0, 0]));
+    assert!(rt; comes(rt.alloc(), &mut layer, (1, FIRST), &empty, &first_records()));
     Ok(())
+}
+
+/// How many blocks of each side a layer of these records has.
+fn counts(alloc: Global, records: &[Record]) -> Result<[u32; 13], Stop> {
+    planted(alloc, 2, records)?.line_counts()
 }
 
 #[test]
 fn a_block_that_is_split(rt: HostRuntime) -> Result<(), Fail> {
-    let records = first_records();
-    let mut layer = planted(rt.alloc(), 2, &records)?;
-    assert!(rt; is_there(&rt, rt.alloc(), &mut layer, 1, SECOND));
-    let plan = addition(&rt, rt.alloc(), &mut layer, 2, SECOND)?;
-    assert!(rt; removes(&plan, &records[..1]));
-    let added = second_records();
-    assert!(rt; adds(&plan, &added));
-    let mut cut = planted(rt.alloc(), 2, &added)?;
-    assert!(rt; has_counts(&mut cut, [0, 4, 0, 0, 0, 0, 0, 0, 0, 0, 0, 0, 0]));
+    let second = second_records();
+    assert!(rt; counts(rt.alloc(), &second) == Ok([0, 4, 0, 0, 0, 0, 0, 0, 0, 0, 0, 0, 0]));
+    let first = first_records();
+    let mut layer = planted(rt.alloc(), 2, &first)?;
+    assert!(rt; is_there(rt.alloc(), &mut layer, 1, SECOND));
+    assert!(rt; comes(rt.alloc(), &mut layer, (2, SECOND), &first[..1], &second));
     Ok(())
 }
 
@@ -263,18 +257,22 @@ fn a_block_that_is_split(rt: HostRuntime) -> Result<(), Fail> {
 fn quarters_that_merge(rt: HostRuntime) -> Result<(), Fail> {
     let mut layer = planted(rt.alloc(), 2, &both_records())?;
     assert!(rt; is_free(rt.alloc(), &mut layer, 3));
-    let plan = removal(rt.alloc(), &mut layer, 2)?;
-    assert!(rt; removes(&plan, &second_records()));
-    assert!(rt; adds(&plan, &first_records()[..1]));
+    assert!(rt;
+        goes(
+            rt.alloc(),
+            &mut layer,
+            2,
+            &second_records(),
+            &first_records()[..1]
+        )
+    );
     Ok(())
 }
 
 #[test]
 fn a_last_segment(rt: HostRuntime) -> Result<(), Fail> {
-    let records = first_records();
-    let mut layer = planted(rt.alloc(), 2, &records)?;
-    let plan = removal(rt.alloc(), &mut layer, 1)?;
-    assert!(rt; removes(&plan, &records));
-    assert!(rt; adds(&plan, &[first_record(1, 2, 1)]));
+    let first = first_records();
+    let mut layer = planted(rt.alloc(), 2, &first)?;
+    assert!(rt; goes(rt.alloc(), &mut layer, 1, &first, &[first_record(1, 2, 1)]));
     Ok(())
 }

@@ -1,6 +1,6 @@
 use quilt_types::{Block, Pixel, Point, Window};
 use std::alloc::{AllocError, Global};
-use std::collections::BTreeMap;
+use std::collections::{BTreeMap, BTreeSet};
 
 /// A point layer as the labels under their pixels, in a map of this level with at most `bucket` points in a block.
 #[derive(Drop)]
@@ -16,7 +16,7 @@ pub fn holds(b: Block, at: Pixel) -> bool {
 }
 
 /// Whether the pixel is one of the window.
-fn is_inside(w: Window, at: Pixel) -> bool {
+pub fn is_inside(w: Window, at: Pixel) -> bool {
     at.x.wrapping_sub(w.x) < w.w && at.y.wrapping_sub(w.y) < w.h
 }
 
@@ -42,9 +42,9 @@ impl PlainPoints {
         self.labels.get(&at).copied()
     }
 
-    /// Whether a point is at the pixel.
-    pub fn has(&self, at: Pixel) -> bool {
-        self.labels.contains_key(&at)
+    /// The pixel of the point at this place in their order, if there are so many.
+    pub fn nth(&self, place: usize) -> Option<Pixel> {
+        self.labels.keys().nth(place).copied()
     }
 
     /// How many points there are.
@@ -52,20 +52,52 @@ impl PlainPoints {
         self.labels.len()
     }
 
-    /// Puts a point down.
-    pub fn put(&mut self, p: Point) -> Result<(), AllocError> {
+    /// Puts a point down, unless one is at its pixel: whether none is.
+    pub fn put(&mut self, p: Point) -> Result<bool, AllocError> {
+        if self.labels.contains_key(&p.at) {
+            return Ok(false);
+        }
         self.labels.insert(p.at, p.label)?;
-        Ok(())
+        Ok(true)
     }
 
-    /// Takes the point at the pixel away, if one is there.
-    pub fn take(&mut self, at: Pixel) {
-        let _gone = self.labels.remove(&at);
+    /// Takes the point at the pixel away, if one is there: whether one is.
+    pub fn take(&mut self, at: Pixel) -> bool {
+        self.labels.remove(&at).is_some()
+    }
+
+    /// Whether no two of the points share a pixel, and no point is at one of them.
+    fn are_new(&self, alloc: Global, points: &[Point]) -> Result<bool, AllocError> {
+        let mut pixels = BTreeSet::new(alloc);
+        for p in points {
+            if self.labels.contains_key(&p.at) {
+                return Ok(false);
+            }
+            pixels.insert(p.at)?;
+        }
+        Ok(pixels.len() == points.len())
+    }
+
+    /// Puts points down, unless two share a pixel or a point is at one of them: whether they are put down.
+    pub fn put_all(&mut self, alloc: Global, points: &[Point]) -> Result<bool, AllocError> {
+        let are_new = self.are_new(alloc, points)?;
+        if are_new {
+            for p in points {
+                self.put(*p)?;
+            }
+        }
+        Ok(are_new)
     }
 
     /// How many points the block holds.
     pub fn count(&self, b: Block) -> usize {
-        self.labels.keys().filter(|p| holds(b, **p)).count()
+        let mut count = 0_usize;
+        for at in self.labels.keys() {
+            if holds(b, *at) {
+                count = count.wrapping_add(1);
+            }
+        }
+        count
     }
 
     /// Whether the block is one of the layer: it holds few points, and is the whole square or its parent holds too many.
@@ -77,7 +109,7 @@ impl PlainPoints {
     /// The points in the window, by y and then x.
     pub fn within(&self, alloc: Global, w: Window) -> Result<Vec<Point>, AllocError> {
         let mut points = Vec::new(alloc);
-        for (at, label) in self.labels.iter() {
+        for (at, label) in &self.labels {
             if is_inside(w, *at) {
                 points.push(Point {
                     at: *at,

@@ -5,30 +5,20 @@ pub fn added(plan: &Edits) -> &[Record] {
     plan.add.records()
 }
 
-/// Whether a plan takes these records out.
-pub fn removes(plan: &Edits, records: &[Record]) -> bool {
-    plan.remove.records() == records
+/// Whether a plan takes these records out and puts those in.
+pub fn is_plan(plan: &Edits, removed: &[Record], added: &[Record]) -> bool {
+    plan.remove.records() == removed && plan.add.records() == added
 }
 
-/// Whether a plan puts these records in.
-pub fn adds(plan: &Edits, records: &[Record]) -> bool {
-    plan.add.records() == records
-}
-
-/// Whether a plan takes so many records out.
-pub fn removes_many(plan: &Edits, count: usize) -> bool {
-    plan.remove.records().len() == count
-}
-
-/// Whether a plan puts so many records in.
-pub fn adds_many(plan: &Edits, count: usize) -> bool {
-    plan.add.records().len() == count
+/// Whether a plan takes these records out and puts so many in.
+pub fn replaces(plan: &Edits, removed: &[Record], count: usize) -> bool {
+    plan.remove.records() == removed && plan.add.records().len() == count
 }
 
 /// Whether the record at this place of those that a plan puts in has these bytes as its key and as its value.
-pub fn adds_bytes(plan: &Edits, place: usize, key: [u8; 12], value: [u8; 16]) -> bool {
+pub fn adds_bytes(plan: &Edits, place: usize, key: &[u8; 12], value: &[u8; 16]) -> bool {
     match plan.add.records().get(place) {
         None => false,
-        Some(r) => key_bytes(&r.key) == key && r.value == value,
+        Some(r) => key_bytes(&r.key) == *key && r.value == *value,
     }
 }

@@ -1,9 +1,8 @@
 use crate::layer::{DAMAGED, Layer};
-use crate::plans::{added, adds, adds_bytes, adds_many, removes};
+use crate::plans::{added, adds_bytes, is_plan, replaces};
 use quilt_record::{Edits, Record, point_record};
 use quilt_types::{Block, Pixel, Point, PointList, Stop, Window};
 use std::alloc::Global;
-use std::process::Abort;
 use std::test::Fail;
 
 /// The whole square of level 3.
@@ -13,23 +12,20 @@ const WHOLE: Block = Block {
     side: 8,
 };
 
-/// A point at the first pixel.
+/// A point at the first pixel, and one beside it.
 const FIRST: Point = Point {
     at: Pixel { x: 0, y: 0 },
     label: 5,
 };
 
-/// A point layer of the number 1 in a map of level 3.
-fn planted(alloc: Global, limit: u8, records: &[Record]) -> Result<Layer, Fail> {
-    Layer::new(alloc, 1, 3, limit, records)
-}
+const SECOND: Point = Point {
+    at: Pixel { x: 1, y: 0 },
+    label: 6,
+};
 
-/// A point of the layer.
-fn point(x: u16, y: u16, label: u32) -> Point {
-    Point {
-        at: Pixel { x, y },
-        label,
-    }
+/// A point layer of the number 1 in a map of level 3.
+fn planted(alloc: Global, limit: u8, records: &[Record]) -> Result<Layer, Stop> {
+    Layer::new(alloc, 1, 3, limit, records)
 }
 
 /// The record of a layer of the first point alone, whose blocks hold at most one.
@@ -37,152 +33,181 @@ fn first_record() -> Record {
     point_record(1, WHOLE, 3, 1, Some(FIRST))
 }
 
-/// Whether this is the answer about the label of the point at the pixel.
-fn answers(
-    rt: &impl Abort,
-    layer: &mut Layer,
-    at: Pixel,
-    expected: Result<Option<u32>, Stop>,
-) -> bool {
-    layer.find(rt, at) == expected
+/// Whether these are the labels at the pixels.
+fn finds(layer: &mut Layer, labels: &[(Pixel, Option<u32>)]) -> bool {
+    for (at, label) in labels {
+        if layer.find(*at) != Ok(*label) {
+            return false;
+        }
+    }
+    true
 }
 
 /// Whether these are the points in the window.
-fn has_within(
-    rt: &impl Abort,
-    alloc: Global,
-    layer: &mut Layer,
-    w: Window,
-    expected: &[Point],
-) -> bool {
-    match layer.within(rt, alloc, w) {
+fn has_within(alloc: Global, layer: &mut Layer, w: Window, expected: &[Point]) -> bool {
+    match layer.within(alloc, w) {
         Err(_) => false,
         Ok(points) => points.items() == expected,
     }
 }
 
-/// Whether the layer has so many blocks of each side.
-fn has_counts(layer: &mut Layer, expected: [u32; 13]) -> bool {
-    layer.point_counts() == Ok(expected)
-}
-
-/// The plan of an addition, at whose pixel no point may be.
-fn addition(rt: &impl Abort, alloc: Global, layer: &mut Layer, p: Point) -> Result<Edits, Fail> {
-    Ok(layer.plan_put(rt, alloc, p)?.ok_or("no point is there")?)
-}
-
-/// The plan of a removal, at whose pixel a point has to be.
-fn removal(rt: &impl Abort, alloc: Global, layer: &mut Layer, at: Pixel) -> Result<Edits, Fail> {
-    Ok(layer.plan_del(rt, alloc, at)?.ok_or("a point is there")?)
-}
-
 /// Whether an addition answers that a point is at its pixel.
-fn is_taken(rt: &impl Abort, alloc: Global, layer: &mut Layer, p: Point) -> bool {
-    matches!(layer.plan_put(rt, alloc, p), Ok(None))
+fn is_taken(alloc: Global, layer: &mut Layer, p: Point) -> bool {
+    matches!(layer.plan_put(alloc, p), Ok(None))
 }
 
 /// Whether a removal answers that no point is at the pixel.
-fn is_free(rt: &impl Abort, alloc: Global, layer: &mut Layer, at: Pixel) -> bool {
-    matches!(layer.plan_del(rt, alloc, at), Ok(None))
+fn is_free(alloc: Global, layer: &mut Layer, at: Pixel) -> bool {
+    matches!(layer.plan_del(alloc, at), Ok(None))
 }
 
-/// What changes when these points come at once.
-fn scatter(
-    rt: &impl Abort,
-    alloc: Global,
-    layer: &mut Layer,
-    points: &[Point],
-) -> Result<Option<Edits>, Fail> {
-    let mut list = PointList::new(alloc);
-    for p in points {
-        list.push(*p)?;
+/// A point that comes to a layer of none, and the bytes of the record that comes with it.
+const NEW: Point = Point {
+    at: Pixel { x: 5, y: 2 },
+    label: 7,
+};
+
+static KEY: [u8; 12] = *b"\0\x01\x02\0\0\0\0\0\0\0\0\x1a";
+
+static VALUE: [u8; 16] = *b"\x01\0\x05\0\x02\0\0\0\x07\0\0\0\0\0\0\0";
+
+/// Whether the point takes the place of this record.
+fn comes(alloc: Global, layer: &mut Layer, empty: Record) -> Result<bool, Stop> {
+    match layer.plan_put(alloc, NEW)? {
+        None => Ok(false),
+        Some(plan) => Ok(replaces(&plan, &[empty], 1) && adds_bytes(&plan, 0, &KEY, &VALUE)),
     }
-    Ok(layer.plan_scatter(rt, alloc, &list)?)
-}
-
-/// Whether these points are refused, as two share a pixel or a point is at one of them.
-fn is_refused(
-    rt: &impl Abort,
-    alloc: Global,
-    layer: &mut Layer,
-    points: &[Point],
-) -> Result<bool, Fail> {
-    Ok(scatter(rt, alloc, layer, points)?.is_none())
 }
 
 #[test]
 fn a_first_point(rt: HostRuntime) -> Result<(), Fail> {
     let empty = point_record(1, WHOLE, 3, 2, None);
     let mut layer = planted(rt.alloc(), 2, &[empty])?;
-    let new = point(5, 2, 7);
-    assert!(rt; answers(&rt, &mut layer, new.at, Ok(None)));
-    assert!(rt; is_free(&rt, rt.alloc(), &mut layer, new.at));
-    let plan = addition(&rt, rt.alloc(), &mut layer, new)?;
-    assert!(rt; removes(&plan, &[empty]));
-    assert!(rt; adds_many(&plan, 1));
-    let key = *b"\0\x01\x02\0\0\0\0\0\0\0\0\x1a";
-    let value = *b"\x01\0\x05\0\x02\0\0\0\x07\0\0\0\0\0\0\0";
-    assert!(rt; adds_bytes(&plan, 0, key, value));
+    assert!(rt; layer.find(NEW.at) == Ok(None));
+    assert!(rt; is_free(rt.alloc(), &mut layer, NEW.at));
+    assert!(rt; comes(rt.alloc(), &mut layer, empty) == Ok(true));
     Ok(())
+}
+
+/// The labels at pixels of a layer of the first point and the second.
+static LABELS: [(Pixel, Option<u32>); 3] = [
+    (Pixel { x: 0, y: 0 }, Some(5)),
+    (Pixel { x: 1, y: 0 }, Some(6)),
+    (Pixel { x: 7, y: 7 }, None),
+];
+
+/// The window of both.
+const ROW: Window = Window {
+    x: 0,
+    y: 0,
+    w: 2,
+    h: 1,
+};
+
+/// Whether the layer of these records has both points, and the first alone once the second goes.
+fn goes_back(alloc: Global, records: &[Record]) -> Result<bool, Stop> {
+    let mut layer = planted(alloc, 1, records)?;
+    let has_both = finds(&mut layer, &LABELS)
+        && has_within(alloc, &mut layer, ROW, &[FIRST, SECOND]);
+    match layer.plan_del(alloc, SECOND.at)? {
+        None => Ok(false),
+        Some(plan) => Ok(has_both && is_plan(&plan, records, &[first_record()])),
+    }
+}
+
+/// Whether the second point comes to a layer of the first, and goes again.
+fn comes_and_goes(alloc: Global, layer: &mut Layer) -> Result<bool, Stop> {
+    match layer.plan_put(alloc, SECOND)? {
+        None => Ok(false),
+        Some(plan) => {
+            Ok(replaces(&plan, &[first_record()], 10) && goes_back(alloc, added(&plan))?)
+        }
+    }
 }
 
 #[test]
 fn a_second_point_and_back(rt: HostRuntime) -> Result<(), Fail> {
-    let second = point(1, 0, 6);
-    let one = first_record();
-    let mut layer = planted(rt.alloc(), 1, &[one])?;
-    assert!(rt; is_taken(&rt, rt.alloc(), &mut layer, point(0, 0, 9)));
-    let plan = addition(&rt, rt.alloc(), &mut layer, second)?;
-    assert!(rt; removes(&plan, &[one]));
-    assert!(rt; adds_many(&plan, 10));
-    let mut cut = planted(rt.alloc(), 1, added(&plan))?;
-    assert!(rt; answers(&rt, &mut cut, FIRST.at, Ok(Some(5))));
-    assert!(rt; answers(&rt, &mut cut, second.at, Ok(Some(6))));
-    assert!(rt; answers(&rt, &mut cut, Pixel { x: 7, y: 7 }, Ok(None)));
-    let row = Window {
-        x: 0,
-        y: 0,
-        w: 2,
-        h: 1,
-    };
-    assert!(rt; has_within(&rt, rt.alloc(), &mut cut, row, &[FIRST, second]));
-    let back = removal(&rt, rt.alloc(), &mut cut, second.at)?;
-    assert!(rt; removes(&back, added(&plan)));
-    assert!(rt; adds(&back, &[one]));
+    let mut layer = planted(rt.alloc(), 1, &[first_record()])?;
+    assert!(rt; is_taken(rt.alloc(), &mut layer, Point { label: 9, ..FIRST }));
+    assert!(rt; comes_and_goes(rt.alloc(), &mut layer) == Ok(true));
     Ok(())
 }
 
-#[test]
-fn a_damaged_layer(rt: HostRuntime) -> Result<(), Fail> {
+/// Whether calls of the layer with this number say that it is damaged, where the tree has the record of a quarter alone.
+fn is_damaged(alloc: Global, number: u8) -> Result<bool, Stop> {
     let small = Block {
         x: 4,
         y: 4,
         side: 4,
     };
-    let records = [point_record(1, small, 3, 1, None)];
-    let mut layer = planted(rt.alloc(), 1, &records)?;
-    let new = point(0, 0, 1);
-    assert!(rt; answers(&rt, &mut layer, new.at, Err(DAMAGED)));
-    assert!(rt; layer.plan_put(&rt, rt.alloc(), new).err() == Some(DAMAGED));
-    let mut other = Layer::new(rt.alloc(), 2, 3, 1, &records)?;
-    assert!(rt; answers(&rt, &mut other, new.at, Err(DAMAGED)));
-    Ok(())
+    let record = point_record(1, small, 3, 1, None);
+    let mut layer = Layer::new(alloc, number, 3, 1, &[record])?;
+    let finds = layer.find(FIRST.at) == Err(DAMAGED);
+    Ok(finds && layer.plan_put(alloc, FIRST).err() == Some(DAMAGED))
+}
+
+#[test]
+fn a_damaged_layer(rt: HostRuntime) {
+    assert!(rt; is_damaged(rt.alloc(), 1) == Ok(true));
+    assert!(rt; is_damaged(rt.alloc(), 2) == Ok(true));
+}
+
+/// Points in two other quarters of the square.
+const FAR: Point = Point {
+    at: Pixel { x: 7, y: 7 },
+    label: 8,
+};
+
+const NEAR: Point = Point {
+    at: Pixel { x: 4, y: 0 },
+    label: 9,
+};
+
+/// Points of which two share a pixel.
+static TWICE: [Point; 3] = [FAR, NEAR, Point { label: 1, ..FAR }];
+
+/// These points in a list.
+fn list_of(alloc: Global, points: &[Point]) -> Option<PointList> {
+    let mut list = PointList::new(alloc);
+    for p in points {
+        list.push(*p).ok()?;
+    }
+    Some(list)
+}
+
+/// What changes when these points come at once: nothing where two share a pixel or a point is at one of them.
+fn scatter(alloc: Global, layer: &mut Layer, points: &[Point]) -> Result<Option<Edits>, Stop> {
+    let list = list_of(alloc, points).ok_or(Stop::Memory)?;
+    layer.plan_scatter(alloc, &list)
+}
+
+/// Whether the points are refused.
+fn is_refused(alloc: Global, layer: &mut Layer, points: &[Point]) -> bool {
+    matches!(scatter(alloc, layer, points), Ok(None))
+}
+
+/// Whether the layer of these records has four quarters, and a point in the second.
+fn has_quarters(alloc: Global, records: &[Record]) -> Result<bool, Stop> {
+    let mut layer = planted(alloc, 1, records)?;
+    let counts = layer.point_counts()?;
+    Ok(counts == [0, 0, 4, 0, 0, 0, 0, 0, 0, 0, 0, 0, 0] && layer.find(NEAR.at) == Ok(Some(9)))
+}
+
+/// Whether two points that come to a layer of the first at once part its block.
+fn come(alloc: Global, layer: &mut Layer) -> Result<bool, Stop> {
+    match scatter(alloc, layer, &[FAR, NEAR])? {
+        None => Ok(false),
+        Some(plan) => {
+            Ok(replaces(&plan, &[first_record()], 4) && has_quarters(alloc, added(&plan))?)
+        }
+    }
 }
 
 #[test]
 fn three_points_at_once(rt: HostRuntime) -> Result<(), Fail> {
-    let one = first_record();
-    let mut layer = planted(rt.alloc(), 1, &[one])?;
-    let far = point(7, 7, 8);
-    let near = point(4, 0, 9);
-    let plan = scatter(&rt, rt.alloc(), &mut layer, &[far, near])?.ok_or("no point is there")?;
-    assert!(rt; removes(&plan, &[one]));
-    assert!(rt; adds_many(&plan, 4));
-    let mut cut = planted(rt.alloc(), 1, added(&plan))?;
-    assert!(rt; has_counts(&mut cut, [0, 0, 4, 0, 0, 0, 0, 0, 0, 0, 0, 0, 0]));
-    assert!(rt; answers(&rt, &mut cut, near.at, Ok(Some(9))));
-    let twice = [far, near, point(7, 7, 1)];
-    assert!(rt; is_refused(&rt, rt.alloc(), &mut layer, &twice)?);
-    assert!(rt; is_refused(&rt, rt.alloc(), &mut layer, &[near, FIRST])?);
+    let mut layer = planted(rt.alloc(), 1, &[first_record()])?;
+    assert!(rt; come(rt.alloc(), &mut layer) == Ok(true));
+    assert!(rt; is_refused(rt.alloc(), &mut layer, &TWICE));
+    assert!(rt; is_refused(rt.alloc(), &mut layer, &[NEAR, FIRST]));
     Ok(())
 }

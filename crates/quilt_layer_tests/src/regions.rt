@@ -1,23 +1,68 @@
-ghost use Rattle.std.specs.Prelude.{◌≡◌, ◌+◌, ◌<◌, ◌≤◌, true, IfOk};
-ghost use Rattle.quilt_types.specs.Plane.{is_window};
-
+use crate::drawing::below;
 use crate::layer::{DAMAGED, Layer};
-use crate::plans::{added, adds, adds_bytes, adds_many, removes, removes_many};
+use crate::plans::{added, adds_bytes, is_plan, replaces};
 use quilt_blocks::LeafList;
 use quilt_raster::leaves_of;
 use quilt_record::{Edits, Record, key_bytes};
 use quilt_region::{first_key, last_key, layer_laws, plan_new, plan_replace, region_laws};
 use quilt_types::{Colour, Pixel, Stop, Window};
-use std::alloc::{AllocError, Global};
-use std::process::Abort;
+use std::alloc::Global;
 use std::test::Fail;
 
 /// A region layer of the number 1 in a map of this level.
-fn planted(alloc: Global, level: u8, records: &[Record]) -> Result<Layer, Fail> {
+fn planted(alloc: Global, level: u8, records: &[Record]) -> Result<Layer, Stop> {
     Layer::new(alloc, 1, level, 1, records)
 }
 
-/// The pixel of the worked record.
+/// The map of level 3 that a raster says.
+fn small_map(alloc: Global, raster: &[u8; 128]) -> Result<LeafList, Stop> {
+    leaves_of(alloc, raster, 3).ok().ok_or(Stop::Memory)
+}
+
+/// The map of level 6 that a raster says.
+fn large_map(alloc: Global, raster: &[u8; 8192]) -> Result<LeafList, Stop> {
+    leaves_of(alloc, raster, 6).ok().ok_or(Stop::Memory)
+}
+
+/// The plan of a new layer of the number 1.
+fn fresh_plan(alloc: Global, map: &LeafList) -> Result<Edits, Stop> {
+    plan_new(alloc, 1, map).ok().ok_or(Stop::Memory)
+}
+
+/// The layer of a map.
+fn layer_of(alloc: Global, map: &LeafList) -> Result<Layer, Stop> {
+    let plan = fresh_plan(alloc, map)?;
+    planted(alloc, map.level(), added(&plan))
+}
+
+/// The plan that turns one map into another, both of the number 1 and of one level.
+fn changes(alloc: Global, old: &LeafList, new: &LeafList) -> Result<Edits, Stop> {
+    if old.level() != new.level() {
+        return Err(Stop::Device);
+    }
+    plan_replace(alloc, 1, old, new).ok().ok_or(Stop::Memory)
+}
+
+/// Gives a pixel of a raster of this many pixels a side a colour below 256.
+fn set(raster: &mut [u8], side: u16, x: u16, y: u16, colour: u16) {
+    let row = usize::from(side).wrapping_mul(usize::from(y));
+    let place = row.wrapping_add(usize::from(x)).wrapping_mul(2);
+    if let Some(low) = raster.get_mut(place.wrapping_add(1)) {
+        *low = (colour & 255) as u8;
+    }
+}
+
+/// A raster of level 3 of one colour, 0.
+static BLANK: [u8; 128] = [0; 128];
+
+/// The same in which a pixel has colour 7.
+fn dotted() -> [u8; 128] {
+    let mut raster = BLANK;
+    set(&mut raster, 8, 5, 2, 7);
+    raster
+}
+
+/// That pixel.
 const PIXEL: Window = Window {
     x: 5,
     y: 2,
@@ -25,293 +70,230 @@ const PIXEL: Window = Window {
     h: 1,
 };
 
-/// A map of level 3 of one colour.
-fn uniform(alloc: Global, colour: Colour) -> Result<LeafList, AllocError>
-    ensures { IfOk result (λ list. list.level ≡ 3) }
-{
-    let [high, low] = colour.0.to_be_bytes();
-    let mut bytes = [0; 128];
-    for i in 0..64_usize {
-        bytes[2 * i] = high;
-        bytes[2 * i + 1] = low;
-    }
-    leaves_of(alloc, &bytes, 3)
-}
+/// Its record.
+static KEY: [u8; 12] = *b"\0\x01\x01\0\0\0\x19\x03\0\0\0\0";
 
-/// The same map of colour 0 in which the pixel has colour 7.
-fn dotted(alloc: Global) -> Result<LeafList, AllocError>
-    ensures { IfOk result (λ list. list.level ≡ 3) }
-{
-    let mut bytes = [0; 128];
-    bytes[2 * (8 * 2 + 5) + 1] = 7;
-    leaves_of(alloc, &bytes, 3)
-}
+static VALUE: [u8; 16] = *b"\x07\0\0\0\0\0\0\0\0\0\0\0\0\0\0\0";
 
-/// The plan of a new layer of the number 1.
-fn fresh_plan(alloc: Global, map: &LeafList) -> Result<Edits, AllocError> {
-    plan_new(alloc, 1, map)
-}
-
-/// The plan that turns one map into another, both of the number 1 and of one level.
-fn changes(alloc: Global, old: &LeafList, new: &LeafList) -> Result<Edits, Fail> {
-    if old.level() != new.level() {
-        return Err(Fail::from("maps of one level"));
-    }
-    Ok(plan_replace(alloc, 1, old, new)?)
-}
-
-/// Whether this is the answer about how many leaves the layer has.
-fn has_leaves(alloc: Global, layer: &mut Layer, expected: Result<usize, Stop>) -> bool {
-    match layer.leaves(alloc) {
-        Err(stop) => expected == Err(stop),
-        Ok(leaves) => expected == Ok(leaves.len()),
-    }
-}
-
-/// Whether this is the answer about how many leaves the layer has of the sides 1, 2, 4 and 8, and that it has no larger ones.
-fn has_counts(layer: &mut Layer, expected: Result<[u32; 4], Stop>) -> bool {
-    match layer.leaf_counts() {
-        Err(stop) => match expected {
-            Err(other) => stop == other,
-            Ok(_) => false,
-        },
-        Ok(counts) => match expected {
-            Err(_) => false,
-            Ok(few) => { counts == [few[0], few[1], few[2], few[3], 0, 0, 0, 0, 0, 0, 0, 0, 0] }
-        },
-    }
-}
-
-/// Whether this is the answer about the colour of the pixel.
-fn has_colour(
-    rt: &impl Abort,
-    layer: &mut Layer,
-    at: Pixel,
-    expected: Result<Colour, Stop>,
-) -> bool {
-    layer.colour_at(rt, at) == expected
+/// Whether ten records take the place of the blank map's, one of them that of the pixel, and this one theirs on the way back.
+fn leads_there_and_back(alloc: Global, blank: &LeafList, dotted: &LeafList) -> Result<bool, Stop> {
+    let fresh = fresh_plan(alloc, blank)?;
+    let there = changes(alloc, blank, dotted)?;
+    let back = changes(alloc, dotted, blank)?;
+    let is_there = replaces(&there, added(&fresh), 10) && adds_bytes(&there, 4, &KEY, &VALUE);
+    Ok(replaces(&fresh, &[], 1) && is_there && is_plan(&back, added(&there), added(&fresh)))
 }
 
 #[test]
 fn plans_of_one_pixel_and_back(rt: HostRuntime) -> Result<(), Fail> {
-    let old = uniform(rt.alloc(), Colour(0))?;
-    let fresh = fresh_plan(rt.alloc(), &old)?;
-    assert!(rt; removes_many(&fresh, 0));
-    assert!(rt; adds_many(&fresh, 1));
-    let new = dotted(rt.alloc())?;
-    let there = changes(rt.alloc(), &old, &new)?;
-    assert!(rt; removes(&there, added(&fresh)));
-    assert!(rt; adds_many(&there, 10));
-    let key = *b"\0\x01\x01\0\0\0\x19\x03\0\0\0\0";
-    let value = *b"\x07\0\0\0\0\0\0\0\0\0\0\0\0\0\0\0";
-    assert!(rt; adds_bytes(&there, 4, key, value));
-    let back = changes(rt.alloc(), &new, &old)?;
-    assert!(rt; removes(&back, added(&there)));
-    assert!(rt; adds(&back, added(&fresh)));
+    let blank = small_map(rt.alloc(), &BLANK)?;
+    let dotted = small_map(rt.alloc(), &dotted())?;
+    assert!(rt; leads_there_and_back(rt.alloc(), &blank, &dotted) == Ok(true));
     Ok(())
+}
+
+/// How many leaves the layer has.
+fn leaf_count(alloc: Global, layer: &mut Layer) -> Result<usize, Stop> {
+    Ok(layer.leaves(alloc)?.len())
+}
+
+/// Whether the pixel's colour 0 leads from the dotted map to one record.
+fn is_cleared(alloc: Global, layer: &mut Layer, dotted: &LeafList) -> Result<bool, Stop> {
+    let fresh = fresh_plan(alloc, dotted)?;
+    let plan = layer.plan_rect(alloc, PIXEL, Colour(0))?;
+    Ok(replaces(&plan, added(&fresh), 1))
 }
 
 #[test]
 fn a_layer_in_a_store(rt: HostRuntime) -> Result<(), Fail> {
-    let map = dotted(rt.alloc())?;
-    let plan = fresh_plan(rt.alloc(), &map)?;
-    let mut layer = planted(rt.alloc(), 3, added(&plan))?;
-    assert!(rt; has_leaves(rt.alloc(), &mut layer, Ok(10)));
-    assert!(rt; has_counts(&mut layer, Ok([4, 3, 3, 0])));
-    let one = Pixel { x: 5, y: 2 };
-    assert!(rt; has_colour(&rt, &mut layer, one, Ok(Colour(7))));
-    let above = Pixel { x: 5, y: 1 };
-    assert!(rt; has_colour(&rt, &mut layer, above, Ok(Colour(0))));
-    let last = Pixel { x: 7, y: 7 };
-    assert!(rt; has_colour(&rt, &mut layer, last, Ok(Colour(0))));
-    let back = layer.plan_rect(&rt, rt.alloc(), PIXEL, Colour(0))?;
-    assert!(rt; removes(&back, added(&plan)));
-    assert!(rt; adds_many(&back, 1));
+    let map = small_map(rt.alloc(), &dotted())?;
+    let mut layer = layer_of(rt.alloc(), &map)?;
+    assert!(rt; leaf_count(rt.alloc(), &mut layer) == Ok(10));
+    assert!(rt; layer.leaf_counts() == Ok([4, 3, 3, 0, 0, 0, 0, 0, 0, 0, 0, 0, 0]));
+    assert!(rt; layer.colour_at(Pixel { x: 5, y: 2 }) == Ok(Colour(7)));
+    assert!(rt; layer.colour_at(Pixel { x: 5, y: 1 }) == Ok(Colour(0)));
+    assert!(rt; layer.colour_at(Pixel { x: 7, y: 7 }) == Ok(Colour(0)));
+    assert!(rt; is_cleared(rt.alloc(), &mut layer, &map) == Ok(true));
     Ok(())
+}
+
+/// A window across the middle of the square of level 3.
+const ACROSS: Window = Window {
+    x: 3,
+    y: 3,
+    w: 2,
+    h: 2,
+};
+
+/// Windows of a blank layer that get a colour, whether the record of the square goes, and how many come.
+static PAINTED: [(Window, Colour, bool, usize); 3] = [
+    (PIXEL, Colour(7), true, 10),
+    (PIXEL, Colour(0), false, 0),
+    (ACROSS, Colour(7), true, 28),
+];
+
+/// Whether the plans of the windows in a layer of one record are those of the table.
+fn are_painted(alloc: Global, layer: &mut Layer, whole: &[Record]) -> Result<bool, Stop> {
+    for (w, colour, goes, count) in &PAINTED {
+        let plan = layer.plan_rect(alloc, *w, *colour)?;
+        if !replaces(&plan, if *goes { whole } else { &[] }, *count) {
+            return Ok(false);
+        }
+    }
+    Ok(true)
 }
 
 #[test]
 fn plans_of_windows_in_a_store(rt: HostRuntime) -> Result<(), Fail> {
-    let blank = uniform(rt.alloc(), Colour(0))?;
-    let plan = fresh_plan(rt.alloc(), &blank)?;
+    let plan = fresh_plan(rt.alloc(), &small_map(rt.alloc(), &BLANK)?)?;
     let mut layer = planted(rt.alloc(), 3, added(&plan))?;
-    let one = layer.plan_rect(&rt, rt.alloc(), PIXEL, Colour(7))?;
-    assert!(rt; removes(&one, added(&plan)));
-    assert!(rt; adds_many(&one, 10));
-    let none = layer.plan_rect(&rt, rt.alloc(), PIXEL, Colour(0))?;
-    assert!(rt; removes_many(&none, 0));
-    assert!(rt; adds_many(&none, 0));
-    let across = Window {
-        x: 3,
-        y: 3,
-        w: 2,
-        h: 2,
-    };
-    let four = layer.plan_rect(&rt, rt.alloc(), across, Colour(7))?;
-    assert!(rt; removes_many(&four, 1));
-    assert!(rt; adds_many(&four, 28));
+    assert!(rt; are_painted(rt.alloc(), &mut layer, added(&plan)) == Ok(true));
     Ok(())
 }
 
-/// The next of drawn numbers, below a limit from 1 on.
-fn below(state: &mut u32, most: u16) -> u16
-    requires { 1 ≤ most }
-    ensures { result < most }
-{
-    *state = state.wrapping_mul(1_664_525).wrapping_add(1_013_904_223);
-    (*state >> 16) as u16 % most
-}
-
-/// A map of level 6 in bytes: each block of 16 pixels a side has one colour, and around the middle each pixel.
-fn drawn(state: &mut u32) -> [u8; 8192] {
-    let mut blocks = [0; 16];
-    for b in &mut blocks {
-        *b = below(state, 3) as u8;
-    }
-    let mut bytes = [0; 8192];
-    for i in 0..4096_u16 {
-        let (x, y) = (i % 64, i / 64);
-        let middle = (28..36).contains(&x) && (28..36).contains(&y);
-        let colour = if middle {
-            below(state, 3) as u8
-        } else {
-            blocks[usize::from(y / 16 * 4 + x / 16)]
-        };
-        bytes[usize::from(2 * i + 1)] = colour;
-    }
-    bytes
-}
-
-/// A window around the middle of a square of level 6, at most 8 pixels a side.
-fn around_middle(state: &mut u32) -> Window
-    ensures window { is_window 6 result ≡ true }
-    ensures width { result.x + result.w ≤ 4096 }
-    ensures height { result.y + result.h ≤ 4096 }
-{
-    Window {
-        x: 26 + below(state, 8),
-        y: 26 + below(state, 8),
-        w: 1 + below(state, 8),
-        h: 1 + below(state, 8),
-    }
-}
-
-/// Gives the pixels of a window a colour.
-fn paint(bytes: &mut [u8; 8192], w: Window, colour: u8)
-    requires width { w.x + w.w ≤ 4096 }
-    requires height { w.y + w.h ≤ 4096 }
-{
-    for i in 0..4096_u16 {
-        let (x, y) = (i % 64, i / 64);
-        if (w.x..w.x + w.w).contains(&x) && (w.y..w.y + w.h).contains(&y) {
-            bytes[usize::from(2 * i + 1)] = colour;
+/// Gives the pixels of a window of a raster of level 6 a colour.
+fn paint(raster: &mut [u8; 8192], w: Window, colour: u16) {
+    for dy in 0..w.h {
+        for dx in 0..w.w {
+            let (x, y) = (w.x.wrapping_add(dx), w.y.wrapping_add(dy));
+            set(raster, 64, x, y, colour);
         }
     }
 }
 
-/// The map of level 6 that the bytes say.
-fn map_of(alloc: Global, bytes: &[u8; 8192]) -> Result<LeafList, AllocError> {
-    leaves_of(alloc, bytes, 6)
+/// A raster of level 6: each block of 16 pixels a side has one colour, and around the middle each pixel.
+fn drawn(state: &mut u32) -> [u8; 8192] {
+    let mut raster = [0; 8192];
+    for i in 0..16_u16 {
+        let block = Window {
+            x: (i & 3) << 4,
+            y: (i >> 2) << 4,
+            w: 16,
+            h: 16,
+        };
+        paint(&mut raster, block, below(state, 3));
+    }
+    for i in 0..64_u16 {
+        set(
+            &mut raster,
+            64,
+            28 + (i & 7),
+            28 + (i >> 3),
+            below(state, 3),
+        );
+    }
+    raster
 }
 
-/// Whether two plans take the same records out and put the same in.
-fn are_same(one: &Edits, other: &Edits) -> bool {
-    removes(one, other.remove.records()) && adds(one, added(other))
+/// A window around the middle of a square of level 6, at most 8 pixels a side.
+fn around_middle(state: &mut u32) -> Window {
+    Window {
+        x: below(state, 8).wrapping_add(26),
+        y: below(state, 8).wrapping_add(26),
+        w: below(state, 8).wrapping_add(1),
+        h: below(state, 8).wrapping_add(1),
+    }
+}
+
+/// Whether the plan of a window in the layer of a map is that which leads to the other map.
+fn is_same_plan(
+    alloc: Global,
+    (old, new): (&LeafList, &LeafList),
+    w: Window,
+    colour: u16,
+) -> Result<bool, Stop> {
+    let plan = layer_of(alloc, old)?.plan_rect(alloc, w, Colour(colour))?;
+    let whole = changes(alloc, old, new)?;
+    Ok(is_plan(&plan, whole.remove.records(), added(&whole)))
 }
 
 /// Compares the plan of a drawn window with that of the plain colours before and after.
-fn try_window(rt: &impl Abort, alloc: Global, state: &mut u32) -> Result<(), Fail> {
-    let mut bytes = drawn(state);
-    let old = map_of(alloc, &bytes)?;
-    let fresh = fresh_plan(alloc, &old)?;
-    let mut layer = planted(alloc, 6, added(&fresh))?;
+fn tries_window(alloc: Global, state: &mut u32) -> Result<bool, Stop> {
+    let mut raster = drawn(state);
+    let old = large_map(alloc, &raster)?;
     let w = around_middle(state);
-    let colour = below(state, 3) as u8;
-    let plan = layer.plan_rect(rt, alloc, w, Colour(u16::from(colour)))?;
-    paint(&mut bytes, w, colour);
-    let whole = changes(alloc, &old, &map_of(alloc, &bytes)?)?;
-    assert!(rt; are_same(&plan, &whole));
-    Ok(())
+    let colour = below(state, 3);
+    paint(&mut raster, w, colour);
+    let new = large_map(alloc, &raster)?;
+    is_same_plan(alloc, (&old, &new), w, colour)
 }
 
 /// Plans of windows around the middle of drawn maps are those of the plain colours before and after.
 #[test]
-fn windows_across_the_middle(rt: HostRuntime) -> Result<(), Fail> {
+fn windows_across_the_middle(rt: HostRuntime) {
     let mut state = 1;
     for _ in 0..40 {
-        try_window(&rt, rt.alloc(), &mut state)?;
+        assert!(rt; tries_window(rt.alloc(), &mut state) == Ok(true));
     }
-    Ok(())
 }
 
 #[test]
-fn keys_around_a_layer(rt: HostRuntime) -> Result<(), Fail> {
+fn keys_around_a_layer(rt: HostRuntime) {
     layer_laws();
     region_laws();
-    assert_eq!(rt;
-        key_bytes(&first_key(9)),
-        [0, 9, 0, 0, 0, 0, 0, 0, 0, 0, 0, 0]
-    );
+    let first = key_bytes(&first_key(9));
+    assert!(rt; first == *b"\0\x09\0\0\0\0\0\0\0\0\0\0");
     let last = key_bytes(&last_key(9));
-    assert_eq!(rt;
-        last,
-        [0, 9, 255, 255, 255, 255, 255, 255, 255, 255, 255, 255]
-    );
-    Ok(())
+    assert!(rt; last == *b"\0\x09\xff\xff\xff\xff\xff\xff\xff\xff\xff\xff");
 }
 
-/// A map of level 6 in which no two neighbours have one colour, whose records take many leaves of a tree.
-fn chequered(alloc: Global) -> Result<LeafList, AllocError> {
-    let mut bytes = [0; 8192];
-    for y in 0..64_usize {
-        for x in 0..64_usize {
-            if (x + y) % 2 == 1 {
-                bytes[2 * (64 * y + x) + 1] = 1;
-            }
+/// A raster of level 6 in which no two neighbours have one colour, so that the records of its layer take many leaves of a tree.
+fn chequered() -> [u8; 8192] {
+    let mut raster = [0; 8192];
+    for y in 0..64_u16 {
+        for x in 0..64_u16 {
+            set(&mut raster, 64, x, y, (x ^ y) & 1);
         }
     }
-    leaves_of(alloc, &bytes, 6)
+    raster
 }
 
 #[test]
 fn leaves_of_each_side(rt: HostRuntime) -> Result<(), Fail> {
-    let plan = fresh_plan(rt.alloc(), &uniform(rt.alloc(), Colour(0))?)?;
-    let mut layer = planted(rt.alloc(), 3, added(&plan))?;
-    assert!(rt; has_counts(&mut layer, Ok([0, 0, 0, 1])));
-    let plan = fresh_plan(rt.alloc(), &chequered(rt.alloc())?)?;
-    let mut layer = planted(rt.alloc(), 6, added(&plan))?;
-    assert!(rt; has_counts(&mut layer, Ok([4096, 0, 0, 0])));
+    let mut blank = layer_of(rt.alloc(), &small_map(rt.alloc(), &BLANK)?)?;
+    assert!(rt; blank.leaf_counts() == Ok([0, 0, 0, 1, 0, 0, 0, 0, 0, 0, 0, 0, 0]));
+    let mut full = layer_of(rt.alloc(), &large_map(rt.alloc(), &chequered())?)?;
+    assert!(rt; full.leaf_counts() == Ok([4096, 0, 0, 0, 0, 0, 0, 0, 0, 0, 0, 0, 0]));
     Ok(())
+}
+
+/// Whether the leaves of the layer can be neither listed nor counted, as it is damaged.
+fn is_damaged(alloc: Global, layer: &mut Layer) -> bool {
+    leaf_count(alloc, layer) == Err(DAMAGED) && layer.leaf_counts() == Err(DAMAGED)
+}
+
+/// The last record of the layer that a raster says.
+fn last_record(alloc: Global, raster: &[u8; 128]) -> Result<Record, Stop> {
+    let plan = fresh_plan(alloc, &small_map(alloc, raster)?)?;
+    added(&plan).last().copied().ok_or(Stop::Device)
 }
 
 /// A leaf that covers the square, and behind it one that lies in it.
 #[test]
 fn a_leaf_behind_the_last(rt: HostRuntime) -> Result<(), Fail> {
-    let whole = fresh_plan(rt.alloc(), &uniform(rt.alloc(), Colour(0))?)?;
-    let parts = fresh_plan(rt.alloc(), &dotted(rt.alloc())?)?;
-    let first = added(&whole).first().ok_or("records")?;
-    let last = added(&parts).last().ok_or("records")?;
-    let mut layer = planted(rt.alloc(), 3, &[*first, *last])?;
-    assert!(rt; has_leaves(rt.alloc(), &mut layer, Err(DAMAGED)));
-    assert!(rt; has_counts(&mut layer, Err(DAMAGED)));
+    let whole = last_record(rt.alloc(), &BLANK)?;
+    let part = last_record(rt.alloc(), &dotted())?;
+    let mut layer = planted(rt.alloc(), 3, &[whole, part])?;
+    assert!(rt; is_damaged(rt.alloc(), &mut layer));
     Ok(())
+}
+
+/// Numbers and levels of a layer that is none, in a tree of records of the number 1 and level 3 without the first of them.
+static GAPS: [(u8, u8); 3] = [(1, 3), (1, 4), (2, 3)];
+
+/// Whether the layer of this number and level is damaged, at its first pixel too.
+fn has_gap(alloc: Global, number: u8, level: u8, records: &[Record]) -> Result<bool, Stop> {
+    let mut layer = Layer::new(alloc, number, level, 1, records)?;
+    let corner = layer.colour_at(Pixel { x: 0, y: 0 });
+    Ok(corner == Err(DAMAGED) && is_damaged(alloc, &mut layer))
 }
 
 #[test]
 fn damaged_layers(rt: HostRuntime) -> Result<(), Fail> {
-    let map = dotted(rt.alloc())?;
-    let plan = fresh_plan(rt.alloc(), &map)?;
-    let gap = added(&plan).get(1..).ok_or("records")?;
-    let mut layer = planted(rt.alloc(), 3, gap)?;
-    let mut higher = planted(rt.alloc(), 4, gap)?;
-    let mut other = Layer::new(rt.alloc(), 2, 3, 1, gap)?;
-    assert!(rt; has_leaves(rt.alloc(), &mut layer, Err(DAMAGED)));
-    assert!(rt; has_leaves(rt.alloc(), &mut higher, Err(DAMAGED)));
-    assert!(rt; has_leaves(rt.alloc(), &mut other, Err(DAMAGED)));
-    assert!(rt; has_counts(&mut layer, Err(DAMAGED)));
-    assert!(rt; has_counts(&mut higher, Err(DAMAGED)));
-    assert!(rt; has_counts(&mut other, Err(DAMAGED)));
-    let corner = Pixel { x: 0, y: 0 };
-    assert!(rt; has_colour(&rt, &mut layer, corner, Err(DAMAGED)));
+    let plan = fresh_plan(rt.alloc(), &small_map(rt.alloc(), &dotted())?)?;
+    let records = added(&plan).get(1..).ok_or("records")?;
+    for (number, level) in &GAPS {
+        assert!(rt; has_gap(rt.alloc(), *number, *level, records) == Ok(true));
+    }
     Ok(())
 }

@@ -1,61 +1,15 @@
-ghost use Rattle.std.specs.Prelude.{◌≡◌, ◌+◌, ◌<◌, ◌≤◌};
-
+use crate::drawing::{below, small_window};
 use crate::layer::Layer;
+use crate::plain_points::is_inside;
 use quilt_blocks::LeafList;
-use quilt_types::{Colour, Pixel, Window};
+use quilt_types::{Colour, Pixel, Stop, Window};
 use std::alloc::Global;
-use std::process::Abort;
-use std::test::Fail;
-
-/// The next of drawn numbers, below a limit from 1 on.
-fn below(state: &mut u32, most: u16) -> u16
-    requires { 1 ≤ most }
-    ensures { result < most }
-{
-    *state = state.wrapping_mul(1_664_525).wrapping_add(1_013_904_223);
-    (*state >> 16) as u16 % most
-}
-
-/// The first of some numbers in a row, at either end of all of them or anywhere, and how many they are: 40 at most.
-fn span(state: &mut u32, side: u16) -> (u16, u16)
-    requires { 1 ≤ side }
-    ensures fits { result.0 + result.1 ≤ side }
-{
-    let most = if side < 40 { side } else { 40 };
-    let many = 1 + below(state, most);
-    let last = side - many;
-    let end = below(state, 4);
-    let first = if end == 0 {
-        0
-    } else if end == 1 {
-        last
-    } else {
-        below(state, last + 1)
-    };
-    (first, many)
-}
-
-/// A window in a square of this many pixels a side, at its edges or anywhere.
-pub fn window_in(state: &mut u32, side: u16) -> Window
-    requires { 1 ≤ side }
-    ensures width { result.x + result.w ≤ side }
-    ensures height { result.y + result.h ≤ side }
-{
-    let (x, w) = span(state, side);
-    let (y, h) = span(state, side);
-    Window { x, y, w, h }
-}
-
-/// Whether the window has the pixel.
-fn has(w: Window, p: Pixel) -> bool {
-    w.x <= p.x && p.x - w.x < w.w && w.y <= p.y && p.y - w.y < w.h
-}
 
 /// The colour of a pixel over which these windows were painted one after another: that of the last one that has it.
 fn plain(painted: &[(Window, Colour)], p: Pixel) -> Colour {
     let mut colour = Colour(0);
     for (w, c) in painted {
-        if has(*w, p) {
+        if is_inside(*w, p) {
             colour = *c;
         }
     }
@@ -72,68 +26,77 @@ fn colour_in(list: &LeafList, p: Pixel) -> Option<Colour> {
     }
 }
 
-/// A layer in which drawn windows are painted one after another, and these.
-fn drawn(
-    rt: &impl Abort,
-    alloc: Global,
-    state: &mut u32,
-    level: u8,
-) -> Result<(Layer, Vec<(Window, Colour)>), Fail>
-    requires { level ≤ 12 }
-{
-    let mut layer = Layer::of_region(alloc, level)?;
-    let mut painted = Vec::new(alloc);
-    for _ in 0..8 {
-        let w = window_in(state, 1 << level);
-        let c = Colour(below(state, 4));
-        let plan = layer.plan_rect(rt, alloc, w, c)?;
-        layer = layer.edited(alloc, &plan)?;
-        painted.push((w, c))?;
-    }
-    Ok((layer, painted))
-}
-
-/// Compares what is read of a window with the plain colours of its pixels.
-fn try_window(
-    rt: &impl Abort,
-    alloc: Global,
-    layer: &mut Layer,
-    painted: &[(Window, Colour)],
-    w: Window,
-) -> Result<(), Fail> {
-    let list = layer.leaves_in(rt, alloc, w)?;
+/// Whether the pixels of the window have the plain colours in the list.
+fn agrees(list: &LeafList, painted: &[(Window, Colour)], w: Window) -> bool {
     for dy in 0..w.h {
         for dx in 0..w.w {
             let at = Pixel {
                 x: w.x.wrapping_add(dx),
                 y: w.y.wrapping_add(dy),
             };
-            assert!(rt; colour_in(&list, at) == Some(plain(painted, at)));
+            if colour_in(list, at) != Some(plain(painted, at)) {
+                return false;
+            }
         }
+    }
+    true
+}
+
+/// Eight drawn windows of a square of this many pixels a side, and their colours.
+fn drawn(alloc: Global, state: &mut u32, side: u16) -> Option<Vec<(Window, Colour)>> {
+    let mut windows = Vec::new(alloc);
+    for _ in 0..8 {
+        let w = small_window(state, side);
+        windows.push((w, Colour(below(state, 4)))).ok()?;
+    }
+    Some(windows)
+}
+
+/// Paints windows one after another.
+fn paint(alloc: Global, layer: &mut Layer, windows: &[(Window, Colour)]) -> Result<(), Stop> {
+    for (w, c) in windows {
+        let plan = layer.plan_rect(alloc, *w, *c)?;
+        layer.edit(alloc, &plan)?;
     }
     Ok(())
 }
 
-/// Tries drawn windows of drawn layers of this level.
-fn try_level(rt: &impl Abort, alloc: Global, state: &mut u32, level: u8) -> Result<(), Fail>
-    requires { level ≤ 12 }
-{
-    for _ in 0..4 {
-        let (mut layer, painted) = drawn(rt, alloc, state, level)?;
-        for _ in 0..16 {
-            let w = window_in(state, 1 << level);
-            try_window(rt, alloc, &mut layer, &painted, w)?;
+/// Whether 16 drawn windows of the layer have the plain colours.
+fn reads_windows(
+    alloc: Global,
+    layer: &mut Layer,
+    painted: &[(Window, Colour)],
+    state: &mut u32,
+    side: u16,
+) -> Result<bool, Stop> {
+    for _ in 0..16 {
+        let w = small_window(state, side);
+        if !agrees(&layer.leaves_in(alloc, w)?, painted, w) {
+            return Ok(false);
         }
     }
-    Ok(())
+    Ok(true)
+}
+
+/// Whether drawn windows of a drawn layer of this level have the plain colours.
+fn tries_layer(alloc: Global, state: &mut u32, level: u8) -> Result<bool, Stop> {
+    let side = 1_u16.wrapping_shl(u32::from(level));
+    let painted = drawn(alloc, state, side).ok_or(Stop::Memory)?;
+    let mut layer = Layer::of_region(alloc, level)?;
+    paint(alloc, &mut layer, &painted)?;
+    reads_windows(alloc, &mut layer, &painted, state, side)
 }
 
 /// Windows of drawn layers have the plain colours of their pixels, at each level.
 #[test]
-fn windows_at_each_level(rt: HostRuntime) -> Result<(), Fail> {
+fn windows_at_each_level(rt: HostRuntime) {
     let mut state = 1;
-    for level in 1..13 {
-        try_level(&rt, rt.alloc(), &mut state, level)?;
+    for level in 1..13_u8 {
+        for _ in 0..4 {
+            assert!(rt;
+                tries_layer(rt.alloc(), &mut state, level) == Ok(true),
+                "level {level}"
+            );
+        }
     }
-    Ok(())
 }

@@ -1,29 +1,31 @@
-//! Runs over a file in memory that have to end as they should.
+//! Runs over a file in memory, and what their desks tell of them. What is None is not as it has to be, or for want of memory.
 use quilt_desk::Desk;
 use quilt_map::settled_replies;
-use quilt_scripts::{Run, Turns, file_of, stopped};
+use quilt_scripts::{Run, file_of, stopped};
 use quilt_top::End;
 use quilt_world::{Event, Image};
 use std::alloc::Global;
-use std::process::Abort;
 use std::thread::Threads;
 
+/// The words of a run over the smallest pool.
+pub static WORDS: [&str; 4] = ["run", "m", "--pool", "8"];
+
 /// The file that `new m 16 3` makes.
-pub fn file_of_level_3<R: Threads + Sync + Abort>(rt: &R, alloc: Global) -> Image {
-    file_of(rt, alloc, "16", "3").expect(rt, "a file")
+pub fn file_of_level_3<R: Threads + Sync>(rt: &R, alloc: Global) -> Option<Image> {
+    file_of(rt, alloc, "16", "3")
 }
 
 /// How a run ended, and its desk.
 pub type Ran = (End, Desk);
 
 /// Does the run over a desk with this file.
-pub fn done<R: Threads + Sync + Abort>(
+pub fn done<R: Threads + Sync>(
     rt: &R,
     alloc: Global,
     run: Run,
     file: Option<Image>,
-) -> Ran {
-    run.over(rt, alloc, file).expect(rt, "memory")
+) -> Option<Ran> {
+    run.over(rt, alloc, file).ok()
 }
 
 /// All bytes that the desk has put.
@@ -74,57 +76,27 @@ pub fn torn_writes(desk: &Desk) -> usize {
     torn
 }
 
-/// The exit status of the end.
-pub fn status_of(end: End) -> u8 {
-    end.status()
+/// Whether a run ended so, and put this.
+pub fn has_ended(ran: &Ran, end: End, output: &[u8]) -> bool {
+    ran.0 == end && put_by(&ran.1) == output
 }
 
-/// How many replies to the text stand, whatever follows it.
-pub fn settled(rt: &impl Abort, alloc: Global, level: u8, text: &[u8]) -> usize {
-    settled_replies(alloc, level, text).expect(rt, "memory")
-}
-
-/// Whether the text begins with these bytes.
-pub fn begins_with(text: &[u8], front: &[u8]) -> bool {
-    text.starts_with(front)
-}
-
-/// Compares what the desk has put.
-pub fn puts(rt: &impl Abort, desk: &Desk, output: &[u8]) {
-    assert!(rt; put_by(desk) == output);
-}
-
-/// Compares how a run ended, and what it put.
-pub fn ends(rt: &impl Abort, ran: &Ran, wanted: End, output: &[u8]) {
-    let (end, desk) = ran;
-    assert_eq!(rt; *end, wanted);
-    puts(rt, desk, output);
-}
-
-/// How many bytes the desk has put, which have to be a front of this text.
-pub fn puts_front(rt: &impl Abort, desk: &Desk, text: &[u8]) -> usize {
-    let put = put_by(desk);
-    assert!(rt; begins_with(text, put));
-    put.len()
-}
-
-/// Does the run over a desk with this file, which has to put this and end with this status, and gives the file as it is then.
-pub fn answered<R: Threads + Sync + Abort>(
+/// Whether the run over a desk with this file ends so, and puts this.
+pub fn ends<R: Threads + Sync>(
     rt: &R,
     alloc: Global,
     run: Run,
-    file: Image,
+    file: Option<Image>,
+    end: End,
     output: &[u8],
-    status: u8,
-) -> Image {
-    run.answers(rt, alloc, file, output, status)
-        .expect(rt, "these replies and this status")
+) -> bool {
+    match done(rt, alloc, run, file) {
+        Some(ran) => has_ended(&ran, end, output),
+        None => false,
+    }
 }
 
-/// Plays turns over the file that `new m PAGES LEVEL` makes, with the smallest pool.
-pub fn played<R: Threads + Sync + Abort>(rt: &R, alloc: Global, size: [&str; 2], turns: &Turns) {
-    let file = file_of(rt, alloc, size[0], size[1]).expect(rt, "a file");
-    turns
-        .played(rt, alloc, file, "8")
-        .expect(rt, "the replies of the turns");
+/// How many replies to the text stand, whatever follows it.
+pub fn settled(alloc: Global, level: u8, text: &[u8]) -> Option<usize> {
+    settled_replies(alloc, level, text).ok()
 }

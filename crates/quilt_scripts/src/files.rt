@@ -7,6 +7,19 @@ use quilt_world::{Disk, Event, Image};
 use std::alloc::Global;
 use std::thread::Threads;
 
+/// The desk of a run over this file, however it ended, or None for want of memory.
+fn desk_after<R: Threads + Sync>(
+    rt: &R,
+    alloc: Global,
+    run: Run,
+    file: Option<Image>,
+) -> Option<Desk> {
+    match run.over(rt, alloc, file) {
+        Ok((_, desk)) => Some(desk),
+        Err(_) => None,
+    }
+}
+
 /// The file that `new m PAGES LEVEL` makes, or None for want of memory.
 pub fn file_of<R: Threads + Sync>(
     rt: &R,
@@ -15,8 +28,12 @@ pub fn file_of<R: Threads + Sync>(
     level: &str,
 ) -> Option<Image> {
     let words = ["new", "m", pages, level];
-    let (_, desk) = Run::of(&words, b"").over(rt, alloc, None).ok()?;
-    file_after(&desk)
+    file_after(&desk_after(rt, alloc, Run::of(&words, b""), None)?)
+}
+
+/// All bytes that the desk has put.
+pub(crate) fn put_by(desk: &Desk) -> &[u8] {
+    desk.output()
 }
 
 /// The file of a desk after a run, or None where there is none, or for want of memory.
@@ -63,12 +80,17 @@ pub fn choice(number: usize) -> [u8; 35] {
     bytes
 }
 
-/// The number of the edition that the file opens to, or None where it opens to none, or for want of memory.
-pub fn edition_of<R: Threads + Sync>(rt: &R, alloc: Global, file: Image) -> Option<u32> {
-    let (_, desk) = Run::text(b"edition\n").over(rt, alloc, Some(file)).ok()?;
-    let said = str::from_utf8(desk.output()).ok()?;
+/// The number in the reply to `edition`.
+fn number_in(output: &[u8]) -> Option<u32> {
+    let said = str::from_utf8(output).ok()?;
     let number = said.strip_prefix("edition ")?.strip_suffix("\nok\n")?;
     number.parse().ok()
+}
+
+/// The number of the edition that the file opens to, or None where it opens to none, or for want of memory.
+pub fn edition_of<R: Threads + Sync>(rt: &R, alloc: Global, file: Image) -> Option<u32> {
+    let desk = desk_after(rt, alloc, Run::text(b"edition\n"), Some(file))?;
+    number_in(put_by(&desk))
 }
 
 /// How many bytes the first so many events of a run put.

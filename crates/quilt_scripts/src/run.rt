@@ -2,7 +2,7 @@ ghost use Rattle.std.specs.Prelude.{◌≡◌, [], IfOk, IfSome};
 ghost use Rattle.quilt_world.specs.Tale.{taken_bytes};
 ghost use Rattle.quilt_world.specs.declared.disk.Door.TheVariants as doors;
 
-use crate::files::file_after;
+use crate::files::{file_after, put_by};
 use quilt_desk::Desk;
 use quilt_top::{End, run_quilt};
 use quilt_world::{Disk, Image};
@@ -19,6 +19,14 @@ pub struct Run<'a> {
     input: &'a [u8],
     most: usize,
     failing: Option<u64>,
+}
+
+/// The file behind a run that has ended so, where what it put and its status are these.
+fn file_behind(end: End, desk: &Desk, output: &[u8], status: u8) -> Option<Image> {
+    if put_by(desk) != output || end.status() != status {
+        return None;
+    }
+    file_after(desk)
 }
 
 impl<'a> Run<'a> {
@@ -84,9 +92,6 @@ impl<'a> Run<'a> {
         status: u8,
     ) -> Option<Image> {
         let (end, desk) = self.over(rt, alloc, Some(file)).ok()?;
-        if desk.output() == output && end.status() == status {
-            return file_after(&desk);
-        }
-        None
+        file_behind(end, &desk, output, status)
     }
 }

@@ -54,6 +54,23 @@ impl Turns {
         u8::from(is_refused)
     }
 
+    /// Does the run over a copy of the file, with a byte in each call: whether it puts these replies and has their status.
+    fn is_played_in_pieces<R: Threads + Sync>(
+        &self,
+        rt: &R,
+        alloc: Global,
+        run: Run,
+        file: &Image,
+    ) -> bool {
+        match file.copy() {
+            Ok(copy) => run
+                .in_pieces(1)
+                .answers(rt, alloc, copy, &self.output, self.status())
+                .is_some(),
+            Err(_) => false,
+        }
+    }
+
     /// Runs the commands over the file with a pool of so many pages, once byte by byte and once whole: the file as it is then, where
     /// each run puts these replies and has their status.
     pub fn played<R: Threads + Sync>(
@@ -65,9 +82,9 @@ impl Turns {
     ) -> Option<Image> {
         let words = ["run", "m", "--pool", pool];
         let run = Run::of(&words, &self.input);
-        let copy = file.copy().ok()?;
-        run.in_pieces(1)
-            .answers(rt, alloc, copy, &self.output, self.status())?;
+        if !self.is_played_in_pieces(rt, alloc, run, &file) {
+            return None;
+        }
         run.answers(rt, alloc, file, &self.output, self.status())
     }
 }

@@ -1,7 +1,9 @@
 //! Rows, list lines and ring lines that are drawn, and cut anywhere.
+use crate::comparing::{are_rows, holds_further, kind_of, only};
+use crate::items::{OPEN, Raster};
 use quilt_lang::{Command, Item, Lines, items_in, whole_items_in};
 use quilt_types::{Code, Corner, Pixel, Point};
-use std::alloc::Global;
+use std::alloc::{AllocError, Global};
 use std::test::Fail;
 
 const LEVEL: u8 = 1;
@@ -12,13 +14,6 @@ enum Drawn {
     Rows(Vec<u8>),
     Points(Vec<Point>),
     Ring(Vec<Corner>),
-}
-
-fn has_rows(item: &Item, bytes: &[u8]) -> bool {
-    match item {
-        Item::Rows(_, Some(rows)) => rows.bytes() == bytes,
-        _ => false,
-    }
 }
 
 fn has_points(item: &Item, points: &[Point]) -> bool {
@@ -36,110 +31,105 @@ fn has_ring(item: &Item, corners: &[Corner]) -> bool {
 }
 
 fn holds(item: &Item, drawn: &Drawn) -> bool {
-    match drawn {
-        Drawn::Rows(bytes) => has_rows(item, bytes),
-        Drawn::Points(points) => has_points(item, points),
-        Drawn::Ring(corners) => has_ring(item, corners),
+    match (item, drawn) {
+        (Item::Rows(_, rows), Drawn::Rows(bytes)) => are_rows(rows, Some(bytes)),
+        (_, Drawn::Points(points)) => has_points(item, points),
+        (_, Drawn::Ring(corners)) => has_ring(item, corners),
+        _ => false,
     }
 }
 
 /// Whether a text in these pieces has one item, which holds what was drawn.
-fn is_read(alloc: Global, format: u8, pieces: &[&[u8]], drawn: &Drawn) -> Result<bool, Fail> {
-    let items = items_in(alloc, LEVEL, format, pieces)?;
-    match items.as_slice() {
-        [item] => Ok(holds(item, drawn)),
-        _ => Ok(false),
+fn is_read(alloc: Global, format: u8, pieces: &[&[u8]], drawn: &Drawn) -> bool {
+    match only(&items_in(alloc, LEVEL, format, pieces)) {
+        Some(item) => holds(item, drawn),
+        None => false,
     }
 }
 
 /// A reader of a text at this level that has read its first piece.
-fn begun(alloc: Global, level: u8, first: &[u8]) -> Result<Lines, Fail> {
+fn begun(alloc: Global, level: u8, first: &[u8]) -> Option<Lines> {
     let mut lines = Lines::new(alloc, level);
-    lines.feed(first)?;
-    Ok(lines)
+    lines.feed(first).ok()?;
+    Some(lines)
 }
 
-/// Whether the first piece gives no item, and the second one that holds what was drawn, while more may come.
-fn is_awaited(
-    alloc: Global,
-    format: u8,
-    first: &[u8],
-    second: &[u8],
-    drawn: &Drawn,
-) -> Result<bool, Fail> {
-    let mut lines = begun(alloc, LEVEL, first)?;
-    let None = lines.next_item(format, false)? else {
-        return Ok(false);
-    };
-    lines.feed(second)?;
-    match lines.next_item(format, false)? {
-        Some(item) => Ok(holds(&item, drawn)),
-        None => Ok(false),
+/// Whether the reader gives an item that holds what was drawn, while more may come.
+fn gives(lines: &mut Lines, format: u8, drawn: &Drawn) -> bool {
+    match &lines.next_item(format, false) {
+        Ok(Some(item)) => holds(item, drawn),
+        _ => false,
     }
 }
 
-/// What an item spells.
-type Taken = Result<Command, Code>;
+/// Whether the reader gives no item before the second piece, and then one that holds what was drawn.
+fn awaits(lines: &mut Lines, format: u8, second: &[u8], drawn: &Drawn) -> bool {
+    match &lines.next_item(format, false) {
+        Ok(None) => lines.feed(second).is_ok() && gives(lines, format, drawn),
+        _ => false,
+    }
+}
+
+/// Two pieces of a text.
+type Pieces<'a> = (&'a [u8], &'a [u8]);
+
+/// Whether a reader of the first piece gives no item, and then one that holds what was drawn.
+fn is_awaited(alloc: Global, format: u8, pieces: Pieces, drawn: &Drawn) -> bool {
+    match begun(alloc, LEVEL, pieces.0) {
+        Some(mut lines) => awaits(&mut lines, format, pieces.1, drawn),
+        None => false,
+    }
+}
+
+/// What the next item of a reader spells, if there is one.
+type Taken = Result<Option<Result<Command, Code>>, AllocError>;
 
 /// Whether a raster was taken, with these rows or with none.
-fn is_raster(taken: &Option<Taken>, rows: Option<&[u8]>) -> bool {
-    let Some(Ok(Command::Raster { rows: found, .. })) = taken else {
-        return false;
+fn is_raster(taken: &Taken, rows: Option<&[u8]>) -> bool {
+    match taken {
+        Ok(Some(Ok(Command::Raster { rows: found, .. }))) => are_rows(found, rows),
+        _ => false,
+    }
+}
+
+/// Whether the reader takes a raster, with these rows or with none, of which a part may stand in the second piece.
+fn takes_raster(lines: &mut Lines, format: u8, second: &[u8], rows: Option<&[u8]>) -> bool {
+    let taken = lines.take_command(format, false);
+    match &taken {
+        Ok(None) => {
+            lines.feed(second).is_ok() && is_raster(&lines.take_command(format, true), rows)
+        }
+        _ => is_raster(&taken, rows),
+    }
+}
+
+/// Whether a raster is taken of these pieces, with these rows or with none.
+fn is_taken(alloc: Global, level: u8, format: u8, pieces: Pieces, rows: Option<&[u8]>) -> bool {
+    match begun(alloc, level, pieces.0) {
+        Some(mut lines) => takes_raster(&mut lines, format, pieces.1, rows),
+        None => false,
+    }
+}
+
+/// Whether both pieces of a text are read as what was drawn: at once, where more may come, and as a command.
+fn is_read_cut(alloc: Global, format: u8, pieces: Pieces, drawn: &Drawn) -> bool {
+    let is_taken = match drawn {
+        Drawn::Rows(bytes) => is_taken(alloc, LEVEL, format, pieces, Some(bytes)),
+        _ => true,
     };
-    match found {
-        Some(text) => match rows {
-            Some(bytes) => text.bytes() == bytes,
-            None => false,
-        },
-        None => rows.is_none(),
-    }
+    is_taken
+        && is_read(alloc, format, &[pieces.0, pieces.1], drawn)
+        && is_awaited(alloc, format, pieces, drawn)
 }
 
-/// The command of the first item, of which a part may stand in the second piece, and the one behind it where the input ends.
-fn taken_of(
-    alloc: Global,
-    level: u8,
-    format: u8,
-    first: &[u8],
-    second: &[u8],
-) -> Result<(Option<Taken>, Option<Taken>), Fail> {
-    let mut lines = begun(alloc, level, first)?;
-    match lines.take_command(format, false)? {
-        Some(found) => {
-            let next = lines.take_command(format, true)?;
-            Ok((Some(found), next))
-        }
-        None => {
-            lines.feed(second)?;
-            let found = lines.take_command(format, true)?;
-            let next = lines.take_command(format, true)?;
-            Ok((found, next))
-        }
-    }
-}
-
-/// Reads a text whole, and cut into two pieces at every byte.
-fn check_cuts(alloc: Global, format: u8, text: &[u8], drawn: &Drawn) -> Result<(), Fail> {
-    if !is_read(alloc, format, &[text], drawn)? {
-        return Err(Fail::from("read otherwise"));
-    }
+/// Whether a text is read as what was drawn, whole and cut into two pieces at every byte.
+fn is_read_anyhow(alloc: Global, format: u8, text: &[u8], drawn: &Drawn) -> bool {
     for cut in 0..text.len() {
-        let first = &text[..cut];
-        let second = &text[cut..];
-        if !is_read(alloc, format, &[first, second], drawn)? {
-            return Err(Fail::from("cut otherwise"));
-        }
-        if !is_awaited(alloc, format, first, second, drawn)? {
-            return Err(Fail::from("given otherwise"));
-        }
-        if let Drawn::Rows(bytes) = drawn {
-            let (found, _next) = taken_of(alloc, LEVEL, format, first, second)?;
-            if !is_raster(&found, Some(bytes.as_slice())) {
-                return Err(Fail::from("taken otherwise"));
-            }
+        if !is_read_cut(alloc, format, text.split_at(cut), drawn) {
+            return false;
         }
     }
-    Ok(())
+    is_read(alloc, format, &[text], drawn)
 }
 
 fn next(state: u64) -> u64 {
@@ -152,409 +142,489 @@ fn drawn_byte(state: u64) -> u8 {
     ((state >> 33) % 256) as u8
 }
 
-fn push_digit(text: &mut Vec<u8>, digit: u8) -> Result<(), Fail> {
-    text.push(b"0123456789abcdef"[usize::from(digit % 16)])?;
-    Ok(())
+fn push_digit(text: &mut Vec<u8>, digit: u8) -> Option<()> {
+    text.push(b"0123456789abcdef"[usize::from(digit % 16)]).ok()
+}
+
+/// The digits of a byte of a colour.
+fn push_byte(text: &mut Vec<u8>, byte: u8) -> Option<()> {
+    push_digit(text, byte / 16)?;
+    push_digit(text, byte)
 }
 
 /// The digits of a colour, and its two bytes.
-fn push_colour(
-    text: &mut Vec<u8>,
-    bytes: &mut Vec<u8>,
-    format: u8,
-    state: u64,
-) -> Result<(), Fail> {
-    let high = if format == 1 {
-        0
-    } else {
-        drawn_byte(state >> 8)
-    };
-    let low = drawn_byte(state);
+fn push_colour(text: &mut Vec<u8>, bytes: &mut Vec<u8>, format: u8, state: u64) -> Option<()> {
+    let mut high = 0;
     if format != 1 {
-        push_digit(text, high / 16)?;
-        push_digit(text, high)?;
+        high = drawn_byte(state >> 8);
+        push_byte(text, high)?;
     }
-    push_digit(text, low / 16)?;
-    push_digit(text, low)?;
-    bytes.push(high)?;
-    bytes.push(low)?;
-    Ok(())
+    let low = drawn_byte(state);
+    push_byte(text, low)?;
+    bytes.push(high).ok()?;
+    bytes.push(low).ok()
 }
 
-/// Reads two rows of two colours each, which are drawn, and gives the state behind.
-fn check_rows(alloc: Global, format: u8, start: u64) -> Result<u64, Fail> {
-    let mut text = Vec::from_slice(alloc, b"raster a\n")?;
-    let mut bytes = Vec::new(alloc);
-    let mut state = start;
-    for i in 0..4_u32 {
-        state = next(state);
-        push_colour(&mut text, &mut bytes, format, state)?;
-        if i % 2 == 1 {
-            text.push(b'\n')?;
+/// A number, with these bytes behind it.
+fn push_number(text: &mut Vec<u8>, number: u8, behind: &[u8]) -> Option<()> {
+    let word = format!(in *text.allocator(); "{number}").ok()?;
+    text.extend_from_slice(word.as_bytes()).ok()?;
+    text.extend_from_slice(behind).ok()
+}
+
+/// The words of a point, and the point.
+fn push_point(text: &mut Vec<u8>, points: &mut Vec<Point>, state: u64) -> Option<()> {
+    let (x, y) = (drawn_byte(state), drawn_byte(state >> 8));
+    let label = drawn_byte(state >> 16);
+    push_number(text, x, b" ")?;
+    push_number(text, y, b" ")?;
+    push_number(text, label, b"")?;
+    points
+        .push(Point {
+            at: Pixel {
+                x: u16::from(x),
+                y: u16::from(y),
+            },
+            label: u32::from(label),
+        })
+        .ok()
+}
+
+/// The words of a corner, and the corner.
+fn push_corner(text: &mut Vec<u8>, corners: &mut Vec<Corner>, state: u64) -> Option<()> {
+    let (x, y) = (drawn_byte(state), drawn_byte(state >> 8));
+    push_number(text, x, b" ")?;
+    push_number(text, y, b" ")?;
+    corners
+        .push(Corner {
+            x: u16::from(x),
+            y: u16::from(y),
+        })
+        .ok()
+}
+
+/// Adds what one drawn state spells to a text, and to what is drawn.
+fn push_drawn(text: &mut Vec<u8>, drawn: &mut Drawn, format: u8, state: u64) -> Option<()> {
+    match drawn {
+        Drawn::Rows(bytes) => push_colour(text, bytes, format, state),
+        Drawn::Points(points) => push_point(text, points, state),
+        Drawn::Ring(corners) => push_corner(text, corners, state),
+    }
+}
+
+/// How drawn lines begin, how many there are, and how much stands in each.
+struct Form {
+    head: &'static [u8],
+    lines: u8,
+    in_line: u8,
+}
+
+/// Two rows of two colours each.
+static ROWS: Form = Form {
+    head: b"raster a\n",
+    lines: 2,
+    in_line: 2,
+};
+
+/// Three list lines.
+static POINTS: Form = Form {
+    head: b"scatter p 3\n",
+    lines: 3,
+    in_line: 1,
+};
+
+/// A ring line of three corners.
+static RING: Form = Form {
+    head: b"polygon a 2 1\n",
+    lines: 1,
+    in_line: 3,
+};
+
+/// Draws lines of this form.
+fn draw(
+    text: &mut Vec<u8>,
+    drawn: &mut Drawn,
+    form: &Form,
+    format: u8,
+    state: &mut u64,
+) -> Option<()> {
+    for _ in 0..form.lines {
+        for _ in 0..form.in_line {
+            *state = next(*state);
+            push_drawn(text, drawn, format, *state)?;
         }
+        text.push(b'\n').ok()?;
     }
-    check_cuts(alloc, format, &text, &Drawn::Rows(bytes))?;
-    Ok(state)
+    Some(())
+}
+
+/// Whether lines of this form, which are drawn into what is empty yet, are read as what they spell.
+fn is_drawn_and_read(
+    alloc: Global,
+    form: &Form,
+    empty: Drawn,
+    format: u8,
+    state: &mut u64,
+) -> Option<bool> {
+    let mut drawn = empty;
+    let mut text = Vec::from_slice(alloc, form.head).ok()?;
+    draw(&mut text, &mut drawn, form, format, state)?;
+    Some(is_read_anyhow(alloc, format, &text, &drawn))
 }
 
 #[test]
-fn reads_drawn_rows(rt: HostRuntime) -> Result<(), Fail> {
+fn reads_drawn_rows(rt: HostRuntime) {
     let mut state = 1;
-    for i in 0..200_u32 {
-        let format = if i % 2 == 0 { 1 } else { 2 };
-        state = check_rows(rt.alloc(), format, state)?;
+    for i in 0..200_u8 {
+        let rows = Drawn::Rows(Vec::new(rt.alloc()));
+        assert!(rt;
+            is_drawn_and_read(rt.alloc(), &ROWS, rows, i % 2 + 1, &mut state) == Some(true)
+        );
     }
-    Ok(())
-}
-
-/// Reads three list lines, which are drawn, and gives the state behind.
-fn check_points(alloc: Global, start: u64) -> Result<u64, Fail> {
-    let mut text = Vec::from_slice(alloc, b"scatter p 3\n")?;
-    let mut points = Vec::new(alloc);
-    let mut state = start;
-    for _ in 0..3_u32 {
-        state = next(state);
-        let x = u16::from(drawn_byte(state));
-        let y = u16::from(drawn_byte(state >> 8));
-        let label = u32::from(drawn_byte(state >> 16));
-        let line = format!(in alloc; "{x} {y} {label}\n")?;
-        text.extend_from_slice(line.as_bytes())?;
-        let at = Pixel { x, y };
-        points.push(Point { at, label })?;
-    }
-    check_cuts(alloc, 1, &text, &Drawn::Points(points))?;
-    Ok(state)
 }
 
 #[test]
-fn reads_drawn_list_lines(rt: HostRuntime) -> Result<(), Fail> {
+fn reads_drawn_list_lines(rt: HostRuntime) {
     let mut state = 1;
-    for _ in 0..200_u32 {
-        state = check_points(rt.alloc(), state)?;
+    for _ in 0..200_u8 {
+        let points = Drawn::Points(Vec::new(rt.alloc()));
+        assert!(rt; is_drawn_and_read(rt.alloc(), &POINTS, points, 1, &mut state) == Some(true));
     }
-    Ok(())
-}
-
-/// Reads a ring line of three corners, which are drawn, and gives the state behind.
-fn check_ring(alloc: Global, start: u64) -> Result<u64, Fail> {
-    let mut text = Vec::from_slice(alloc, b"polygon a 2 1\n")?;
-    let mut corners = Vec::new(alloc);
-    let mut state = start;
-    for _ in 0..3_u32 {
-        state = next(state);
-        let x = u16::from(drawn_byte(state));
-        let y = u16::from(drawn_byte(state >> 8));
-        let words = format!(in alloc; "{x} {y} ")?;
-        text.extend_from_slice(words.as_bytes())?;
-        corners.push(Corner { x, y })?;
-    }
-    text.push(b'\n')?;
-    check_cuts(alloc, 1, &text, &Drawn::Ring(corners))?;
-    Ok(state)
 }
 
 #[test]
-fn reads_drawn_ring_lines(rt: HostRuntime) -> Result<(), Fail> {
+fn reads_drawn_ring_lines(rt: HostRuntime) {
     let mut state = 1;
-    for _ in 0..200_u32 {
-        state = check_ring(rt.alloc(), state)?;
+    for _ in 0..200_u8 {
+        let ring = Drawn::Ring(Vec::new(rt.alloc()));
+        assert!(rt; is_drawn_and_read(rt.alloc(), &RING, ring, 1, &mut state) == Some(true));
     }
-    Ok(())
 }
 
-/// What the one item of a text asks for and holds none of.
-fn missing(alloc: Global, text: &[u8]) -> Result<&'static str, Fail> {
-    let items = items_in(alloc, LEVEL, 1, &[text])?;
-    match items.as_slice() {
-        [Item::Rows(_, None)] => Ok("rows"),
-        [Item::PointLines(_, None)] => Ok("points"),
-        [Item::RingLines(_, None)] => Ok("rings"),
-        _ => Ok("nothing"),
+/// Texts of one item whose further lines are not all there or not well formed, and what the item asks for.
+static MISSING: [(&[u8], &str); 5] = [
+    (b"raster a\n0001\n02", "rows"),
+    (b"raster a\n0001\n", "rows"),
+    (b"scatter p 2\n1 2 3\n", "points"),
+    (b"polygon a 2 1\n1 2 3 4\n", "rings"),
+    (b"polygon a 2 2\n1 2 3 4 5 6\n", "rings"),
+];
+
+/// Whether the one item of a text asks for this and holds none of it.
+fn is_missing(alloc: Global, text: &[u8], kind: &str) -> bool {
+    match only(&items_in(alloc, LEVEL, 1, &[text])) {
+        Some(item) => kind_of(item) == kind && holds_further(item) == Some(false),
+        None => false,
     }
 }
 
 #[test]
-fn holds_none_where_a_line_is_missing(rt: HostRuntime) -> Result<(), Fail> {
-    let cases: [(&[u8], &str); 5] = [
-        (b"raster a\n0001\n02", "rows"),
-        (b"raster a\n0001\n", "rows"),
-        (b"scatter p 2\n1 2 3\n", "points"),
-        (b"polygon a 2 1\n1 2 3 4\n", "rings"),
-        (b"polygon a 2 2\n1 2 3 4 5 6\n", "rings"),
-    ];
-    for (text, kind) in cases {
-        assert_eq!(rt; missing(rt.alloc(), text)?, kind);
+fn holds_none_where_a_line_is_missing(rt: HostRuntime) {
+    for (text, kind) in &MISSING {
+        assert!(rt; is_missing(rt.alloc(), text, kind));
     }
-    Ok(())
 }
 
 #[test]
 fn awaits_the_last_newline(rt: HostRuntime) -> Result<(), Fail> {
-    let alloc = rt.alloc();
-    let text = b"raster a\n0001\n0203";
-    let rows = Drawn::Rows(Vec::from_slice(alloc, &[0, 0, 0, 1, 0, 2, 0, 3])?);
-    assert!(rt; is_read(alloc, 1, &[text], &rows)?);
-    assert!(rt; whole_items_in(alloc, LEVEL, 1, text)?.is_empty());
+    assert!(rt; whole_items_in(rt.alloc(), LEVEL, 1, OPEN)?.is_empty());
     Ok(())
 }
 
-/// What the first item of this line and of four lines behind it asks for, and how many items there are.
-fn asked_before_four(alloc: Global, line: &[u8]) -> Result<(&'static str, usize), Fail> {
-    let items = items_in(alloc, LEVEL, 1, &[line, b"\nw\nx\ny\nz\n"])?;
-    let kind = match items.first() {
-        Some(Item::Rows(..)) => "rows",
-        Some(Item::PointLines(..)) => "points",
-        Some(Item::RingLines(..)) => "rings",
-        Some(Item::Line(_)) => "nothing",
-        _ => "no line",
-    };
-    Ok((kind, items.len()))
+/// Lines, what each asks for, and how many items there are with four lines behind it.
+static ASKING: [(&[u8], &str, usize); 5] = [
+    (b"raster a", "rows", 3),
+    (b"scatter p 3", "points", 2),
+    (b"scatter p 0", "nothing", 5),
+    (b"polygon a 1 2", "rings", 3),
+    (b"polygon a 2", "nothing", 5),
+];
+
+/// Whether the first of these items asks for this, and there are so many.
+fn asks(items: &[Item], kind: &str, count: usize) -> bool {
+    match items.first() {
+        Some(item) => kind_of(item) == kind && items.len() == count,
+        None => false,
+    }
 }
 
 #[test]
 fn asks_by_words(rt: HostRuntime) -> Result<(), Fail> {
-    let cases: [(&[u8], &str, usize); 5] = [
-        (b"raster a", "rows", 3),
-        (b"scatter p 3", "points", 2),
-        (b"scatter p 0", "nothing", 5),
-        (b"polygon a 1 2", "rings", 3),
-        (b"polygon a 2", "nothing", 5),
-    ];
-    for (line, kind, count) in cases {
-        let (asked, items) = asked_before_four(rt.alloc(), line)?;
-        assert_eq!(rt; asked, kind);
-        assert_eq!(rt; items, count);
+    for (line, kind, count) in &ASKING {
+        let items = items_in(rt.alloc(), LEVEL, 1, &[line, b"\nw\nx\ny\nz\n"])?;
+        assert!(rt; asks(&items, kind, *count));
     }
     Ok(())
 }
 
-/// A line of so many bytes that spells these words, with spaces behind them.
-fn padded(alloc: Global, words: &[u8], len: usize) -> Result<Vec<u8>, Fail> {
-    let mut line = Vec::from_slice(alloc, words)?;
-    line.resize(len, b' ')?;
-    Ok(line)
-}
+/// The sizes of further lines, whether they are held, and the sizes of the pieces in which the text comes.
+type Sizes = (&'static [usize], bool, &'static [usize]);
 
-/// A text of a line, a line behind it of so many bytes that spells these words, and one line more.
-fn padded_text(alloc: Global, head: &[u8], words: &[u8], len: usize) -> Result<Vec<u8>, Fail> {
-    let mut text = Vec::from_slice(alloc, head)?;
-    text.extend_from_slice(&padded(alloc, words, len)?)?;
-    text.extend_from_slice(b"\nat a 1 0\n")?;
-    Ok(text)
-}
-
-/// Whether the items are one whose further lines hold something, as is asked, and a line behind it.
-fn are_held(items: &[Item], held: bool) -> bool {
-    match items {
-        [Item::Rows(_, rows), Item::Line(_)] => rows.is_some() == held,
-        [Item::PointLines(_, points), Item::Line(_)] => points.is_some() == held,
-        [Item::RingLines(_, rings), Item::Line(_)] => rings.is_some() == held,
-        _ => false,
-    }
-}
-
-/// Reads a text in pieces of so many bytes, and in two that are cut at each byte from an index on.
-fn check_held(
-    alloc: Global,
+/// Texts of a line, of further lines that begin with these words and are filled up by a byte, and of one line more.
+struct Filled {
     format: u8,
-    text: &[u8],
-    held: bool,
-    piece: usize,
-    from: usize,
-) -> Result<(), Fail> {
-    let pieces: Vec<&[u8]> = text.chunks(piece.max(1)).collect(alloc)?;
-    if !are_held(&items_in(alloc, LEVEL, format, &pieces)?, held) {
-        return Err(Fail::from("read otherwise in pieces"));
+    head: &'static [u8],
+    words: &'static [u8],
+    fill: u8,
+    /// At how many of its last bytes a text is cut in two as well.
+    cuts: usize,
+    sizes: &'static [Sizes],
+}
+
+/// Sizes of pieces that go round those of list lines, and of ring lines.
+const LIST_PIECES: &[usize] = &[1, 7, 64, 65, 66];
+
+const RING_PIECES: &[usize] = &[100, 4096, 8320, 8321];
+
+/// A list line has 64 bytes at most, a ring line 8320, and a row the digits of two colours.
+static LIMITS: [Filled; 5] = [
+    Filled {
+        format: 1,
+        head: b"scatter p 1\n",
+        words: b"1 1 7",
+        fill: b' ',
+        cuts: usize::MAX,
+        sizes: &[
+            (&[64], true, LIST_PIECES),
+            (&[65], false, LIST_PIECES),
+            (&[66], false, LIST_PIECES),
+            (&[200], false, LIST_PIECES),
+        ],
+    },
+    Filled {
+        format: 1,
+        head: b"scatter p 3\n",
+        words: b"1 1 7",
+        fill: b' ',
+        cuts: usize::MAX,
+        sizes: &[
+            (&[64, 5, 5], true, &[3]),
+            (&[65, 5, 5], false, &[3]),
+            (&[300, 5, 5], false, &[70]),
+            (&[5, 64, 5], true, &[3]),
+            (&[5, 65, 5], false, &[3]),
+            (&[5, 300, 5], false, &[70]),
+            (&[5, 5, 64], true, &[3]),
+            (&[5, 5, 65], false, &[3]),
+            (&[5, 5, 300], false, &[70]),
+        ],
+    },
+    Filled {
+        format: 1,
+        head: b"polygon a 1 1\n",
+        words: b"0 0 1 0 0 1",
+        fill: b' ',
+        cuts: 20,
+        sizes: &[
+            (&[8320], true, RING_PIECES),
+            (&[8321], false, RING_PIECES),
+            (&[8322], false, RING_PIECES),
+            (&[20_000], false, RING_PIECES),
+        ],
+    },
+    Filled {
+        format: 1,
+        head: b"raster a\n",
+        words: b"",
+        fill: b'7',
+        cuts: usize::MAX,
+        sizes: &[
+            (&[4, 4], true, &[1]),
+            (&[5, 4], false, &[1]),
+            (&[8, 4], false, &[1]),
+            (&[9, 4], false, &[1]),
+            (&[4, 5], false, &[1]),
+            (&[4, 8], false, &[1]),
+            (&[4, 9], false, &[1]),
+        ],
+    },
+    Filled {
+        format: 2,
+        head: b"raster a\n",
+        words: b"",
+        fill: b'7',
+        cuts: usize::MAX,
+        sizes: &[
+            (&[8, 8], true, &[1]),
+            (&[9, 8], false, &[1]),
+            (&[10, 8], false, &[3]),
+            (&[16, 8], false, &[9]),
+            (&[200, 8], false, &[70]),
+            (&[8, 9], false, &[1]),
+            (&[8, 10], false, &[3]),
+            (&[8, 16], false, &[9]),
+            (&[8, 200], false, &[70]),
+        ],
+    },
+];
+
+/// Adds a line of this size to a text.
+fn push_filled(text: &mut Vec<u8>, form: &Filled, size: usize) -> Option<()> {
+    text.extend_from_slice(form.words).ok()?;
+    for _ in form.words.len()..size {
+        text.push(form.fill).ok()?;
     }
-    for cut in from..text.len() {
-        let items = items_in(alloc, LEVEL, format, &[&text[..cut], &text[cut..]])?;
-        if !are_held(&items, held) {
-            return Err(Fail::from("cut otherwise"));
+    text.push(b'\n').ok()
+}
+
+/// The text with further lines of these sizes.
+fn filled_text(alloc: Global, form: &Filled, sizes: &[usize]) -> Option<Vec<u8>> {
+    let mut text = Vec::from_slice(alloc, form.head).ok()?;
+    for size in sizes {
+        push_filled(&mut text, form, *size)?;
+    }
+    text.extend_from_slice(b"at a 1 0\n").ok()?;
+    Some(text)
+}
+
+/// Whether a text in these pieces has two items: one whose further lines hold something, as is wanted, and a line.
+fn is_held(alloc: Global, format: u8, pieces: &[&[u8]], wanted: bool) -> bool {
+    match &items_in(alloc, LEVEL, format, pieces) {
+        Ok(items) => match items.as_slice() {
+            [item, Item::Line(_)] => holds_further(item) == Some(wanted),
+            _ => false,
+        }
+        Err(_) => false,
+    }
+}
+
+/// Whether a text is read so in pieces of this size.
+fn is_held_in_pieces(alloc: Global, format: u8, text: &[u8], size: usize, wanted: bool) -> bool {
+    match &text.chunks(size.max(1)).collect::<Vec<&[u8]>>(alloc) {
+        Ok(pieces) => is_held(alloc, format, pieces, wanted),
+        Err(_) => false,
+    }
+}
+
+/// Whether a text is read so in two pieces, cut at each of so many of its last bytes.
+fn is_held_cut(alloc: Global, format: u8, text: &[u8], cuts: usize, wanted: bool) -> bool {
+    for cut in text.len().saturating_sub(cuts)..text.len() {
+        let (first, second) = text.split_at(cut);
+        if !is_held(alloc, format, &[first, second], wanted) {
+            return false;
         }
     }
-    Ok(())
+    true
+}
+
+/// Whether a text of this form is read so in all ways.
+fn is_held_anyhow(alloc: Global, form: &Filled, text: &[u8], sizes: &Sizes) -> bool {
+    let (_, wanted, pieces) = *sizes;
+    for piece in pieces {
+        if !is_held_in_pieces(alloc, form.format, text, *piece, wanted) {
+            return false;
+        }
+    }
+    is_held_cut(alloc, form.format, text, form.cuts, wanted)
+}
+
+/// The first sizes whose lines are read otherwise, or none.
+fn first_other(alloc: Global, form: &Filled) -> Option<&'static [usize]> {
+    for sizes in form.sizes {
+        match &filled_text(alloc, form, sizes.0) {
+            Some(text) => if !is_held_anyhow(alloc, form, text, sizes) {
+                return Some(sizes.0);
+            }
+            None => return Some(sizes.0),
+        }
+    }
+    None
 }
 
 #[test]
-fn reads_list_lines_up_to_their_limit(rt: HostRuntime) -> Result<(), Fail> {
-    let alloc = rt.alloc();
-    for (len, held) in [(64, true), (65, false), (66, false), (200, false)] {
-        let text = padded_text(alloc, b"scatter p 1\n", b"1 1 7", len)?;
-        for piece in [1, 7, 64, 65, 66] {
-            check_held(alloc, 1, &text, held, piece, 0)?;
-        }
+fn reads_further_lines_up_to_their_limits(rt: HostRuntime) {
+    for form in &LIMITS {
+        assert!(rt; first_other(rt.alloc(), form).is_none());
     }
-    Ok(())
 }
 
-#[test]
-fn reads_ring_lines_up_to_their_limit(rt: HostRuntime) -> Result<(), Fail> {
-    let alloc = rt.alloc();
-    for (len, held) in [(8320, true), (8321, false), (8322, false), (20_000, false)] {
-        let text = padded_text(alloc, b"polygon a 1 1\n", b"0 0 1 0 0 1", len)?;
-        for piece in [100, 4096, 8320, 8321] {
-            check_held(alloc, 1, &text, held, piece, text.len().saturating_sub(20))?;
-        }
-    }
-    Ok(())
-}
+/// Texts that begin with a raster.
+static RASTERS: [Raster; 12] = [
+    (0, 1, b"raster a\nFf\n", Some(&[0, 255])),
+    (0, 1, b"raster a\nFf\nat a 0 0\n", Some(&[0, 255])),
+    (0, 1, b"raster a\nFf\nat a 0 0\nat a 0 0\n", Some(&[0, 255])),
+    (0, 2, b"raster a\n01fF\nat a 0 0\n", Some(&[1, 255])),
+    (
+        1,
+        1,
+        b"raster a\n00Ff\n0102\nat a 1 0\n# a remark\n",
+        Some(&[0, 0, 0, 255, 0, 1, 0, 2]),
+    ),
+    (
+        1,
+        2,
+        b"raster a\n00Ff0102\naBcDeF90\nat a 1 0\n",
+        Some(&[0, 255, 1, 2, 171, 205, 239, 144]),
+    ),
+    (0, 2, b"raster a\n01f\nat a 0 0\n", None),
+    (1, 1, b"raster a\n0001\n00g0\nat a 1 0\n", None),
+    (1, 1, b"raster a\n00\n0001\nat a 1 0\n", None),
+    (1, 2, b"raster a\n00Ff0102\n00Ff\nat a 1 0\n", None),
+    (1, 1, b"raster a\n0001\n", None),
+    (1, 1, OPEN, Some(&[0, 0, 0, 1, 0, 2, 0, 3])),
+];
 
-/// A text of three list lines, of which the one at the index has so many bytes.
-fn list_text(alloc: Global, index: usize, len: usize) -> Result<Vec<u8>, Fail> {
-    let mut text = Vec::from_slice(alloc, b"scatter p 3\n")?;
-    for i in 0..3_usize {
-        let size = if i == index { len } else { 5 };
-        text.extend_from_slice(&padded(alloc, b"1 1 7", size)?)?;
-        text.push(b'\n')?;
-    }
-    text.extend_from_slice(b"at a 1 0\n")?;
-    Ok(text)
-}
-
-#[test]
-fn reads_each_list_line_up_to_its_limit(rt: HostRuntime) -> Result<(), Fail> {
-    let alloc = rt.alloc();
-    for index in 0..3_usize {
-        check_held(alloc, 1, &list_text(alloc, index, 64)?, true, 3, 0)?;
-        check_held(alloc, 1, &list_text(alloc, index, 65)?, false, 3, 0)?;
-        check_held(alloc, 1, &list_text(alloc, index, 300)?, false, 70, 0)?;
-    }
-    Ok(())
-}
-
-/// A text of a raster of two rows, of which the one at the index has so many digits and the other those of its format, and one line more.
-fn raster_text(alloc: Global, format: u8, index: usize, len: usize) -> Result<Vec<u8>, Fail> {
-    let mut text = Vec::from_slice(alloc, b"raster a\n")?;
-    for i in 0..2_usize {
-        let size = if i == index { len } else { 4 * format as usize };
-        text.extend_from_slice(&vec![in alloc; b'7'; size]?)?;
-        text.push(b'\n')?;
-    }
-    text.extend_from_slice(b"at a 1 0\n")?;
-    Ok(text)
-}
-
-#[test]
-fn reads_each_row_up_to_its_limit(rt: HostRuntime) -> Result<(), Fail> {
-    let alloc = rt.alloc();
-    let cases = [
-        (1, 4, true),
-        (1, 5, false),
-        (1, 8, false),
-        (1, 9, false),
-        (2, 8, true),
-    ];
-    for (format, len, held) in cases {
-        for index in 0..2_usize {
-            check_held(
-                alloc,
-                format,
-                &raster_text(alloc, format, index, len)?,
-                held,
-                1,
-                0,
-            )?;
-        }
-    }
-    for (len, piece) in [(9, 1), (10, 3), (16, 9), (200, 70)] {
-        for index in 0..2_usize {
-            check_held(
-                alloc,
-                2,
-                &raster_text(alloc, 2, index, len)?,
-                false,
-                piece,
-                0,
-            )?;
-        }
-    }
-    Ok(())
-}
-
-/// A level, a format, a text that begins with a raster, and the bytes of its rows, or none.
-type Raster = (u8, u8, &'static [u8], Option<&'static [u8]>);
-
-/// Takes the raster of a text that is cut in two at each byte.
-fn check_taken(alloc: Global, case: &Raster) -> Result<(), Fail> {
-    let (level, format, text, rows) = *case;
+/// Whether the raster of a text that is cut in two at each byte is taken.
+fn is_taken_anyhow(alloc: Global, raster: &Raster) -> bool {
+    let (level, format, text, rows) = *raster;
     for cut in 0..=text.len() {
-        let (found, _next) = taken_of(alloc, level, format, &text[..cut], &text[cut..])?;
-        if !is_raster(&found, rows) {
-            return Err(Fail::from("taken otherwise"));
+        if !is_taken(alloc, level, format, text.split_at(cut), rows) {
+            return false;
         }
     }
-    Ok(())
+    true
 }
 
 #[test]
-fn takes_rasters(rt: HostRuntime) -> Result<(), Fail> {
-    let cases: [Raster; 12] = [
-        (0, 1, b"raster a\nFf\n", Some(&[0, 255])),
-        (0, 1, b"raster a\nFf\nat a 0 0\n", Some(&[0, 255])),
-        (0, 1, b"raster a\nFf\nat a 0 0\nat a 0 0\n", Some(&[0, 255])),
-        (0, 2, b"raster a\n01fF\nat a 0 0\n", Some(&[1, 255])),
-        (
-            1,
-            1,
-            b"raster a\n00Ff\n0102\nat a 1 0\n# a remark\n",
-            Some(&[0, 0, 0, 255, 0, 1, 0, 2]),
-        ),
-        (
-            1,
-            2,
-            b"raster a\n00Ff0102\naBcDeF90\nat a 1 0\n",
-            Some(&[0, 255, 1, 2, 171, 205, 239, 144]),
-        ),
-        (0, 2, b"raster a\n01f\nat a 0 0\n", None),
-        (1, 1, b"raster a\n0001\n00g0\nat a 1 0\n", None),
-        (1, 1, b"raster a\n00\n0001\nat a 1 0\n", None),
-        (1, 2, b"raster a\n00Ff0102\n00Ff\nat a 1 0\n", None),
-        (1, 1, b"raster a\n0001\n", None),
-        (
-            1,
-            1,
-            b"raster a\n0001\n0203",
-            Some(&[0, 0, 0, 1, 0, 2, 0, 3]),
-        ),
-    ];
-    for case in &cases {
-        check_taken(rt.alloc(), case)?;
+fn takes_rasters(rt: HostRuntime) {
+    for raster in &RASTERS {
+        assert!(rt; is_taken_anyhow(rt.alloc(), raster));
     }
-    Ok(())
 }
 
-/// What is behind a raster that is taken, where it is an `at`: its pixel.
-fn pixel_behind(alloc: Global, format: u8, text: &[u8]) -> Result<Option<Pixel>, Fail> {
-    let (_found, next) = taken_of(alloc, LEVEL, format, text, b"")?;
-    match next {
-        Some(Ok(Command::At { at, .. })) => Ok(Some(at)),
-        _ => Ok(None),
+/// Texts of both formats that begin with a raster, and the pixel of the `at` behind it, if there is one.
+static BEHIND: [(u8, &[u8], Option<Pixel>); 5] = [
+    (
+        1,
+        b"raster a\n0001\n0203\nat a 1 0\n",
+        Some(Pixel { x: 1, y: 0 }),
+    ),
+    (
+        1,
+        b"raster a\n0001\n0g03\n\n#\nat a 0 1",
+        Some(Pixel { x: 0, y: 1 }),
+    ),
+    (
+        2,
+        b"raster a\n00010203\n02030405\nat a 1 1\nat a 0 0\n",
+        Some(Pixel { x: 1, y: 1 }),
+    ),
+    (1, b"raster a\n0001\n0203\n", None),
+    (1, b"raster a\n0001\nat a 1 0\n", None),
+];
+
+/// Whether the `at` of this pixel was taken, or no `at` where there is none.
+fn is_at(taken: &Taken, wanted: Option<Pixel>) -> bool {
+    match taken {
+        Ok(Some(Ok(Command::At { at, .. }))) => wanted == Some(*at),
+        Ok(_) => wanted.is_none(),
+        Err(_) => false,
+    }
+}
+
+/// Whether the second command of a text is the `at` of this pixel, or no `at` where there is none.
+fn goes_on(lines: &mut Lines, format: u8, at: Option<Pixel>) -> bool {
+    match &lines.take_command(format, false) {
+        Ok(Some(_)) => is_at(&lines.take_command(format, true), at),
+        _ => false,
     }
 }
 
 #[test]
 fn goes_on_behind_a_raster(rt: HostRuntime) -> Result<(), Fail> {
-    let cases: [(u8, &[u8], Option<Pixel>); 5] = [
-        (
-            1,
-            b"raster a\n0001\n0203\nat a 1 0\n",
-            Some(Pixel { x: 1, y: 0 }),
-        ),
-        (
-            1,
-            b"raster a\n0001\n0g03\n\n#\nat a 0 1",
-            Some(Pixel { x: 0, y: 1 }),
-        ),
-        (
-            2,
-            b"raster a\n00010203\n02030405\nat a 1 1\nat a 0 0\n",
-            Some(Pixel { x: 1, y: 1 }),
-        ),
-        (1, b"raster a\n0001\n0203\n", None),
-        (1, b"raster a\n0001\nat a 1 0\n", None),
-    ];
-    for (format, text, at) in cases {
-        assert_eq!(rt; pixel_behind(rt.alloc(), format, text)?, at);
+    for (format, text, at) in &BEHIND {
+        let mut lines = begun(rt.alloc(), LEVEL, text).ok_or("no reader")?;
+        assert!(rt; goes_on(&mut lines, *format, *at));
     }
     Ok(())
 }

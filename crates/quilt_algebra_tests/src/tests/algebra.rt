@@ -1,48 +1,53 @@
-use crate::comparing::{compare, compare_overlay, list_of, recolour_of};
-use quilt_overlay::Op;
+use crate::comparing::{is_same, list_of, overlay_of};
+use quilt_overlay::{Op, recolour};
 use quilt_plain::{Dice, drawn, drawn_pairs, plain_overlay, plain_recolour};
-use quilt_types::Colour;
 use std::alloc::Global;
-use std::test::Fail;
+
+/// The ways to lay one map over another.
+static OPS: [Op; 3] = [Op::Union, Op::Inter, Op::Diff];
+
+/// Whether two drawn maps are laid over each other in each way as they should.
+fn are_laid_over(alloc: Global, dice: &mut Dice, level: u8) -> Option<bool> {
+    let side = 1_u32 << level.min(12);
+    let first = drawn(alloc, dice, side).ok()?;
+    let second = drawn(alloc, dice, side).ok()?;
+    for op in &OPS {
+        let made = overlay_of(alloc, *op, level, (&first, &second));
+        if !is_same(
+            alloc,
+            level,
+            made,
+            plain_overlay(alloc, *op, &first, &second),
+        ) {
+            return Some(false);
+        }
+    }
+    Some(true)
+}
 
 /// 200 pairs of maps of levels 1 to 5, laid over each other in each way.
 #[test]
-fn overlays_of_drawn_maps(rt: HostRuntime) -> Result<(), Fail> {
+fn overlays_of_drawn_maps(rt: HostRuntime) {
     let mut dice = Dice::new(1);
     for turn in 0..200_u8 {
-        let level = turn % 5 + 1;
-        let side = 1_u32 << level;
-        let first = drawn(rt.alloc(), &mut dice, side)?;
-        let second = drawn(rt.alloc(), &mut dice, side)?;
-        for op in [Op::Union, Op::Inter, Op::Diff] {
-            let wanted = plain_overlay(rt.alloc(), op, &first, &second)?;
-            compare_overlay(rt.alloc(), op, level, (&first, &second), &wanted)?;
-        }
+        assert!(rt; are_laid_over(rt.alloc(), &mut dice, turn % 5 + 1) == Some(true));
     }
-    Ok(())
 }
 
-/// Gives the map of these colours others by the pairs, and compares.
-fn check_recolour(
-    alloc: Global,
-    level: u8,
-    colours: &[u16],
-    pairs: &[(Colour, Colour)],
-) -> Result<(), Fail> {
-    let list = recolour_of(alloc, &list_of(alloc, level, colours)?, pairs)?;
-    let wanted = plain_recolour(alloc, colours, pairs)?;
-    compare(alloc, &list, level, &wanted)
+/// Whether a drawn map with other colours, by drawn pairs, is as it should.
+fn is_recoloured(alloc: Global, dice: &mut Dice, level: u8) -> Option<bool> {
+    let colours = drawn(alloc, dice, 1 << level.min(12)).ok()?;
+    let pairs = drawn_pairs(alloc, dice).ok()?;
+    let list = list_of(alloc, level, &colours)?;
+    let made = recolour(alloc, &list, &pairs).ok();
+    Some(is_same(alloc, level, made, plain_recolour(alloc, &colours, &pairs)))
 }
 
 /// 200 maps of levels 1 to 5, each recoloured by up to 16 pairs.
 #[test]
-fn other_colours_of_drawn_maps(rt: HostRuntime) -> Result<(), Fail> {
+fn other_colours_of_drawn_maps(rt: HostRuntime) {
     let mut dice = Dice::new(2);
     for turn in 0..200_u8 {
-        let level = turn % 5 + 1;
-        let colours = drawn(rt.alloc(), &mut dice, 1 << level)?;
-        let pairs = drawn_pairs(rt.alloc(), &mut dice)?;
-        check_recolour(rt.alloc(), level, &colours, &pairs)?;
+        assert!(rt; is_recoloured(rt.alloc(), &mut dice, turn % 5 + 1) == Some(true));
     }
-    Ok(())
 }

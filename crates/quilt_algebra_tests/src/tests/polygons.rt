@@ -1,135 +1,134 @@
-use crate::comparing::{colour_in, count_of, leaves_in};
+use crate::comparing::{add_corner, area_of, count_of, has_pixels, has_side, region_in};
 use quilt_blocks::LeafList;
-use quilt_poly::{region_of, region_within};
+use quilt_poly::region_within;
 use quilt_types::{Colour, Corner, RingList};
-use std::alloc::{AllocError, Global};
-use std::process::Abort;
-use std::test::Fail;
+use std::alloc::Global;
 
-/// Adds a ring with these corners, x and y of each.
-fn add_ring(
-    rt: &impl Abort,
-    rings: &mut RingList,
-    corners: &[(u16, u16)],
-) -> Result<(), AllocError> {
-    rings.begin_ring()?;
+/// A ring by x and y of its corners.
+type Ring = &'static [(u16, u16)];
+
+/// Adds a ring with these corners.
+fn add_ring(rings: &mut RingList, corners: &[(u16, u16)]) -> Option<()> {
+    rings.begin_ring().ok()?;
     for (x, y) in corners {
-        assert!(rt; 0 < rings.len());
-        rings.push(Corner { x: *x, y: *y })?;
+        add_corner(rings, Corner { x: *x, y: *y })?;
     }
-    Ok(())
+    Some(())
 }
 
 /// The rings with these corners.
-fn rings_of(
-    rt: &impl Abort,
-    alloc: Global,
-    rings: &[&[(u16, u16)]],
-) -> Result<RingList, AllocError> {
+fn rings_of(alloc: Global, rings: &[Ring]) -> Option<RingList> {
     let mut list = RingList::new(alloc);
     for corners in rings {
-        add_ring(rt, &mut list, corners)?;
+        add_ring(&mut list, corners)?;
     }
-    Ok(list)
-}
-
-/// The leaves of the rings at level 3.
-fn drawn(
-    rt: &impl Abort,
-    alloc: Global,
-    rings: &[&[(u16, u16)]],
-    c: u16,
-) -> Result<LeafList, AllocError> {
-    let list = rings_of(rt, alloc, rings)?;
-    region_of(alloc, &list, Colour(c), 3)
-}
-
-/// The leaves of the rings at level 3, or None where they are more than the most.
-fn drawn_within(
-    rt: &impl Abort,
-    alloc: Global,
-    rings: &[&[(u16, u16)]],
-    c: u16,
-    most: u32,
-) -> Result<Option<LeafList>, AllocError> {
-    let list = rings_of(rt, alloc, rings)?;
-    region_within(alloc, &list, Colour(c), 3, most)
-}
-
-/// How many pixels of a list of level 3 have the colour.
-fn area(list: &LeafList, c: u16) -> u32 {
-    let mut count = 0_u32;
-    for y in 0..8_u16 {
-        for x in 0..8_u16 {
-            if colour_in(list, x, y) == Some(c) {
-                count = count.wrapping_add(1);
-            }
-        }
-    }
-    count
+    Some(list)
 }
 
 /// The half of the square above its second diagonal.
-const HALF: &[(u16, u16)] = &[(0, 0), (8, 0), (0, 8)];
+const HALF: Ring = &[(0, 0), (8, 0), (0, 8)];
 
 /// The whole square, and a smaller one in its middle.
-const SQUARES: [&[(u16, u16)]; 2] = [
+const SQUARES: &[Ring] = &[
     &[(0, 0), (8, 0), (8, 8), (0, 8)],
     &[(2, 2), (6, 2), (6, 6), (2, 6)],
 ];
 
-#[test]
-fn half_a_square(rt: HostRuntime) -> Result<(), Fail> {
-    let list = drawn(&rt, rt.alloc(), &[HALF], 261)?;
-    assert_eq!(rt; area(&list, 261), 28);
-    assert_eq!(rt; area(&list, 0), 36);
-    assert_eq!(rt; colour_in(&list, 3, 4), Some(0));
-    Ok(())
+/// Rings at level 3 and the colour inside, how many pixels have some colours, some pixels, and the number and side of the
+/// leaves where all have the same side.
+struct Polygon {
+    rings: &'static [Ring],
+    colour: u16,
+    areas: &'static [(u16, u64)],
+    pixels: &'static [(u16, u16, u16)],
+    leaves: Option<(usize, u16)>,
+}
+
+static POLYGONS: [Polygon; 4] = [
+    // Half of the square.
+    Polygon {
+        rings: &[HALF],
+        colour: 261,
+        areas: &[(261, 28), (0, 36)],
+        pixels: &[(3, 4, 0)],
+        leaves: None,
+    },
+    // A square with a hole.
+    Polygon {
+        rings: SQUARES,
+        colour: 1,
+        areas: &[(1, 48)],
+        pixels: &[],
+        leaves: Some((16, 2)),
+    },
+    // A ring that crosses itself: both halves are inside. A middle that lies on an edge counts as right of it.
+    Polygon {
+        rings: &[&[(0, 0), (8, 8), (8, 0), (0, 8)]],
+        colour: 4,
+        areas: &[(4, 32)],
+        pixels: &[(3, 3, 0), (4, 3, 4)],
+        leaves: None,
+    },
+    // No rings.
+    Polygon {
+        rings: &[],
+        colour: 7,
+        areas: &[(0, 64)],
+        pixels: &[],
+        leaves: Some((1, 8)),
+    },
+];
+
+/// Whether so many pixels have each of these colours.
+fn has_areas(list: &LeafList, areas: &[(u16, u64)]) -> bool {
+    for (c, area) in areas {
+        if area_of(list, *c) != *area {
+            return false;
+        }
+    }
+    true
+}
+
+/// Whether the leaves of the rings are as they should.
+fn is_filled(alloc: Global, polygon: &Polygon) -> Option<bool> {
+    let rings = rings_of(alloc, polygon.rings)?;
+    let list = region_in(alloc, &rings, polygon.colour, 3)?;
+    let has_leaves = match polygon.leaves {
+        Some((count, side)) => count_of(&list) == count && has_side(&list, side),
+        None => true,
+    };
+    Some(has_leaves && has_areas(&list, polygon.areas) && has_pixels(&list, polygon.pixels))
 }
 
 #[test]
-fn a_square_with_a_hole(rt: HostRuntime) -> Result<(), Fail> {
-    let list = drawn(&rt, rt.alloc(), &SQUARES, 1)?;
-    assert_eq!(rt; area(&list, 1), 48);
-    let leaves = leaves_in(rt.alloc(), &list)?;
-    assert_eq!(rt; leaves.len(), 16);
-    assert!(rt; leaves.iter().all(|leaf| leaf[2] == 2));
-    Ok(())
+fn polygons_by_hand(rt: HostRuntime) {
+    for polygon in &POLYGONS {
+        assert!(rt; is_filled(rt.alloc(), polygon) == Some(true));
+    }
 }
 
-/// Both halves of the ring are inside. A middle that lies on an edge counts as right of it.
-#[test]
-fn a_ring_that_crosses_itself(rt: HostRuntime) -> Result<(), Fail> {
-    let ring = [(0, 0), (8, 8), (8, 0), (0, 8)];
-    let list = drawn(&rt, rt.alloc(), &[&ring], 4)?;
-    assert_eq!(rt; area(&list, 4), 32);
-    assert_eq!(rt; colour_in(&list, 3, 3), Some(0));
-    assert_eq!(rt; colour_in(&list, 4, 3), Some(4));
-    Ok(())
+/// Rings at level 3, the colour inside and the most leaves, and how many there are where they are not more.
+static WITHIN: [(&[Ring], u16, u32, Option<usize>); 4] = [
+    // A square with a hole has 16 leaves: 15 are too few, and 16 are enough.
+    (SQUARES, 1, 15, None),
+    (SQUARES, 1, 16, Some(16)),
+    // Without a colour all of it is one leaf, whatever the rings are.
+    (&[HALF], 0, 1, Some(1)),
+    (&[HALF], 0, 0, None),
+];
+
+/// How many leaves the rings have at level 3, where they are not more than the most.
+fn count_within(alloc: Global, rings: &[Ring], c: u16, most: u32) -> Option<Option<usize>> {
+    let rings = rings_of(alloc, rings)?;
+    match &region_within(alloc, &rings, Colour(c), 3, most).ok()? {
+        Some(list) => Some(Some(count_of(list))),
+        None => Some(None),
+    }
 }
 
 #[test]
-fn no_rings(rt: HostRuntime) -> Result<(), Fail> {
-    let list = drawn(&rt, rt.alloc(), &[], 7)?;
-    assert_eq!(rt; count_of(&list), 1);
-    assert_eq!(rt; area(&list, 0), 64);
-    Ok(())
-}
-
-/// A square with a hole has 16 leaves: 15 are too few, and 16 are enough.
-#[test]
-fn no_more_leaves_than_the_most(rt: HostRuntime) -> Result<(), Fail> {
-    assert!(rt; drawn_within(&rt, rt.alloc(), &SQUARES, 1, 15)?.is_none());
-    let found = drawn_within(&rt, rt.alloc(), &SQUARES, 1, 16)?;
-    let list = found.ok_or("a list of 16 leaves")?;
-    assert_eq!(rt; count_of(&list), 16);
-    Ok(())
-}
-
-/// Without a colour all of it is one leaf, whatever the rings are.
-#[test]
-fn rings_of_the_background(rt: HostRuntime) -> Result<(), Fail> {
-    assert!(rt; drawn_within(&rt, rt.alloc(), &[HALF], 0, 1)?.is_some());
-    assert!(rt; drawn_within(&rt, rt.alloc(), &[HALF], 0, 0)?.is_none());
-    Ok(())
+fn no_more_leaves_than_the_most(rt: HostRuntime) {
+    for (rings, c, most, count) in &WITHIN {
+        assert!(rt; count_within(rt.alloc(), rings, *c, *most) == Some(*count));
+    }
 }

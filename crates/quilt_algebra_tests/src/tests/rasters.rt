@@ -1,10 +1,7 @@
-use crate::comparing::{
-    colour_in, count_of, has_leaves, is_rendered, leaves_in, list_of_bytes, rendered_length,
-};
-use quilt_blocks::LeafList;
+use crate::comparing::{Square, colour_in, count_of, has_leaves, is_shown, list_of_bytes, rows_of};
+use quilt_blocks::{Cursor, Leaf, LeafList};
 use quilt_types::{Block, Colour, Window};
-use std::alloc::{AllocError, Global};
-use std::process::Abort;
+use std::alloc::Global;
 use std::test::Fail;
 use std::time::Instant;
 
@@ -32,9 +29,14 @@ fn colour(bytes: &[u8], row: u32, x: u32, y: u32) -> Option<u16> {
 /// Whether all pixels from (x, y) on, as many in a row as rows, have the colour of the first.
 fn has_one_colour(colours: &[u8], row: u32, x: u32, y: u32, size: u32) -> bool {
     let first = colour(colours, row, x, y);
-    (0..size).all(|dy| {
-        (0..size).all(|dx| colour(colours, row, x.wrapping_add(dx), y.wrapping_add(dy)) == first)
-    })
+    for dy in 0..size {
+        for dx in 0..size {
+            if colour(colours, row, x.wrapping_add(dx), y.wrapping_add(dy)) != first {
+                return false;
+            }
+        }
+    }
+    true
 }
 
 /// Whether the block is of one colour and the block around it is not, or there is none.
@@ -62,89 +64,60 @@ fn count_maximal(colours: &[u8], row: u32) -> usize {
     count
 }
 
-/// Whether the leaf, with its x, y and side and its colour, is a maximal block of the raster.
-fn is_leaf(colours: &[u8], row: u32, leaf: [u16; 4]) -> bool {
-    let [x, y, side, c] = leaf;
-    let (x, y, side) = (u32::from(x), u32::from(y), u32::from(side));
-    is_maximal(colours, row, x, y, side) && colour(colours, row, x, y) == Some(c)
+/// Whether the leaf is a maximal block of the raster.
+fn is_leaf(colours: &[u8], row: u32, leaf: &Leaf) -> bool {
+    let (x, y) = (u32::from(leaf.block.x), u32::from(leaf.block.y));
+    is_maximal(colours, row, x, y, u32::from(leaf.block.side))
+        && colour(colours, row, x, y) == Some(leaf.colour.0)
 }
 
-/// Compares the leaves of a raster with a plain search.
-fn compare(
-    rt: &impl Abort,
-    alloc: Global,
-    level: u8,
-    colours: &[u8],
-    row: u32,
-) -> Result<(), Fail> {
-    let leaves = leaves_in(alloc, &list_of_bytes(alloc, level, colours)?)?;
-    assert!(rt; leaves.iter().all(|leaf| is_leaf(colours, row, *leaf)));
-    assert!(rt; leaves.len() == count_maximal(colours, row));
-    Ok(())
-}
-
-/// The colour of the square of a list of level 1, if it has one.
-fn uniform(list: &LeafList) -> Result<Option<Colour>, Fail> {
-    if list.level() != 1 {
-        return Err(Fail::from("a list of level 1"));
+/// Whether all leaves are maximal blocks of the raster.
+fn are_leaves(list: &LeafList, colours: &[u8], row: u32) -> bool {
+    let mut leaves = Cursor::new(list);
+    for _ in 0..list.len() {
+        match leaves.next() {
+            Some(leaf) => if !is_leaf(colours, row, &leaf) {
+                return false;
+            }
+            None => return false,
+        }
     }
-    Ok(list.uniform_in(Block {
-        x: 0,
-        y: 0,
-        side: 2,
-    }))
+    true
 }
 
-/// The colour of the second quarter of such a square.
-fn uniform_quarter(list: &LeafList) -> Result<Option<Colour>, Fail> {
-    if list.level() != 1 {
-        return Err(Fail::from("a list of level 1"));
+/// Whether the leaves of a raster are those that a plain search finds.
+fn is_raster(alloc: Global, level: u8, colours: &[u8]) -> bool {
+    let row = 1_u32.wrapping_shl(u32::from(level));
+    match list_of_bytes(alloc, level, colours) {
+        Some(list) => {
+            are_leaves(&list, colours, row) && count_of(&list) == count_maximal(colours, row)
+        }
+        None => false,
     }
-    Ok(list.uniform_in(Block {
-        x: 1,
-        y: 0,
-        side: 1,
-    }))
 }
+
+/// Rasters of level 1 and their leaves.
+static RASTERS: [([u8; 8], &[Square]); 4] = [
+    ([0, 3, 0, 3, 0, 3, 0, 3], &[(0, 0, 2, 3)]),
+    (
+        [0, 0, 0, 1, 0, 1, 0, 0],
+        &[(0, 0, 1, 0), (1, 0, 1, 1), (0, 1, 1, 1), (1, 1, 1, 0)],
+    ),
+    // Colours of two bytes, and two colours with one low byte.
+    ([1, 2, 1, 2, 1, 2, 1, 2], &[(0, 0, 2, 258)]),
+    (
+        [0, 2, 1, 2, 0, 2, 1, 2],
+        &[(0, 0, 1, 2), (1, 0, 1, 258), (0, 1, 1, 2), (1, 1, 1, 258)],
+    ),
+];
 
 #[test]
 fn worked_rasters(rt: HostRuntime) -> Result<(), Fail> {
-    let one = list_of_bytes(rt.alloc(), 1, &[0, 3, 0, 3, 0, 3, 0, 3])?;
-    assert!(rt; has_leaves(rt.alloc(), &one, &[[0, 0, 2, 3]])?);
-    let four = list_of_bytes(rt.alloc(), 1, &[0, 0, 0, 1, 0, 1, 0, 0])?;
-    let leaves = [[0, 0, 1, 0], [1, 0, 1, 1], [0, 1, 1, 1], [1, 1, 1, 0]];
-    assert!(rt; has_leaves(rt.alloc(), &four, &leaves)?);
-    assert_eq!(rt; uniform(&four)?, None);
+    for (bytes, leaves) in &RASTERS {
+        let list = list_of_bytes(rt.alloc(), 1, bytes).ok_or("no list")?;
+        assert!(rt; has_leaves(&list, leaves));
+    }
     Ok(())
-}
-
-#[test]
-fn colours_of_two_bytes(rt: HostRuntime) -> Result<(), Fail> {
-    let one = list_of_bytes(rt.alloc(), 1, &[1, 2, 1, 2, 1, 2, 1, 2])?;
-    assert!(rt; has_leaves(rt.alloc(), &one, &[[0, 0, 2, 258]])?);
-    // Two colours with one low byte.
-    let four = list_of_bytes(rt.alloc(), 1, &[0, 2, 1, 2, 0, 2, 1, 2])?;
-    let leaves = [[0, 0, 1, 2], [1, 0, 1, 258], [0, 1, 1, 2], [1, 1, 1, 258]];
-    assert!(rt; has_leaves(rt.alloc(), &four, &leaves)?);
-    Ok(())
-}
-
-/// Compares the leaves of a drawn raster of this level.
-fn try_drawn(
-    rt: &impl Abort,
-    alloc: Global,
-    seed: &mut u32,
-    level: u8,
-    bytes: &mut [u8],
-) -> Result<(), Fail> {
-    paint(seed, bytes);
-    compare(
-        rt,
-        alloc,
-        level,
-        bytes,
-        1_u32.wrapping_shl(u32::from(level)),
-    )
 }
 
 /// The raster of four of three colours, by its number.
@@ -153,38 +126,77 @@ fn small(a: u8) -> [u8; 8] {
     [e, b, b, c, c, d, d, e]
 }
 
+/// Whether the leaves of a drawn raster of this level are as they should.
+fn is_drawn(alloc: Global, seed: &mut u32, level: u8, bytes: &mut [u8]) -> bool {
+    paint(seed, bytes);
+    is_raster(alloc, level, bytes)
+}
+
 #[test]
-fn small_and_random_rasters(rt: HostRuntime) -> Result<(), Fail> {
+fn small_and_random_rasters(rt: HostRuntime) {
     for a in 0..81_u8 {
-        compare(&rt, rt.alloc(), 1, &small(a), 2)?;
+        assert!(rt; is_raster(rt.alloc(), 1, &small(a)));
     }
     let mut seed = 12345_u32;
-    for _ in 0..250 {
-        try_drawn(&rt, rt.alloc(), &mut seed, 3, &mut [0; 128])?;
-        try_drawn(&rt, rt.alloc(), &mut seed, 4, &mut [0; 512])?;
+    for _ in 0..250_u8 {
+        assert!(rt; is_drawn(rt.alloc(), &mut seed, 3, &mut [0; 128]));
+        assert!(rt; is_drawn(rt.alloc(), &mut seed, 4, &mut [0; 512]));
     }
-    Ok(())
 }
+
+/// The colours of the square of a list of level 1 and of its second quarter, where it has one.
+fn uniform(list: &LeafList) -> Option<(Option<Colour>, Option<Colour>)> {
+    if list.level() != 1 {
+        return None;
+    }
+    let whole = list.uniform_in(Block {
+        x: 0,
+        y: 0,
+        side: 2,
+    });
+    let quarter = list.uniform_in(Block {
+        x: 1,
+        y: 0,
+        side: 1,
+    });
+    Some((whole, quarter))
+}
+
+/// The colours of the square of these bytes.
+fn uniform_of(alloc: Global, bytes: &[u8]) -> Option<(Option<Colour>, Option<Colour>)> {
+    uniform(&list_of_bytes(alloc, 1, bytes)?)
+}
+
+/// Rasters of level 1 that are not of one colour, and the colour of their second quarter.
+static MIXED: [([u8; 8], u16); 2] = [
+    ([0, 0, 0, 1, 0, 1, 0, 0], 1),
+    ([0, 0, 1, 1, 0, 1, 0, 0], 257),
+];
 
 #[test]
-fn blocks_of_one_colour(rt: HostRuntime) -> Result<(), Fail> {
-    let list = list_of_bytes(rt.alloc(), 1, &[0, 0, 1, 1, 0, 1, 0, 0])?;
-    assert_eq!(rt; uniform(&list)?, None);
-    assert_eq!(rt; uniform_quarter(&list)?, Some(Colour(257)));
-    Ok(())
+fn blocks_of_one_colour(rt: HostRuntime) {
+    for (bytes, c) in &MIXED {
+        assert!(rt; uniform_of(rt.alloc(), bytes) == Some((None, Some(Colour(*c)))));
+    }
 }
 
-/// A chessboard of 1024 by 1024 pixels in squares of 32, in each of which one pixel has a colour of its own.
-fn chessboard(alloc: Global) -> Result<Vec<u8>, AllocError> {
-    let mut colours = Vec::new(alloc);
-    for i in 0..1048576_u32 {
-        let (x, y) = (i % 1024, i / 1024);
-        let alone = x % 32 == 5 && y % 32 == 7;
-        let colour = if alone { 512 } else { (x / 32 + y / 32) % 2 };
-        colours.push((colour / 256) as u8)?;
-        colours.push((colour % 256) as u8)?;
+/// The colour of a pixel of a chessboard in squares of 32, in each of which one pixel has a colour of its own.
+fn chess_colour(x: u32, y: u32) -> u16 {
+    if x % 32 == 5 && y % 32 == 7 {
+        512
+    } else {
+        ((x / 32).wrapping_add(y / 32) % 2) as u16
     }
-    Ok(colours)
+}
+
+/// Such a chessboard of 1024 by 1024 pixels.
+fn chessboard(alloc: Global) -> Option<Vec<u8>> {
+    let mut bytes = Vec::new(alloc);
+    for i in 0..1048576_u32 {
+        let colour = chess_colour(i % 1024, i / 1024);
+        bytes.extend_from_slice(&colour.to_be_bytes()).ok()?;
+    }
+    Some(bytes)
 }
 
 /// The window of all pixels of that raster.
@@ -198,17 +210,14 @@ const ALL: Window = Window {
 /// A raster of level 10. The times are only printed.
 #[test]
 fn large_raster(rt: HostRuntime) -> Result<(), Fail> {
-    let colours = chessboard(rt.alloc())?;
-    assert!(rt; colours.len() == 2097152);
+    let colours = chessboard(rt.alloc()).ok_or("no memory")?;
     let start = Instant::now(&rt)?;
-    let list = list_of_bytes(rt.alloc(), 10, &colours)?;
+    let list = list_of_bytes(rt.alloc(), 10, &colours).ok_or("no list")?;
     let made = start.elapsed(&rt)?;
-    assert_eq!(rt; count_of(&list), 16384);
-    let start = Instant::now(&rt)?;
-    let length = rendered_length(rt.alloc(), &list, ALL, 2)?;
-    let shown = start.elapsed(&rt)?;
-    assert_eq!(rt; length, 4195328);
-    println!(rt; "1048576 pixels, 16384 leaves: {made:?} to read, {shown:?} to show")?;
+    let rows = rows_of(rt.alloc(), &list, ALL, 2).ok_or("no rows")?;
+    let both = start.elapsed(&rt)?;
+    assert!(rt; count_of(&list) == 16384 && rows.bytes().len() == 4195328);
+    println!(rt; "1048576 pixels, 16384 leaves: {made:?} to read, {both:?} to read and show")?;
     Ok(())
 }
 
@@ -220,19 +229,29 @@ const FOUR: Window = Window {
     h: 2,
 };
 
-#[test]
-fn shown_rows(rt: HostRuntime) -> Result<(), Fail> {
-    let list = list_of_bytes(rt.alloc(), 1, &[0, 0, 0, 1, 0, 171, 0, 16])?;
-    assert!(rt; is_rendered(rt.alloc(), &list, FOUR, 1, b"0001\nab10\n")?);
-    assert!(rt; is_rendered(rt.alloc(), &list, FOUR, 2, b"00000001\n00ab0010\n")?);
-    assert_eq!(rt; colour_in(&list, 0, 1), Some(171));
-    Ok(())
+/// Rasters of level 1, formats, and their rows as they are shown.
+static SHOWN: [([u8; 8], u8, &[u8]); 4] = [
+    ([0, 0, 0, 1, 0, 171, 0, 16], 1, b"0001\nab10\n"),
+    ([0, 0, 0, 1, 0, 171, 0, 16], 2, b"00000001\n00ab0010\n"),
+    // Colours of two bytes.
+    ([0, 0, 1, 0, 1, 2, 254, 220], 2, b"00000100\n0102fedc\n"),
+    ([0, 0, 1, 0, 1, 2, 254, 220], 1, b"0000\n02dc\n"),
+];
+
+/// Whether the raster is shown by this text, and its third pixel has the colour of its bytes.
+fn shows(alloc: Global, bytes: &[u8; 8], format: u8, text: &[u8]) -> bool {
+    match list_of_bytes(alloc, 1, bytes) {
+        Some(list) => {
+            is_shown(alloc, &list, FOUR, format, text)
+                && colour_in(&list, 0, 1) == pair_at(bytes, 2)
+        }
+        None => false,
+    }
 }
 
 #[test]
-fn shown_colours_of_two_bytes(rt: HostRuntime) -> Result<(), Fail> {
-    let list = list_of_bytes(rt.alloc(), 1, &[0, 0, 1, 0, 1, 2, 254, 220])?;
-    assert!(rt; is_rendered(rt.alloc(), &list, FOUR, 2, b"00000100\n0102fedc\n")?);
-    assert!(rt; is_rendered(rt.alloc(), &list, FOUR, 1, b"0000\n02dc\n")?);
-    Ok(())
+fn shown_rows(rt: HostRuntime) {
+    for (bytes, format, text) in &SHOWN {
+        assert!(rt; shows(rt.alloc(), bytes, *format, text));
+    }
 }

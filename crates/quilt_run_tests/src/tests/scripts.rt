@@ -1,7 +1,7 @@
 //! Worked commands of every kind, each with the reply that it must get.
 
 /// Scripts, each with its name in the first line and as `plays` reads it from the second on.
-pub static SCRIPTS: [&str; 29] = [
+pub static SCRIPTS: [&str; 30] = [
     "blocks are cut and merged\n16 3\nrun 256\n\
         region a 0 | ok\n\
         set a 5 2 7 | ok\n\
@@ -36,6 +36,7 @@ pub static SCRIPTS: [&str; 29] = [
         at | no 2 count\n\
         region 9a 0 | no 4 name\n\
         region a 256 | no 3 number\n\
+        region a 258 | no 3 number\n\
         # a remark |\n\
         \x20|\n\
         at\tp 1 1 | no 17 bytes\n\
@@ -126,6 +127,14 @@ pub static SCRIPTS: [&str; 29] = [
         at a 1 0 | 0; ok\n\
         raster a; 00000001; 01000000 | ok\n\
         at a 0 1 | 256; ok",
+    "a colour of 16 bits is published\n16 3\nrun 256\n\
+        upgrade | edition 1; ok\n\
+        region a 0 | ok\n\
+        set a 5 2 258 | ok\n\
+        publish | edition 2; ok\n\
+        at a 5 2 | 258; ok\n\
+        run 256\n\
+        at a 5 2 | 258; ok",
     "line blocks are cut once and merged\n16 2\nrun 256\n\
         lines l 1 | ok\n\
         line l 1 0 0 3 3 | ok\n\

@@ -1,14 +1,11 @@
 //! One script over all kinds of layers: stopped at each event, with each call failing in turn, and cut after each byte.
+use crate::cases::{Case, Left, leaves_edition};
 use crate::runs::{
-    Ran, begins_with, done, ends, file_of_level_3, is_torn, log_of, put_by, puts, puts_front,
-    settled, torn_writes, writes_of,
+    Ran, WORDS, done, file_of_level_3, has_ended, log_of, put_by, settled, torn_writes, writes_of,
 };
-use quilt_desk::Desk;
-use quilt_scripts::{Run, choice, edition_of, put_within, stopped};
+use quilt_scripts::{Run, put_within};
 use quilt_top::End;
-use quilt_world::Disk;
 use std::alloc::Global;
-use std::process::Abort;
 use std::thread::Threads;
 
 const SCRIPT: &[u8] = b"region a 0\nrect a 1 1 5 5 3\npublish\npoints p\nput p 2 2 9\nlines l 1\n\
@@ -17,137 +14,97 @@ const SCRIPT: &[u8] = b"region a 0\nrect a 1 1 5 5 3\npublish\npoints p\nput p 2
 /// How many pages a run of the script writes.
 const WRITES: usize = 14;
 
-const REPLIES: &[u8] =
-    b"ok\nok\nedition 1\nok\nok\nok\nok\nok\nok\nedition 2\nok\nok\nok\nok\nedition 2\nok\n";
+const REPLIES: &str =
+    "ok\nok\nedition 1\nok\nok\nok\nok\nok\nok\nedition 2\nok\nok\nok\nok\nedition 2\nok\n";
 
-/// The replies to the first so many commands of the script.
-fn replies_to(commands: usize) -> &'static [u8] {
-    let mut seen = 0_usize;
-    let mut end = 0_usize;
-    for line in REPLIES.split(|b| *b == b'\n') {
-        if seen == commands {
-            break;
-        }
-        end = end.saturating_add(line.len()).saturating_add(1);
-        if line == b"ok".as_slice() {
-            seen = seen.saturating_add(1);
-        }
+/// The fronts of the replies that end in those to a publish.
+static PUBLISHED: [&[u8]; 2] = [
+    b"ok\nok\nedition 1\nok\n",
+    b"ok\nok\nedition 1\nok\nok\nok\nok\nok\nok\nedition 2\nok\n",
+];
+
+/// Whether the run has ended with all replies, and a stop right behind each of its writes leaves the page torn.
+fn is_whole(ran: &Ran) -> bool {
+    has_ended(ran, End::Done, REPLIES.as_bytes())
+        && writes_of(&ran.1) == WRITES
+        && torn_writes(&ran.1) == WRITES
+}
+
+/// Stops the run at each event, where it is whole.
+fn stops_at_each_event<R: Threads + Sync>(rt: &R, alloc: Global, ran: &Ran) -> Option<()> {
+    if !is_whole(ran) {
+        return None;
     }
-    REPLIES.get(..end).unwrap_or(REPLIES)
-}
-
-/// The number of the last edition whose reply was put whole.
-fn answered(output: &[u8]) -> u32 {
-    if begins_with(output, replies_to(9)) {
-        2
-    } else if begins_with(output, replies_to(3)) {
-        1
-    } else {
-        0
-    }
-}
-
-/// Stops at an event with the free pages filled in three ways: each file opens to the last edition that was answered at least, and
-/// to the one behind it at most.
-fn stops_at<R: Threads + Sync + Abort>(
-    rt: &R,
-    alloc: Global,
-    desk: &Desk,
-    events: usize,
-    told: u32,
-) {
-    let newest = told.saturating_add(1).min(2);
-    for number in 0..3 {
-        let file = stopped(desk, events, &choice(number)).expect(rt, "the file that is left");
-        let found = edition_of(rt, alloc, file).expect(rt, "an edition");
-        assert!(rt; told <= found && found <= newest);
-    }
-}
-
-/// Stops at an event of a run that went to its end.
-fn stops_within<R: Threads + Sync + Abort>(rt: &R, alloc: Global, desk: &Desk, events: usize) {
-    let put = put_by(desk).get(..put_within(desk, events));
-    let told = answered(put.expect(rt, "what was put"));
-    stops_at(rt, alloc, desk, events, told);
-}
-
-/// Stops a run that was done, and put all replies, at each event. Right behind each write a stop leaves the page torn.
-fn stops_at_each_event<R: Threads + Sync + Abort>(rt: &R, alloc: Global, ran: &Ran) {
-    ends(rt, ran, End::Done, REPLIES);
     let desk = &ran.1;
-    assert_eq!(rt; writes_of(desk), WRITES);
-    assert_eq!(rt; torn_writes(desk), WRITES);
+    let put = put_by(desk);
     for events in 0..=log_of(desk).len() {
-        stops_within(rt, alloc, desk, events);
+        let front = put.get(..put_within(desk, events))?;
+        leaves_edition(rt, alloc, desk, events, front, &PUBLISHED)?;
     }
+    Some(())
+}
+
+/// Does the script over the smallest pool, and stops the run at each event.
+fn stops_script<R: Threads + Sync>(rt: &R, alloc: Global) -> Option<()> {
+    let file = file_of_level_3(rt, alloc);
+    let ran = done(rt, alloc, Run::of(&WORDS, SCRIPT), file)?;
+    stops_at_each_event(rt, alloc, &ran)
 }
 
 #[test]
 fn a_stop_at_each_event(rt: HostRuntime) {
-    let words = ["run", "m", "--pool", "8"];
-    let file = file_of_level_3(&rt, rt.alloc());
-    let ran = done(&rt, rt.alloc(), Run::of(&words, SCRIPT), Some(file));
-    stops_at_each_event(&rt, rt.alloc(), &ran);
+    assert!(rt; stops_script(&rt, rt.alloc()).is_some());
 }
 
-/// Whether a run of the script has torn a page, or None where it went to its end, with all replies put. If it did not, it has ended in a
-/// device fault, what was put is a front of the replies, and a stop at the end leaves a whole edition.
-fn tears<R: Threads + Sync + Abort>(rt: &R, alloc: Global, ran: &Ran) -> Option<bool> {
-    let (end, desk) = ran;
-    puts_front(rt, desk, REPLIES);
-    if *end == End::Done {
-        puts(rt, desk, REPLIES);
-        return None;
-    }
-    assert_eq!(rt; *end, End::Device);
-    if desk.pages() == 35 {
-        let told = answered(put_by(desk));
-        stops_at(rt, alloc, desk, log_of(desk).len(), told);
-    }
-    Some(is_torn(desk))
-}
-
-/// Runs the script with one call failing: None where none failed. Where one did, whether it tore a page, what was put is a front of the
-/// replies, and a stop at the end leaves a whole edition.
-fn tears_at<R: Threads + Sync + Abort>(rt: &R, alloc: Global, call: u64) -> Option<bool> {
-    let words = ["run", "m", "--pool", "8"];
-    let run = Run::of(&words, SCRIPT).failing_at(call);
-    let file = file_of_level_3(rt, alloc);
-    tears(rt, alloc, &done(rt, alloc, run, Some(file)))
+/// Does the script with each call failing in turn, of which there are more than 30: how many pages were torn.
+fn torn_in_turn<R: Threads + Sync>(rt: &R, alloc: Global) -> Option<usize> {
+    let file = file_of_level_3(rt, alloc)?;
+    let case = Case {
+        run: Run::of(&WORDS, SCRIPT),
+        file: &file,
+        end: End::Done,
+        output: REPLIES.as_bytes(),
+        left: Left::Edition(&PUBLISHED),
+    };
+    let (calls, torn) = case.fails_from(rt, alloc, 1)?;
+    (calls > 30).then_some(torn)
 }
 
 #[test]
 fn each_call_fails_in_turn(rt: HostRuntime) {
-    let mut torn = 0_usize;
-    for call in 1..2000_u64 {
-        let Some(tears) = tears_at(&rt, rt.alloc(), call) else {
-            assert!(rt; call > 30);
-            assert_eq!(rt; torn, WRITES);
-            return;
-        };
-        torn = torn.saturating_add(usize::from(tears));
+    assert!(rt; torn_in_turn(&rt, rt.alloc()) == Some(WRITES));
+}
+
+/// How many bytes the replies to the first so many commands of the script have.
+fn length_of_replies(commands: usize) -> usize {
+    let mut length = 0_usize;
+    for reply in REPLIES.split_inclusive("ok\n").take(commands) {
+        length = length.saturating_add(reply.len());
     }
-    panic!(rt; "each run met a fault");
+    length
 }
 
-/// How many lines of the text are whole.
-fn whole_lines(text: &[u8]) -> usize {
-    text.iter().filter(|b| **b == b'\n').count()
+/// The replies to the whole lines of a front of the script, where they stand whatever follows it.
+fn settled_replies_to(alloc: Global, front: &[u8]) -> Option<&'static [u8]> {
+    let lines = front.iter().filter(|b| **b == b'\n').count();
+    if settled(alloc, 3, front)? != lines {
+        return None;
+    }
+    REPLIES.as_bytes().get(..length_of_replies(lines))
 }
 
-/// What the desk has put has to begin with this.
-fn puts_more(rt: &impl Abort, desk: &Desk, front: &[u8]) {
-    assert!(rt; begins_with(put_by(desk), front));
+/// Whether these replies are what a run of a front of the script of so many bytes puts first.
+fn stands<R: Threads + Sync>(rt: &R, alloc: Global, length: usize) -> Option<bool> {
+    let front = SCRIPT.get(..length)?;
+    let replies = settled_replies_to(alloc, front)?;
+    let ran = done(rt, alloc, Run::text(front), file_of_level_3(rt, alloc))?;
+    Some(put_by(&ran.1).starts_with(replies))
 }
 
 #[test]
 fn the_script_is_cut_after_each_byte(rt: HostRuntime) {
     for length in 0..=SCRIPT.len() {
-        let front = SCRIPT.get(..length).unwrap_or(SCRIPT);
-        let file = file_of_level_3(&rt, rt.alloc());
-        let (_, desk) = done(&rt, rt.alloc(), Run::text(front), Some(file));
-        let replies = settled(&rt, rt.alloc(), 3, front);
-        assert_eq!(rt; replies, whole_lines(front));
-        puts_more(&rt, &desk, replies_to(replies));
+        assert!(rt; stands(&rt, rt.alloc(), length) == Some(true));
     }
+    assert!(rt; settled(rt.alloc(), 3, b"edition\n# none\nfrob") == Some(1));
 }

@@ -1,11 +1,8 @@
-ghost use Rattle.std.specs.Prelude.{◌≤◌};
-
-use crate::runs::{done, put_by, status_of};
-use quilt_desk::Desk;
+//! The words of the program, worked lists of them and drawn ones, each done where there is no file.
+use crate::runs::{Ran, done, has_ended, put_by};
 use quilt_scripts::Run;
 use quilt_top::End;
 use std::alloc::Global;
-use std::process::Abort;
 use std::thread::Threads;
 
 /// Words that may stand anywhere.
@@ -33,34 +30,28 @@ fn next(state: u64) -> u64 {
 }
 
 /// The word of a place of one of the lists, three times out of four, and else any word.
-fn drawn_word(list: [&'static str; 4], place: usize, state: u64) -> &'static str {
+fn drawn_word(list: &[&'static str], place: usize, state: u64) -> Option<&'static str> {
     let drawn = state >> 33;
     match list.get(place) {
-        Some(word) if drawn % 4 > 0 => word,
-        _ => ANY[((drawn >> 8) % 16) as usize],
+        Some(word) if drawn % 4 > 0 => Some(word),
+        _ => ANY.get(((drawn >> 8) % 16) as usize).copied(),
     }
 }
 
-/// Five words, and how many of them are asked, from 2 to 5.
-fn drawn_words(state: u64) -> ([&'static str; 5], usize, u64)
-    ensures { result.1 ≤ 5 }
-{
-    let first = next(state);
-    let list = PLACED[((first >> 33) % 8) as usize];
-    let count = 2 + ((first >> 40) % 4) as usize;
-    let a = next(first);
-    let b = next(a);
-    let c = next(b);
-    let d = next(c);
-    let e = next(d);
-    let words = [
-        drawn_word(list, 0, a),
-        drawn_word(list, 1, b),
-        drawn_word(list, 2, c),
-        drawn_word(list, 3, d),
-        drawn_word(list, 4, e),
-    ];
-    (words, count, e)
+/// From 2 to 5 words.
+fn drawn_words(alloc: Global, state: &mut u64) -> Option<Vec<&'static str>> {
+    *state = next(*state);
+    let drawn = *state >> 33;
+    let list = PLACED.get((drawn % 8) as usize)?;
+    let most = ((drawn >> 7) % 4) as usize;
+    let mut words = Vec::new(alloc);
+    for place in 0..5_usize {
+        *state = next(*state);
+        if place < most.wrapping_add(2) {
+            words.push(drawn_word(list, place, *state)?).ok()?;
+        }
+    }
+    Some(words)
 }
 
 /// What a list of words asks for: a file of so many pages and of a level, or that commands are run over a file.
@@ -70,18 +61,20 @@ enum Asked {
     Run,
 }
 
+/// The numbers that are among the words.
+static NUMBERS: [(&str, u32); 6] = [
+    ("3", 3),
+    ("7", 7),
+    ("8", 8),
+    ("9", 9),
+    ("16", 16),
+    ("30", 30),
+];
+
 /// The number of a word, where it lies between these.
 fn spelled(word: &str, low: u32, high: u32) -> Option<u32> {
-    let value = match word {
-        "3" => 3,
-        "7" => 7,
-        "8" => 8,
-        "9" => 9,
-        "16" => 16,
-        "30" => 30,
-        _ => return None,
-    };
-    (low <= value && value <= high).then_some(value)
+    let (_, value) = NUMBERS.iter().find(|(number, _)| *number == word)?;
+    (low <= *value && *value <= high).then_some(*value)
 }
 
 /// Whether the option's word is a number of pages, where it is there.
@@ -92,97 +85,147 @@ fn is_pool(pool: Option<&str>) -> bool {
     }
 }
 
+/// What the table says of the words behind `new` and a file.
+fn new_by_table(rest: &[&str]) -> Option<Asked> {
+    let [pages, level] = rest else {
+        return None;
+    };
+    let pages = spelled(pages, 16, 30000)?;
+    Some(Asked::New(pages, spelled(level, 1, 12)?))
+}
+
+/// What the table says of the words behind `trial` and a file.
+fn trial_by_table(rest: &[&str]) -> Option<Asked> {
+    let [seed, count] = rest else {
+        return None;
+    };
+    spelled(seed, 0, 30)?;
+    spelled(count, 1, 1_000_000)?;
+    Some(Asked::Run)
+}
+
 /// What the table says of words that stand alone and of the option's word.
 fn by_table(alone: &[&str], pool: Option<&str>) -> Option<Asked> {
-    match alone {
-        [mode, _] if *mode == "run" && is_pool(pool) => Some(Asked::Run),
-        [mode, _, pages, level] if *mode == "new" && pool.is_none() => Some(Asked::New(
-            spelled(pages, 16, 30000)?,
-            spelled(level, 1, 12)?,
-        )),
-        [mode, _, seed, count] if *mode == "trial" && is_pool(pool) => {
-            spelled(seed, 0, 30)?;
-            spelled(count, 1, 1_000_000)?;
-            Some(Asked::Run)
-        }
+    let [mode, _, rest @ ..] = alone else {
+        return None;
+    };
+    match *mode {
+        "run" if rest.is_empty() => is_pool(pool).then_some(Asked::Run),
+        "new" if pool.is_none() => new_by_table(rest),
+        "trial" if is_pool(pool) => trial_by_table(rest),
         _ => None,
     }
 }
 
-/// What the table says of the words, read from the first to the last.
-fn expected(rt: &impl Abort, alloc: Global, words: &[&str]) -> Option<Asked> {
-    let mut alone = Vec::new(alloc);
-    let mut pool = None;
-    let mut is_wanted = false;
-    let mut has_ended = false;
-    for word in words {
-        let is_dashed = word.as_bytes().starts_with(b"-") && word.len() > 1;
-        if is_wanted {
-            if is_dashed || pool.is_some() {
-                return None;
-            }
-            pool = Some(*word);
-            is_wanted = false;
-        } else if has_ended || !is_dashed {
-            alone.push(*word).expect(rt, "memory");
-        } else if *word == "--" {
-            has_ended = true;
-        } else if *word == "--pool" {
-            is_wanted = true;
-        } else if *word == "--pool=8" && pool.is_none() {
-            pool = Some("8");
-        } else if *word == "--pool=9" && pool.is_none() {
-            pool = Some("9");
-        } else {
-            return None;
-        }
-    }
-    if is_wanted {
-        return None;
-    }
-    by_table(alone.as_slice(), pool)
+/// What is read of words, from the first to the last.
+#[derive(Drop)]
+struct Reading<'a> {
+    alone: Vec<&'a str>,
+    pool: Option<&'a str>,
+    is_wanted: bool,
+    has_ended: bool,
 }
 
-/// Whether this is the line of a new file.
-fn is_line_of_new(rt: &impl Abort, alloc: Global, pages: u32, level: u32, output: &[u8]) -> bool {
-    let line = format!(in alloc; "new {pages} pages level {level}\n").expect(rt, "a line");
-    output == line.as_bytes()
+impl<'a> Reading<'a> {
+    /// Takes the option's word, which may come once.
+    fn takes_pool(&mut self, word: &'a str) -> Option<()> {
+        if self.pool.is_some() {
+            return None;
+        }
+        self.pool = Some(word);
+        Some(())
+    }
+
+    /// Takes a word that begins with a dash and has more behind it.
+    fn takes_dashed(&mut self, word: &'a str) -> Option<()> {
+        match word {
+            "--" => self.has_ended = true,
+            "--pool" => self.is_wanted = true,
+            "--pool=8" => self.takes_pool("8")?,
+            "--pool=9" => self.takes_pool("9")?,
+            _ => return None,
+        }
+        Some(())
+    }
+
+    /// Takes the next word.
+    fn takes(&mut self, word: &'a str) -> Option<()> {
+        let is_dashed = word.starts_with("-") && word.len() > 1;
+        if self.is_wanted {
+            self.is_wanted = false;
+            if is_dashed {
+                return None;
+            }
+            self.takes_pool(word)
+        } else if is_dashed && !self.has_ended {
+            self.takes_dashed(word)
+        } else {
+            self.alone.push(word).ok()
+        }
+    }
+
+    /// Takes all words.
+    fn takes_all(&mut self, words: &[&'a str]) -> Option<()> {
+        for word in words {
+            self.takes(word)?;
+        }
+        Some(())
+    }
+
+    /// What the table says of the words that were taken.
+    fn asked(&self) -> Option<Asked> {
+        if self.is_wanted {
+            return None;
+        }
+        by_table(&self.alone, self.pool)
+    }
+}
+
+/// What the table says of the words, read from the first to the last.
+fn expected(alloc: Global, words: &[&str]) -> Option<Asked> {
+    let mut reading = Reading {
+        alone: Vec::new(alloc),
+        pool: None,
+        is_wanted: false,
+        has_ended: false,
+    };
+    match reading.takes_all(words) {
+        Some(()) => reading.asked(),
+        None => None,
+    }
 }
 
 /// Whether a run over no file, of which the table says this, may end so and put this.
-fn is_answer(
-    rt: &impl Abort,
-    alloc: Global,
-    wanted: Option<Asked>,
-    end: End,
-    output: &[u8],
-) -> bool {
-    match wanted {
-        None => end == End::Usage && output.is_empty(),
-        Some(Asked::Run) => end == End::Missing && output.is_empty(),
-        Some(Asked::New(pages, level)) => {
-            if end == End::Done {
-                return is_line_of_new(rt, alloc, pages, level, output);
-            }
-            end == End::Taken && output.is_empty()
+fn is_answer(alloc: Global, wanted: Option<Asked>, ran: &Ran) -> Option<bool> {
+    Some(match wanted {
+        None => has_ended(ran, End::Usage, b""),
+        Some(Asked::Run) => has_ended(ran, End::Missing, b""),
+        Some(Asked::New(pages, level)) if ran.0 == End::Done => {
+            let line = format!(in alloc; "new {pages} pages level {level}\n").ok()?;
+            put_by(&ran.1) == line.as_bytes()
         }
-    }
+        Some(Asked::New(..)) => has_ended(ran, End::Taken, b""),
+    })
 }
 
-/// Compares how a run over no file ended, and what it put, with what the table says.
-fn compares(rt: &impl Abort, alloc: Global, wanted: Option<Asked>, end: End, desk: &Desk) {
-    assert!(rt; is_answer(rt, alloc, wanted, end, put_by(desk)));
-}
-
-/// Does what the words say where there is no file, and compares it with what the table says of them.
-fn reads_as<R: Threads + Sync + Abort>(
+/// Does what the words say where there is no file: whether the run ends as the table says of them.
+fn reads_as<R: Threads + Sync>(
     rt: &R,
     alloc: Global,
     words: &[&str],
     wanted: Option<Asked>,
-) {
-    let (end, desk) = done(rt, alloc, Run::of(words, b""), None);
-    compares(rt, alloc, wanted, end, &desk);
+) -> bool {
+    match done(rt, alloc, Run::of(words, b""), None) {
+        Some(ran) => is_answer(alloc, wanted, &ran) == Some(true),
+        None => false,
+    }
+}
+
+/// Draws words: whether they are in the table.
+fn reads_drawn<R: Threads + Sync>(rt: &R, alloc: Global, state: &mut u64) -> Option<bool> {
+    let words = drawn_words(alloc, state)?;
+    let wanted = expected(alloc, &words);
+    reads_as(rt, alloc, &words, wanted).then_some(wanted.is_some())
 }
 
 #[test]
@@ -190,82 +233,81 @@ fn reads_drawn_lists_of_words(rt: HostRuntime) {
     let mut state = 1;
     let mut taken = 0_u32;
     for _ in 0..400_u32 {
-        let (words, count, after) = drawn_words(state);
-        let words = &words[..count];
-        let wanted = expected(&rt, rt.alloc(), words);
-        reads_as(&rt, rt.alloc(), words, wanted);
-        state = after;
-        taken = taken.saturating_add(u32::from(wanted.is_some()));
+        let read = reads_drawn(&rt, rt.alloc(), &mut state);
+        assert!(rt; read.is_some());
+        taken = taken.saturating_add(u32::from(read == Some(true)));
     }
     assert!(rt; taken > 40);
 }
 
+/// Words that ask for a run, with the option wherever it may stand.
+static TAKEN: [&[&str]; 12] = [
+    &["run", "m"],
+    &["run", "m", "--pool", "8"],
+    &["run", "m", "--pool=8"],
+    &["run", "--pool", "8", "m"],
+    &["run", "--pool=8", "m", "--"],
+    &["--pool", "8", "run", "m"],
+    &["--pool=8", "--", "run", "m"],
+    &["--", "run", "--pool=8"],
+    &["run", "-", "--pool", "4096"],
+    &["trial", "m", "0", "1", "--pool", "8"],
+    &["--pool=8", "trial", "m", "7", "--", "1"],
+    &["trial", "m", "18446744073709551615", "1000000"],
+];
+
 #[test]
 fn reads_the_option_wherever_it_stands(rt: HostRuntime) {
-    let alloc = rt.alloc();
-    let taken: [&[&str]; 12] = [
-        &["run", "m"],
-        &["run", "m", "--pool", "8"],
-        &["run", "m", "--pool=8"],
-        &["run", "--pool", "8", "m"],
-        &["run", "--pool=8", "m", "--"],
-        &["--pool", "8", "run", "m"],
-        &["--pool=8", "--", "run", "m"],
-        &["--", "run", "--pool=8"],
-        &["run", "-", "--pool", "4096"],
-        &["trial", "m", "0", "1", "--pool", "8"],
-        &["--pool=8", "trial", "m", "7", "--", "1"],
-        &["trial", "m", "18446744073709551615", "1000000"],
-    ];
-    for words in taken {
-        reads_as(&rt, alloc, words, Some(Asked::Run));
+    for words in &TAKEN {
+        assert!(rt; reads_as(&rt, rt.alloc(), words, Some(Asked::Run)));
     }
 }
+
+/// Words that the table has not.
+static OTHER_WORDS: [&[&str]; 14] = [
+    &[],
+    &["run"],
+    &["new", "m", "15", "3"],
+    &["new", "m", "16", "13"],
+    &["new", "m", "016", "3"],
+    &["new", "-m", "16", "3"],
+    &["new", "", "16", "3"],
+    &["new", "m", "16", "3", "3"],
+    &["trial", "m", "1"],
+    &["trial", "m", "1", "0"],
+    &["trial", "m", "01", "1"],
+    &["trial", "", "1", "1"],
+    &["trial", "m", "18446744073709551616", "1"],
+    &["trial", "m", "1", "1000001"],
+];
 
 #[test]
 fn refuses_other_words(rt: HostRuntime) {
-    let alloc = rt.alloc();
-    assert_eq!(rt; status_of(End::Usage), 2);
-    let others: [&[&str]; 14] = [
-        &[],
-        &["run"],
-        &["new", "m", "15", "3"],
-        &["new", "m", "16", "13"],
-        &["new", "m", "016", "3"],
-        &["new", "-m", "16", "3"],
-        &["new", "", "16", "3"],
-        &["new", "m", "16", "3", "3"],
-        &["trial", "m", "1"],
-        &["trial", "m", "1", "0"],
-        &["trial", "m", "01", "1"],
-        &["trial", "", "1", "1"],
-        &["trial", "m", "18446744073709551616", "1"],
-        &["trial", "m", "1", "1000001"],
-    ];
-    for words in others {
-        reads_as(&rt, alloc, words, None);
+    for words in &OTHER_WORDS {
+        assert!(rt; reads_as(&rt, rt.alloc(), words, None));
     }
 }
 
+/// Options that the table has not.
+static OTHER_OPTIONS: [&[&str]; 13] = [
+    &["run", "m", "--pool", "7"],
+    &["run", "m", "--pool=4097"],
+    &["run", "m", "--pool", "08"],
+    &["run", "m", "--pool="],
+    &["run", "m", "--pool"],
+    &["run", "m", "--pool", "--", "8"],
+    &["run", "m", "--pool", "8", "--pool", "8"],
+    &["new", "m", "16", "3", "--pool", "8"],
+    &["trial", "m", "1", "1", "--pool", "7"],
+    &["run", "m", "--help"],
+    &["-h"],
+    &["--version"],
+    &["run", "m", "-p", "8"],
+];
+
 #[test]
 fn refuses_other_options(rt: HostRuntime) {
-    let alloc = rt.alloc();
-    let others: [&[&str]; 13] = [
-        &["run", "m", "--pool", "7"],
-        &["run", "m", "--pool=4097"],
-        &["run", "m", "--pool", "08"],
-        &["run", "m", "--pool="],
-        &["run", "m", "--pool"],
-        &["run", "m", "--pool", "--", "8"],
-        &["run", "m", "--pool", "8", "--pool", "8"],
-        &["new", "m", "16", "3", "--pool", "8"],
-        &["trial", "m", "1", "1", "--pool", "7"],
-        &["run", "m", "--help"],
-        &["-h"],
-        &["--version"],
-        &["run", "m", "-p", "8"],
-    ];
-    for words in others {
-        reads_as(&rt, alloc, words, None);
+    for words in &OTHER_OPTIONS {
+        assert!(rt; reads_as(&rt, rt.alloc(), words, None));
     }
 }

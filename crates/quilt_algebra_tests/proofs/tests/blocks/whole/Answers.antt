@@ -3,16 +3,16 @@ use Rattle.quilt_types.specs.Plane.{whole, IsBlock}
 use Rattle.quilt_loc.proofs.Quartered.{IsBlock-whole}
 use Rattle.quilt_loc.proofs.Intervals.{origin_code}
 use Rattle.quilt_blocks.specs.Painting.{Painted}
-use Rattle.quilt_algebra_tests.proofs.tests.blocks.one_leaf.Goals as goal
+use Rattle.quilt_algebra_tests.proofs.tests.blocks.whole.Goals as goal
 
 pub push-requires-clause-valid : goal.push-requires-clause-valid
-push-requires-clause-valid g c = subst (λ (m : Painted). IsBlock m.level (whole 1)) (sym c.new-maker.ensures) (IsBlock-whole 1)
+push-requires-clause-valid c = subst (λ (m : Painted). IsBlock m.level (whole 1)) (sym c.new-maker.ensures) (IsBlock-whole 1)
 
 pub push-requires-clause-next : goal.push-requires-clause-next
-push-requires-clause-next g c = origin_code ∙ sym (ap (λ (m : Painted). length m.colours) c.new-maker.ensures)
+push-requires-clause-next c = origin_code ∙ sym (ap (λ (m : Painted). length m.colours) c.new-maker.ensures)
 
-pub finish-list-requires : goal.finish-list-requires
-finish-list-requires g c =
+pub finish-requires : goal.finish-requires
+finish-requires c =
     let z = origin_code in
     let e = c.in_ok-push.ensures.end in
     let l = ap (λ (m : Painted). 4 ^ m.level) (c.in_ok-push.ensures.ok) in
