@@ -240,35 +240,56 @@ begin() {
     sh -c 'echo "$$" >>"$1"; shift; exec "$@"' sh "$out/rt.pid" "$@"
 }
 
-# ahead NAME..: proves these crates one after the other, with as many processes as rt gives to one that no other is proved beside
+# ahead NAME..: proves these crates one after the other, each with the number of processes that RT_JOBS says, or else with as many as rt gives to one
+# that no other is proved beside
 ahead() {
     for name in "$@"; do
         # shellcheck disable=SC2086 # no word, or two
-        begin env -u RT_JOBS -u CI $lets_through rt ci "$name" || return
+        begin env -u CI $lets_through rt ci "$name" || return
     done
 }
 
-# beside AHEAD NAME..: proves the crates of the first word ahead, and the others side by side behind them. Each run takes what another has proved, and waits for
-# what another is proving, for which one process more is at work.
-beside() {
-    # shellcheck disable=SC2086 # the names of crates are plain words
-    ahead $1 &
-    chain=$!
+# behind MORE NAME..: proves these crates side by side, behind what is proved ahead. Each run takes what another has proved, and waits for what another is
+# proving, for which so many processes more are at work.
+behind() {
+    jobs=$(($(lanes) + $1))
     shift
-    RT_JOBS=$(($(lanes) + 1)) begin env -u CI nice -n 5 rt ci "$@"
-    status=$?
-    wait "$chain" && return "$status"
+    # shellcheck disable=SC2086 # no word, or two
+    begin env -u CI RT_JOBS="$jobs" nice -n 5 $lets_through rt ci "$@"
+}
+
+# tree_first NAME..: proves the tree with several processes, and then these crates, among which are those that stand on it
+tree_first() {
+    (unset RT_JOBS && ahead quilt_btree) && behind 2 "$@"
 }
 
 # Proves most of what the program stands on. Where crates can be proved side by side, rt gives one process to each, and would end with the longest chain of
-# them alone. So the largest of that chain are proved ahead, with several processes: the tree and the lines, beside all that lies below the session, and then
-# the session, beside what need not lie there.
+# them alone. So what most of the others wait for is proved ahead: what all stand on, with several processes; the tree, with several too, and the language, whose
+# crates stand on each other, beside what stands on neither; then all that lies below the session; and then the session, beside what need not lie there. No run
+# that gives one process to each may come to the tree first, so the one beside it has nothing that stands on it.
 prove_most() {
     # A shell has what it puts into the background pass over interrupts, which have to come to rt.
     lets_through=
     ! env --default-signal=INT true 2>/dev/null || lets_through='env --default-signal=INT'
+    (unset RT_JOBS && ahead quilt_types) || return
     # shellcheck disable=SC2046 # the names of crates are plain words
-    beside 'quilt_btree quilt_lines' $(below quilt_map | free_of quilt_lines) && beside quilt_map $(stands_on quilt | free_of quilt_map)
+    tree_first $(below quilt_map) &
+    tree=$!
+    (RT_JOBS=1 && export RT_JOBS && ahead quilt_words quilt_lang quilt_replies) &
+    language=$!
+    # shellcheck disable=SC2046
+    behind 0 $(below quilt_map | free_of quilt_btree | free_of quilt_words)
+    rest=$?
+    wait "$tree"
+    tree=$?
+    wait "$language"
+    [ "$? $tree $rest" = '0 0 0' ] || return 1
+    (unset RT_JOBS && ahead quilt_map) &
+    session=$!
+    # shellcheck disable=SC2046
+    behind 1 $(stands_on quilt | free_of quilt_map)
+    rest=$?
+    wait "$session" && return "$rest"
 }
 
 # Proves and builds the program, as the gate does: rt runs it too. Where one process is to work at a time, or rt keeps nothing, one run proves all.
@@ -417,7 +438,7 @@ tell_origin() {
         [ "$found" != "$released" ] || by=", which was built with $(word_of "$here/release/digests" kit)"
         echo "Program: $program, of these sources$by"
     else
-        echo "Program: none of these sources. The first call proves and builds it, which took 114 minutes of the processor, 48 on the clock of four that did"
-        echo "other work too, and 2 GB of disk, with 2 GB of memory for each processor and 2 GB more"
+        echo "Program: none of these sources. The first call proves and builds it, which took 61 minutes of the processor, 25 on the clock of four that did"
+        echo "nothing else, and 2 GB of disk, with 2 GB of memory for each processor and 2 GB more"
     fi
 }
