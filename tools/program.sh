@@ -438,7 +438,7 @@ tell_origin() {
         [ "$found" != "$released" ] || by=", which was built with $(word_of "$here/release/digests" kit)"
         echo "Program: $program, of these sources$by"
     else
-        echo "Program: none of these sources. The first call proves and builds it, which took 61 minutes of the processor, 25 on the clock of four that did"
+        echo "Program: none of these sources. The first call proves and builds it, which took 65 minutes of the processor, 22 on the clock of four that did"
         echo "nothing else, and 2 GB of disk, with 2 GB of memory for each processor and 2 GB more"
     fi
 }
