@@ -47,6 +47,9 @@ pub fn drawn_layer(alloc: Global, level: u8, seed: u64) -> Result<Even, Fail> {
     Ok(layer)
 }
 
+/// The sides of blocks over which the same segments are tried.
+pub static SIDES: [u16; 4] = [1, 2, 4, 8];
+
 /// These segments of the square of level 3, over blocks of one side.
 pub fn small_layer(alloc: Global, side: u16, segs: &[(u32, Seg)]) -> Result<Even, Fail> {
     let mut list = SegList::new(alloc);
@@ -105,8 +108,7 @@ pub fn drawn_colours(alloc: Global, level: u8, seed: u64) -> Result<Vec<u8>, All
     let mut state = seed;
     for _ in 0..1_u32 << (2 * level) {
         state = next_state(state);
-        bytes.push(0)?;
-        bytes.push(if state >> 60 == 0 { 7 } else { 0 })?;
+        bytes.extend_from_slice(&[0, if state >> 60 == 0 { 7 } else { 0 }])?;
     }
     Ok(bytes)
 }

@@ -33,20 +33,31 @@ fn by_rank(a: &Far, b: &Far) -> Ordering {
     left.cmp(&right).then(a.2.cmp(&b.2))
 }
 
+/// All segments by distance and then id.
+fn sorted(alloc: Global, segs: &SegList, p: Pixel) -> Result<Vec<Far>, AllocError> {
+    let mut all = Vec::new(alloc);
+    for (id, s) in segs.items() {
+        all.push(far_of(p, *id, *s))?;
+    }
+    all.sort_by(|a, b| by_rank(a, b))?;
+    Ok(all)
+}
+
+/// An id with its distance as a fraction.
+fn rank_of(far: &Far) -> (u32, Frac) {
+    (far.2, Frac::of(far.0, far.1.max(1)))
+}
+
 /// All segments by distance and then id, each with its distance.
 pub fn plain_ranks(
     alloc: Global,
     segs: &SegList,
     p: Pixel,
 ) -> Result<Vec<(u32, Frac)>, AllocError> {
-    let mut all = Vec::new(alloc);
-    for (id, s) in segs.items() {
-        all.push(far_of(p, *id, *s))?;
-    }
-    all.sort_by(|a, b| by_rank(a, b))?;
+    let all = sorted(alloc, segs, p)?;
     let mut ranks = Vec::new(alloc);
-    for (num, den, id) in &all {
-        ranks.push((*id, Frac::of(*num, (*den).max(1))))?;
+    for far in &all {
+        ranks.push(rank_of(far))?;
     }
     Ok(ranks)
 }

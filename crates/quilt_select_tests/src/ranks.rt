@@ -1,5 +1,6 @@
 use crate::asking::{nearest_of, new_store, ranks_of};
-use crate::drawing::{between, small_layer};
+use crate::drawing::{SIDES, between, small_layer};
+use quilt_clip::Frac;
 use quilt_near::Even;
 use quilt_store::MemStore;
 use quilt_types::Pixel;
@@ -17,51 +18,88 @@ fn four(alloc: Global, side: u16) -> Result<Even, Fail> {
     small_layer(alloc, side, &segs)
 }
 
-/// The ids of the first k with both parts of their distances.
-fn first(alloc: Global, layer: &Even, p: Pixel, k: u32) -> Result<Vec<(u32, u64, u64)>, Fail> {
-    let mut store = new_store(alloc)?;
-    let list = ranks_of(alloc, layer, &mut store, p, k)?;
-    let mut ranks = Vec::new(alloc);
-    for (id, far) in list.items() {
-        ranks.push((*id, far.num(), far.den()))?;
-    }
-    Ok(ranks)
+/// An id with both parts of its distance.
+type Rank = (u32, u64, u64);
+
+/// The id of a segment with both parts of its distance.
+fn rank_of(found: &(u32, Frac)) -> Rank {
+    (found.0, found.1.num(), found.1.den())
+}
+
+/// Whether these are the ids and the distances of the list.
+fn has_ranks(list: &[(u32, Frac)], ranks: &[Rank]) -> bool {
+    let are_same = list
+        .iter()
+        .zip(ranks.iter())
+        .all(|(found, rank)| rank_of(found) == *rank);
+    are_same && list.len() == ranks.len()
 }
 
 /// Whether the first k have these ids and distances.
-fn are_first(
+fn are_first(alloc: Global, layer: &Even, p: Pixel, k: u32, ranks: &[Rank]) -> Result<bool, Fail> {
+    let mut store = new_store(alloc)?;
+    let list = ranks_of(alloc, layer, &mut store, p, k)?;
+    Ok(has_ranks(list.items(), ranks))
+}
+
+/// Whether the first k of the four segments over blocks of one side have these ids and distances.
+fn are_first_of_four(
     alloc: Global,
-    layer: &Even,
+    side: u16,
     p: Pixel,
     k: u32,
-    ranks: &[(u32, u64, u64)],
+    ranks: &[Rank],
 ) -> Result<bool, Fail> {
-    Ok(first(alloc, layer, p, k)?.as_slice() == ranks)
+    let layer = four(alloc, side)?;
+    are_first(alloc, &layer, p, k, ranks)
 }
+
+/// How many segments are asked for at a pixel, and which come.
+type Case = (Pixel, u32, &'static [Rank]);
+
+/// Whether just these come, over blocks of each side.
+fn are_first_everywhere(alloc: Global, case: &Case) -> Result<bool, Fail> {
+    let (p, k, ranks) = *case;
+    let mut are_first = true;
+    for side in &SIDES {
+        are_first = are_first && are_first_of_four(alloc, *side, p, k, ranks)?;
+    }
+    Ok(are_first)
+}
+
+/// One or both of two segments at one distance.
+static TIES: [Case; 2] = [
+    (Pixel { x: 1, y: 1 }, 1, &[(3, 1, 1)]),
+    (Pixel { x: 1, y: 1 }, 2, &[(3, 1, 1), (5, 1, 1)]),
+];
 
 #[test]
 fn equal_distances_go_by_id(rt: HostRuntime) -> Result<(), Fail> {
-    let p = Pixel { x: 1, y: 1 };
-    let one = [(3, 1, 1)];
-    let both = [(3, 1, 1), (5, 1, 1)];
-    for side in [1, 2, 4, 8] {
-        let layer = four(rt.alloc(), side)?;
-        assert!(rt; are_first(rt.alloc(), &layer, p, 1, &one)?);
-        assert!(rt; are_first(rt.alloc(), &layer, p, 2, &both)?);
+    for case in &TIES {
+        assert!(rt; are_first_everywhere(rt.alloc(), case)?, "{case:?}");
     }
     Ok(())
 }
 
+/// Fewer segments than there are, as many, and more.
+static COUNTS: [Case; 3] = [
+    (Pixel { x: 6, y: 7 }, 3, &[(7, 1, 2), (9, 1, 1), (3, 34, 1)]),
+    (
+        Pixel { x: 6, y: 7 },
+        4,
+        &[(7, 1, 2), (9, 1, 1), (3, 34, 1), (5, 58, 1)],
+    ),
+    (
+        Pixel { x: 6, y: 7 },
+        9,
+        &[(7, 1, 2), (9, 1, 1), (3, 34, 1), (5, 58, 1)],
+    ),
+];
+
 #[test]
 fn all_come_where_there_are_no_more_than_k(rt: HostRuntime) -> Result<(), Fail> {
-    let p = Pixel { x: 6, y: 7 };
-    let three = [(7, 1, 2), (9, 1, 1), (3, 34, 1)];
-    let all = [(7, 1, 2), (9, 1, 1), (3, 34, 1), (5, 58, 1)];
-    for side in [1, 2, 4, 8] {
-        let layer = four(rt.alloc(), side)?;
-        assert!(rt; are_first(rt.alloc(), &layer, p, 3, &three)?);
-        assert!(rt; are_first(rt.alloc(), &layer, p, 4, &all)?);
-        assert!(rt; are_first(rt.alloc(), &layer, p, 9, &all)?);
+    for case in &COUNTS {
+        assert!(rt; are_first_everywhere(rt.alloc(), case)?, "{case:?}");
     }
     Ok(())
 }
@@ -80,27 +118,49 @@ fn is_nearest_first(
     }
 }
 
+/// The first pixel of a layer of level 3 at which that is not so, if there is one.
+fn first_other(alloc: Global, layer: &Even, store: &mut MemStore) -> Result<Option<Pixel>, Fail> {
+    for place in 0..64_u16 {
+        let p = Pixel {
+            x: place / 8,
+            y: place % 8,
+        };
+        if !is_nearest_first(alloc, layer, store, p)? {
+            return Ok(Some(p));
+        }
+    }
+    Ok(None)
+}
+
+/// The same of the four segments over blocks of one side.
+fn first_other_of_four(alloc: Global, side: u16) -> Result<Option<Pixel>, Fail> {
+    let mut store = new_store(alloc)?;
+    let layer = four(alloc, side)?;
+    first_other(alloc, &layer, &mut store)
+}
+
 #[test]
 fn the_first_is_the_nearest(rt: HostRuntime) -> Result<(), Fail> {
-    let mut store = new_store(rt.alloc())?;
-    for side in [1, 2, 4, 8] {
-        let layer = four(rt.alloc(), side)?;
-        for x in 0..8_u16 {
-            for y in 0..8_u16 {
-                assert!(rt; is_nearest_first(rt.alloc(), &layer, &mut store, Pixel { x, y })?);
-            }
-        }
+    for side in &SIDES {
+        let other = first_other_of_four(rt.alloc(), *side)?;
+        assert!(rt; other.is_none(), "side {side}: {other:?}");
     }
     Ok(())
 }
 
+/// Whether a layer without segments has no first k, over blocks of one side.
+fn has_no_first(alloc: Global, side: u16, k: u32) -> Result<bool, Fail> {
+    let none = small_layer(alloc, side, &[])?;
+    are_first(alloc, &none, Pixel { x: 6, y: 7 }, k, &[])
+}
+
 #[test]
 fn an_empty_layer_has_no_first(rt: HostRuntime) -> Result<(), Fail> {
-    let p = Pixel { x: 6, y: 7 };
-    for side in [1, 8] {
-        let none = small_layer(rt.alloc(), side, &[])?;
-        assert!(rt; are_first(rt.alloc(), &none, p, 1, &[])?);
-        assert!(rt; are_first(rt.alloc(), &none, p, 3, &[])?);
+    for (side, k) in &[(1, 1), (1, 3), (8, 1), (8, 3)] {
+        assert!(rt;
+            has_no_first(rt.alloc(), *side, *k)?,
+            "side {side}, first {k}"
+        );
     }
     Ok(())
 }
