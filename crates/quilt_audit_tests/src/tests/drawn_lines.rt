@@ -3,7 +3,6 @@ use super::lines::{bare, lines, met};
 use quilt_plain_pages::{Line, LineLayer, Span, size};
 use quilt_record::Record;
 use std::alloc::{AllocError, Global};
-use std::process::Abort;
 use std::test::Fail;
 
 /// The greatest exponent, at most this one, of a block that begins at the code.
@@ -99,27 +98,46 @@ fn disturb(draw: &mut Draw, records: &mut Vec<Record>) -> Result<(), AllocError>
     Ok(())
 }
 
-/// Draws a layer and disturbs it, and compares what an audit answers.
-fn try_one(rt: &impl Abort, alloc: Global, draw: &mut Draw, tally: &mut Tally) -> Result<(), Fail> {
+/// The records of a drawn layer.
+fn drawn_records(
+    alloc: Global,
+    draw: &mut Draw,
+    layer: LineLayer,
+) -> Result<Vec<Record>, AllocError> {
+    let blocks = drawn_blocks(alloc, draw, layer.level)?;
+    let lines = drawn_lines(alloc, draw, layer.level)?;
+    layer.records(alloc, &blocks, &lines)
+}
+
+/// Whether an audit answers of these records what it has to.
+fn is_answered(
+    alloc: Global,
+    draw: &mut Draw,
+    layer: LineLayer,
+    records: &[Record],
+    tally: &mut Tally,
+) -> Result<bool, Fail> {
+    let is_layer = layer.is_spelled(alloc, records)?;
+    let wanted = tally.wanted(rise(records), is_layer);
+    let first = lines((1 + draw.below(32)) as u8);
+    Ok(answered(alloc, first, records, layer.level)? == wanted)
+}
+
+/// Draws a layer and disturbs it, and tells whether an audit answers of it what it has to.
+fn agrees(alloc: Global, draw: &mut Draw, tally: &mut Tally) -> Result<bool, Fail> {
     let level = draw.of_four(3);
     let layer = LineLayer { number: 1, level };
-    let blocks = drawn_blocks(alloc, draw, level)?;
-    let drawn = drawn_lines(alloc, draw, level)?;
-    let mut records = layer.records(alloc, &blocks, &drawn)?;
+    let mut records = drawn_records(alloc, draw, layer)?;
     disturb(draw, &mut records)?;
-    let is_layer = layer.is_spelled(alloc, &records)?;
-    let wanted = tally.wanted(rise(&records), is_layer);
-    let first = lines((1 + draw.below(32)) as u8);
-    assert_eq!(rt; answered(alloc, first, &records, level)?, wanted);
-    Ok(())
+    is_answered(alloc, draw, layer, &records, tally)
 }
 
 #[test]
 fn drawn_line_layers(rt: HostRuntime) -> Result<(), Fail> {
     let mut draw = Draw(1986);
     let mut tally = Tally::new();
-    for _round in 0..400_u32 {
-        try_one(&rt, rt.alloc(), &mut draw, &mut tally)?;
+    for round in 0..400_u32 {
+        assert!(rt; agrees(rt.alloc(), &mut draw, &mut tally)?, "round {round}");
     }
     assert!(rt; tally.taken >= 60);
     assert!(rt; tally.refused >= 200);

@@ -2,7 +2,6 @@ use super::drawing::{Draw, Tally, answered, changed, rise};
 use quilt_plain_pages::{PointLayer, blank, entry};
 use quilt_record::Record;
 use std::alloc::{AllocError, Global};
-use std::process::Abort;
 use std::test::Fail;
 
 /// Labels of points at drawn pixels of a square of this level, each at the code of its pixel.
@@ -31,27 +30,41 @@ fn entry_of(bucket: u8) -> Record {
     entry(1, b'p', 2, if bucket == 1 { 0 } else { bucket })
 }
 
-/// Draws a layer and disturbs it, and compares what an audit answers.
-fn try_one(
-    rt: &impl Abort,
+/// The records of a drawn layer, disturbed.
+fn drawn_records(
     alloc: Global,
     draw: &mut Draw,
     round: u32,
+    layer: PointLayer,
+) -> Result<Vec<Record>, AllocError> {
+    let labels = drawn(alloc, draw, layer.level)?;
+    let mut records = layer.records(alloc, &labels)?;
+    disturb(draw, round, &mut records);
+    Ok(records)
+}
+
+/// Whether an audit answers of these records what it has to.
+fn is_answered(
+    alloc: Global,
+    layer: PointLayer,
+    records: &[Record],
     tally: &mut Tally,
-) -> Result<(), Fail> {
+) -> Result<bool, Fail> {
+    let is_layer = layer.is_spelled(alloc, records)?;
+    let wanted = tally.wanted(rise(records), is_layer);
+    Ok(answered(alloc, entry_of(layer.bucket), records, layer.level)? == wanted)
+}
+
+/// Draws a layer and disturbs it, and tells whether an audit answers of it what it has to.
+fn agrees(alloc: Global, draw: &mut Draw, round: u32, tally: &mut Tally) -> Result<bool, Fail> {
     let (level, bucket) = (draw.of_four(3), draw.of_four(4));
     let layer = PointLayer {
         number: 1,
         level,
         bucket,
     };
-    let mut records = layer.records(alloc, &drawn(alloc, draw, level)?)?;
-    disturb(draw, round, &mut records);
-    let is_layer = layer.is_spelled(alloc, &records)?;
-    let wanted = tally.wanted(rise(&records), is_layer);
-    let found = answered(alloc, entry_of(bucket), &records, level)?;
-    assert_eq!(rt; found, wanted);
-    Ok(())
+    let records = drawn_records(alloc, draw, round, layer)?;
+    is_answered(alloc, layer, &records, tally)
 }
 
 #[test]
@@ -59,7 +72,10 @@ fn drawn_point_layers(rt: HostRuntime) -> Result<(), Fail> {
     let mut draw = Draw(1990);
     let mut tally = Tally::new();
     for round in 0..600_u32 {
-        try_one(&rt, rt.alloc(), &mut draw, round, &mut tally)?;
+        assert!(rt;
+            agrees(rt.alloc(), &mut draw, round, &mut tally)?,
+            "round {round}"
+        );
     }
     assert!(rt; tally.taken >= 200);
     assert!(rt; tally.refused >= 250);

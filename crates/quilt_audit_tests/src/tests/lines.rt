@@ -1,6 +1,6 @@
 use super::planted::{NO_MAP, map_of, refusal_of, spell_maps, spell_no_map};
 use quilt_plain_pages::entry;
-use quilt_record::{Key, Record};
+use quilt_record::{Entry, Key, Record};
 use quilt_types::Kind;
 use std::alloc::Global;
 use std::test::Fail;
@@ -46,12 +46,18 @@ fn segment(id: u32, x1: u8, y1: u8, x2: u8, y2: u8) -> Record {
     }
 }
 
+/// The kind of the layer of a catalog that has one.
+fn only_kind(entries: &[Entry]) -> Option<Kind> {
+    match entries {
+        [one] => Some(one.kind),
+        _ => None,
+    }
+}
+
 /// Whether a map of these records in format 1 has one layer, of this kind.
 pub fn has_kind(alloc: Global, records: &[Record], kind: Kind) -> Result<bool, Fail> {
     let survey = map_of(alloc, records, 1)?;
-    let mut entries = survey.catalog.entries().iter();
-    let first = entries.next().map(|e| e.kind);
-    Ok(first == Some(kind) && entries.next().is_none())
+    Ok(only_kind(survey.catalog.entries()) == Some(kind))
 }
 
 #[test]

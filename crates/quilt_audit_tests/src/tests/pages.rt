@@ -1,10 +1,10 @@
 use super::planted::{BLANK, Said, leaf_page, spell_no_map, stored, surveyed};
-use quilt_audit::{Survey, audit};
+use quilt_audit::audit;
 use quilt_node::{Head, InnerPage};
-use quilt_plain_pages::entry;
+use quilt_plain_pages::{Page, entry};
 use quilt_record::{Key, Record};
 use quilt_types::Stop;
-use std::alloc::Global;
+use std::alloc::{AllocError, Global};
 use std::test::Fail;
 
 #[test]
@@ -18,8 +18,8 @@ fn records_that_are_no_catalog(rt: HostRuntime) -> Result<(), Fail> {
     spell_no_map(&rt, rt.alloc(), 1, &lists)
 }
 
-/// What an audit finds of an edition without a tree.
-fn without_tree(alloc: Global) -> Result<Survey, Fail> {
+/// What an audit finds of an edition without a tree: how many layers there are, and which of the first eight pages are used.
+fn without_tree(alloc: Global) -> Result<(usize, u8), Fail> {
     let mut store = stored(alloc, &BLANK, &BLANK)?;
     let empty = Head {
         format: 1,
@@ -30,24 +30,22 @@ fn without_tree(alloc: Global) -> Result<Survey, Fail> {
         records: 0,
     };
     match audit(alloc, &mut store, &empty, 16) {
-        Ok(survey) => Ok(survey),
+        Ok(survey) => Ok((survey.catalog.entries().len(), survey.used[0])),
         Err(_) => Err(Fail::from("a map")),
     }
 }
 
 #[test]
 fn no_tree(rt: HostRuntime) -> Result<(), Fail> {
-    let survey = without_tree(rt.alloc())?;
-    assert_eq!(rt; survey.catalog.entries().len(), 0);
-    assert_eq!(rt; survey.used[0], 0);
+    assert_eq!(rt; without_tree(rt.alloc())?, (0, 0));
     Ok(())
 }
 
 /// The page that an audit names of a file with these as the pages 1 and 2, whose tree has this height and so many records.
 fn named(
     alloc: Global,
-    one: &[u8; 4096],
-    two: &[u8; 4096],
+    one: &Page,
+    two: &Page,
     height: u8,
     records: u32,
 ) -> Result<Option<Stop>, Fail> {
@@ -61,19 +59,16 @@ fn named(
 }
 
 /// A leaf of 72 layers under one name, from the number 0 on.
-fn leaf_of_72(alloc: Global) -> Result<[u8; 4096], Fail> {
+fn leaf_of_72(alloc: Global) -> Result<Page, AllocError> {
     let mut records = Vec::new(alloc);
     for number in 0..72 {
         records.push(entry(number, b'a', 1, 0))?;
-    }
-    if records.len() > 144 {
-        return Err(Fail::from("72 records"));
     }
     Ok(leaf_page(&records))
 }
 
 /// An inner page with page 2 twice.
-fn twice(k: &Key) -> [u8; 4096] {
+fn twice(k: &Key) -> Page {
     *InnerPage::pair(2, 2, k, 2).bytes()
 }
 

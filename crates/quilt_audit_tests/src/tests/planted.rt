@@ -1,9 +1,9 @@
-ghost use Rattle.std.specs.Prelude.{◌≡◌, ◌≤◌, length, IfOk, IfSome};
+ghost use Rattle.std.specs.Prelude.{◌≡◌, IfOk, IfSome};
 ghost use Rattle.quilt_node.specs.Pages.{IsHead};
 
 use quilt_audit::{Survey, audit};
 use quilt_node::Head;
-use quilt_plain_pages::put_page;
+use quilt_plain_pages::{Page, offset, put_page};
 use quilt_record::{Record, key_bytes};
 use quilt_store::{MemStore, PageStore};
 use quilt_types::Stop;
@@ -11,28 +11,29 @@ use std::alloc::Global;
 use std::process::Abort;
 use std::test::Fail;
 
-/// The bytes of a leaf page with these records, at most 144.
-pub fn leaf_page(records: &[Record]) -> [u8; 4096]
-    requires { length records.now ≤ 144 }
-{
-    let mut page = [0; 4096];
-    page[0] = 1;
-    page[1] = 1;
-    page[3] = records.len() as u8;
-    let mut at = 64;
-    for r in records {
-        if at > 4068 {
-            return page;
+/// Puts bytes into a page from a place on, as far as the page goes.
+fn put(page: &mut Page, from: usize, bytes: &[u8]) {
+    for (i, b) in bytes.iter().enumerate() {
+        if let Some(byte) = page.get_mut(from.wrapping_add(i)) {
+            *byte = *b;
         }
-        page[at..at + 12].copy_from_slice(&key_bytes(&r.key));
-        page[at + 12..at + 28].copy_from_slice(&r.value);
-        at += 28;
+    }
+}
+
+/// The bytes of a leaf page with these records, as far as they fit.
+pub fn leaf_page(records: &[Record]) -> Page {
+    let mut page = [0; 4096];
+    let count = u8::try_from(records.len()).unwrap_or(0);
+    put(&mut page, 0, &[1, 1, 0, count]);
+    for (i, r) in records.iter().enumerate() {
+        put(&mut page, offset(64, i, 28), &key_bytes(&r.key));
+        put(&mut page, offset(76, i, 28), &r.value);
     }
     page
 }
 
 /// A store of 16 pages with these as the pages 1 and 2.
-pub fn stored(alloc: Global, one: &[u8; 4096], two: &[u8; 4096]) -> Result<MemStore, Fail>
+pub fn stored(alloc: Global, one: &Page, two: &Page) -> Result<MemStore, Fail>
     ensures { IfOk result (λ s. ⟦<MemStore as PageStore>⟧.size s ≡ 16) }
 {
     let mut store = MemStore::new(alloc, 16)?;
@@ -42,7 +43,7 @@ pub fn stored(alloc: Global, one: &[u8; 4096], two: &[u8; 4096]) -> Result<MemSt
 }
 
 /// A page of zeros.
-pub const BLANK: [u8; 4096] = [0; 4096];
+pub const BLANK: Page = [0; 4096];
 
 /// What the header of a map says whose tree has its root at page 1.
 #[derive(Clone, Copy)]
@@ -82,8 +83,8 @@ fn head_of(said: Said) -> Option<Head>
 /// What an audit answers of a file with these as the pages 1 and 2.
 pub fn surveyed(
     alloc: Global,
-    one: &[u8; 4096],
-    two: &[u8; 4096],
+    one: &Page,
+    two: &Page,
     said: Said,
 ) -> Result<Result<Survey, Stop>, Fail> {
     let Some(head) = head_of(said) else {
