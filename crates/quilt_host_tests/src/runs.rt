@@ -65,6 +65,24 @@ fn done<R: Threads + Sync>(rt: &R, alloc: Global, words: &[&str], system: Memory
     (end, world.into_system())
 }
 
+/// What a run with this status left, which put these bytes, and left a file of these.
+fn left_of(alloc: Global, status: u8, output: &[u8], file: &[u8]) -> Result<Left, AllocError> {
+    let output = Vec::from_slice(alloc, output)?;
+    Ok(Left {
+        status,
+        output,
+        file: Vec::from_slice(alloc, file)?,
+    })
+}
+
+/// The bytes of the file of a system, none where it has no file.
+fn file_in(system: &Memory) -> &[u8] {
+    match system.file() {
+        Some(bytes) => bytes,
+        None => &[],
+    }
+}
+
 /// Does what the words ask for over a system in memory.
 fn left_by<R: Threads + Sync>(
     rt: &R,
@@ -75,24 +93,29 @@ fn left_by<R: Threads + Sync>(
     weather: Weather,
 ) -> Result<Left, AllocError> {
     let (end, system) = done(rt, alloc, words, system_of(alloc, file, input, weather)?);
-    let file = match system.file() {
-        Some(bytes) => Vec::from_slice(alloc, bytes)?,
-        None => Vec::new(alloc),
-    };
-    Ok(Left {
-        status: end.status(),
-        output: Vec::from_slice(alloc, system.output())?,
-        file,
-    })
+    left_of(alloc, end.status(), system.output(), file_in(&system))
 }
 
-/// The bytes of the pages of a file.
-fn bytes_of(alloc: Global, file: &Image) -> Result<Vec<u8>, AllocError> {
-    let mut bytes = Vec::new(alloc);
+/// Adds the bytes of the pages of a file.
+fn add_pages(bytes: &mut Vec<u8>, file: &Image) -> Result<(), AllocError> {
     for i in 0..file.pages() {
         bytes.extend_from_slice(file.page(i))?;
     }
-    Ok(bytes)
+    Ok(())
+}
+
+/// The same of a run over a desk, which left this file.
+fn left_with(
+    alloc: Global,
+    status: u8,
+    output: &[u8],
+    file: Option<&Image>,
+) -> Result<Left, AllocError> {
+    let mut left = left_of(alloc, status, output, &[])?;
+    if let Some(image) = file {
+        add_pages(&mut left.file, image)?;
+    }
+    Ok(left)
 }
 
 /// What the commands of the input leave of the file `m` over a desk, the other world in memory.
@@ -103,15 +126,7 @@ fn left_on_desk<R: Threads + Sync>(
     input: &[u8],
 ) -> Result<Left, AllocError> {
     let (end, desk) = Run::text(input).over(rt, alloc, Some(file))?;
-    let file = match desk.image() {
-        Some(image) => bytes_of(alloc, image)?,
-        None => Vec::new(alloc),
-    };
-    Ok(Left {
-        status: end.status(),
-        output: Vec::from_slice(alloc, desk.output())?,
-        file,
-    })
+    left_with(alloc, end.status(), desk.output(), desk.image())
 }
 
 /// What `new m PAGES 3` leaves in this weather.
@@ -136,8 +151,8 @@ pub fn desk_ran<R: Threads + Sync + Abort>(rt: &R, alloc: Global, input: &[u8]) 
     left_on_desk(rt, alloc, file, input).expect(rt, "memory")
 }
 
-/// The file that `new m 16 3` makes over a desk.
-pub fn desk_made<R: Threads + Sync + Abort>(rt: &R, alloc: Global) -> Vec<u8> {
+/// What `new m 16 3` has to leave: the file that it makes over a desk.
+pub fn desk_made<R: Threads + Sync + Abort>(rt: &R, alloc: Global) -> Left {
     let file = file_of(rt, alloc, "16", "3").expect(rt, "a file");
-    bytes_of(alloc, &file).expect(rt, "memory")
+    left_with(alloc, 0, b"new 16 pages level 3\n", Some(&file)).expect(rt, "memory")
 }
