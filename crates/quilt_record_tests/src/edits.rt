@@ -27,36 +27,49 @@ fn records(alloc: Global, all: &[(u32, u8)]) -> Result<Vec<Record>, AllocError> 
     Ok(list)
 }
 
-/// Why these records cannot be removed and added.
-fn refusal(
+/// Whether the records are those of these codes and first bytes.
+fn are_records(found: &[Record], all: &[(u32, u8)]) -> bool {
+    found.len() == all.len()
+        && found
+            .iter()
+            .zip(all)
+            .all(|(r, (code, first))| *r == record(*code, *first))
+}
+
+/// The edits by which these records are removed and added, or why they cannot be edits.
+fn edits(
     alloc: Global,
     remove: &[(u32, u8)],
     add: &[(u32, u8)],
-) -> Result<Option<Stop>, AllocError> {
-    Ok(edits_of(records(alloc, remove)?, records(alloc, add)?).err())
+) -> Result<Result<Edits, Stop>, AllocError> {
+    let remove = records(alloc, remove)?;
+    Ok(edits_of(remove, records(alloc, add)?))
 }
 
 #[test]
 fn both_lists_are_put_in_order(rt: HostRuntime) -> Result<(), Fail> {
-    let remove = records(rt.alloc(), &[(7, 0), (2, 0), (5, 0)])?;
-    let add = records(rt.alloc(), &[(5, 1), (1, 0)])?;
-    let edits = edits_of(remove, add)?;
-    let removed = records(rt.alloc(), &[(2, 0), (5, 0), (7, 0)])?;
-    assert_eq!(rt; edits.remove.records(), removed.as_slice());
-    let added = records(rt.alloc(), &[(1, 0), (5, 1)])?;
-    assert_eq!(rt; edits.add.records(), added.as_slice());
+    let edits = edits(rt.alloc(), &[(7, 0), (2, 0), (5, 0)], &[(5, 1), (1, 0)])??;
+    assert!(rt; are_records(edits.remove.records(), &[(2, 0), (5, 0), (7, 0)]));
+    assert!(rt; are_records(edits.add.records(), &[(1, 0), (5, 1)]));
     Ok(())
+}
+
+/// Records that cannot be removed and others that cannot be added, since a key comes twice or a record goes and comes.
+static REFUSED: [(&[(u32, u8)], &[(u32, u8)]); 3] = [
+    (&[(3, 0), (4, 0), (3, 1)], &[]),
+    (&[], &[(3, 0), (3, 0)]),
+    (&[(3, 0), (4, 0)], &[(5, 0), (4, 0)]),
+];
+
+/// Whether these records are refused as damaged.
+fn is_refused(alloc: Global, remove: &[(u32, u8)], add: &[(u32, u8)]) -> Result<bool, AllocError> {
+    Ok(edits(alloc, remove, add)?.err() == Some(Stop::Damaged { page: 0 }))
 }
 
 #[test]
 fn records_that_cannot_be_edits(rt: HostRuntime) -> Result<(), Fail> {
-    let damaged = Some(Stop::Damaged { page: 0 });
-    let twice = [(3, 0), (4, 0), (3, 1)];
-    assert_eq!(rt; refusal(rt.alloc(), &twice, &[])?, damaged);
-    let other = [(3, 0), (3, 0)];
-    assert_eq!(rt; refusal(rt.alloc(), &[], &other)?, damaged);
-    let gone = [(3, 0), (4, 0)];
-    let come = [(5, 0), (4, 0)];
-    assert_eq!(rt; refusal(rt.alloc(), &gone, &come)?, damaged);
+    for (i, (remove, add)) in REFUSED.iter().enumerate() {
+        assert!(rt; is_refused(rt.alloc(), remove, add)?, "row {i}");
+    }
     Ok(())
 }
